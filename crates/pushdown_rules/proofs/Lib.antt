@@ -1,0 +1,5 @@
+pub mod Stacks
+pub mod Systems
+pub mod RunValues
+pub mod Walks
+pub mod OfAnswers

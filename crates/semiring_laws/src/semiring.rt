@@ -1,0 +1,76 @@
+ghost use Rattle.std.specs.Prelude.{◌≡◌, ◌↔◌, IsTrue, IfOk};
+ghost use Rattle.semiring_laws.specs.Semiring.{Operations, Fits, FitsMap, IsSemiring};
+
+use std::alloc::Global;
+use wpds_port::OutOfMemory;
+
+/// A bounded idempotent semiring. The values of `Self` are its parameters, as a cap or a number of facts.
+pub trait Semiring: Drop {
+    /// The weights.
+    type W: Drop;
+
+    /// The return maps.
+    type Ret: Drop;
+
+    /// What the operations compute.
+    ghost operations: { Self → Operations Self.W Self.Ret };
+
+    /// What each semiring proves.
+    ghost laws: { (s : Self) → IsSemiring (operations s) };
+
+    /// The weight of no run.
+    fn zero(&self, alloc: Global) -> Result<Self::W, OutOfMemory>
+        ensures { IfOk result (λ w. w ≡ (operations self.now).zero) };
+
+    /// The weight of the empty run.
+    fn one(&self, alloc: Global) -> Result<Self::W, OutOfMemory>
+        ensures { IfOk result (λ w. w ≡ (operations self.now).one) };
+
+    /// The weight of runs of either kind.
+    fn combine(&self, alloc: Global, a: &Self::W, b: &Self::W) -> Result<Self::W, OutOfMemory>
+        requires left { Fits (operations self.now) a.now }
+        requires right { Fits (operations self.now) b.now }
+        ensures { IfOk result (λ w. w ≡ (operations self.now).combine a.now b.now) };
+
+    /// The weight of one run after the other.
+    fn extend(&self, alloc: Global, a: &Self::W, b: &Self::W) -> Result<Self::W, OutOfMemory>
+        requires left { Fits (operations self.now) a.now }
+        requires right { Fits (operations self.now) b.now }
+        ensures { IfOk result (λ w. w ≡ (operations self.now).extend a.now b.now) };
+
+    /// An equal weight.
+    fn copy(&self, alloc: Global, a: &Self::W) -> Result<Self::W, OutOfMemory>
+        requires { Fits (operations self.now) a.now }
+        ensures { IfOk result (λ w. w ≡ a.now) };
+
+    /// What a return map makes of the weight of a call.
+    fn after(&self, alloc: Global, map: &Self::Ret, w: &Self::W) -> Result<Self::W, OutOfMemory>
+        requires map { FitsMap (operations self.now) map.now }
+        requires weight { Fits (operations self.now) w.now }
+        ensures { IfOk result (λ v. v ≡ (operations self.now).after map.now w.now) };
+
+    /// Whether two weights are equal.
+    fn same(&self, a: &Self::W, b: &Self::W) -> bool
+        requires left { Fits (operations self.now) a.now }
+        requires right { Fits (operations self.now) b.now }
+        ensures { IsTrue result ↔ (a.now ≡ b.now) };
+
+    /// Whether a weight is zero.
+    fn is_zero(&self, a: &Self::W) -> bool
+        requires { Fits (operations self.now) a.now }
+        ensures { IsTrue result ↔ (a.now ≡ (operations self.now).zero) };
+
+    /// The return map that changes nothing.
+    fn plain(&self) -> Self::Ret
+        ensures { result ≡ (operations self.now).plain };
+
+    /// Whether two return maps are equal.
+    fn same_map(&self, a: &Self::Ret, b: &Self::Ret) -> bool
+        requires left { FitsMap (operations self.now) a.now }
+        requires right { FitsMap (operations self.now) b.now }
+        ensures { IsTrue result ↔ (a.now ≡ b.now) };
+
+    /// Whether two semirings have equal parameters.
+    fn same_kind(&self, other: &Self) -> bool
+        ensures { IsTrue result ↔ (self.now ≡ other.now) };
+}
