@@ -3,3 +3,4 @@ pub mod Systems
 pub mod RunValues
 pub mod Walks
 pub mod OfAnswers
+pub mod OfFiring

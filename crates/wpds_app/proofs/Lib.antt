@@ -1,0 +1,2 @@
+pub mod OfPlaces
+pub mod OfSaturation

@@ -1,0 +1,5 @@
+//! The top call: from the bytes that are read to the bytes that are written.
+#![tactic(auto)]
+
+mod place;
+mod saturation;
