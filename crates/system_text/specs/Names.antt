@@ -21,10 +21,10 @@ reserved =
     ∷ codes "local" ∷ codes "if" ∷ codes "else" ∷ codes "end" ∷ codes "while" ∷ codes "goto" ∷ codes "assert"
     ∷ codes "call" ∷ codes "skip" ∷ codes "query" ∷ []
 
--- letters, digits and some marks, of which the first is no digit
+-- letters, digits and some marks, of which the first is a letter or `_`
 abbrev pub is_name_text : List ℕ → Bool
 is_name_text [] = false
-is_name_text (b ∷ bs) = begins_name b && list_all goes_on_name bs
+is_name_text (b ∷ bs) = begins_name b && list_all goes_on_name (b ∷ bs)
 
 abbrev pub is_name : List ℕ → Bool
 is_name x = is_name_text x && nat_le (length x) 64 && not (is_among reserved x)

@@ -4,6 +4,8 @@
 mod cut;
 mod document;
 mod names;
+mod reading;
+mod words;
 
 pub use document::{ConfigText, Document, QueryLine, RuleLine, RuleLines, Symbols};
 pub use names::Names;
