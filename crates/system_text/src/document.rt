@@ -1,0 +1,93 @@
+ghost use Rattle.std.specs.Prelude.{◌≡◌};
+
+use crate::Names;
+use std::marker::Model;
+
+/// The numbers of symbols.
+#[derive(Drop)]
+pub struct Symbols {
+    numbers: Vec<u32>,
+}
+
+impl Model for Symbols {
+    ghost use Rattle.std.specs.Prelude.{List, ℕ};
+
+    ghost Value = { List ℕ };
+
+    ghost view = { λ s. s.numbers.items };
+}
+
+impl Symbols {
+    pub fn from_vec(numbers: Vec<u32>) -> Symbols
+        ensures { result ≡ numbers.items }
+    {
+        Symbols { numbers }
+    }
+
+    pub fn as_slice(&self) -> &[u32]
+        ensures { result.now ≡ self.now }
+    {
+        self.numbers.as_slice()
+    }
+}
+
+/// A rule, with numbers in place of names.
+#[derive(Drop)]
+pub struct RuleLine {
+    pub control: u32,
+    pub symbol: u32,
+    pub to: u32,
+    pub right: Symbols,
+}
+
+/// The rules of a document, in the order of their lines.
+#[derive(Drop)]
+pub struct RuleLines {
+    rules: Vec<RuleLine>,
+}
+
+impl Model for RuleLines {
+    ghost use Rattle.std.specs.Prelude.{List};
+    ghost use Rattle.system_text.specs.declared.document.RuleLine.{RuleLine};
+
+    ghost Value = { List RuleLine };
+
+    ghost view = { λ r. r.rules.items };
+}
+
+impl RuleLines {
+    pub fn from_vec(rules: Vec<RuleLine>) -> RuleLines
+        ensures { result ≡ rules.items }
+    {
+        RuleLines { rules }
+    }
+
+    pub fn as_slice(&self) -> &[RuleLine]
+        ensures { result.now ≡ self.now }
+    {
+        self.rules.as_slice()
+    }
+}
+
+/// A configuration as it is written: a control, and a stack whose top stands first.
+#[derive(Drop)]
+pub struct ConfigText {
+    pub control: u32,
+    pub stack: Symbols,
+}
+
+/// A query: whether a run leads from one configuration to another.
+#[derive(Drop)]
+pub struct QueryLine {
+    pub from: ConfigText,
+    pub to: ConfigText,
+}
+
+/// A document: the names that it declares, its rules and its query.
+#[derive(Drop)]
+pub struct Document {
+    pub controls: Names,
+    pub symbols: Names,
+    pub rules: RuleLines,
+    pub query: QueryLine,
+}
