@@ -1,2 +1,3 @@
 pub mod OfPlaces
 pub mod OfSaturation
+pub mod OfWords

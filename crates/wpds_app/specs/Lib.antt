@@ -1,1 +1,4 @@
+pub mod Running
 pub mod Saturation
+pub mod Systems
+pub mod Statuses

@@ -2,4 +2,15 @@
 #![tactic(auto)]
 
 mod place;
+mod document_system;
+mod reply;
+mod run;
 mod saturation;
+mod status;
+mod words;
+
+pub use run::run;
+pub use status::Status;
+
+#[cfg(test)]
+mod tests;

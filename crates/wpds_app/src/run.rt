@@ -1,0 +1,79 @@
+ghost use Rattle.std.specs.Prelude.{◌≡◌, ◌≢◌, ◌↔◌, ℕ, List, Some, OnOk, OnErr, map, take};
+ghost use Rattle.std.specs.String.{string_bytes};
+ghost use Rattle.std.specs.Io.KnownBytes.{Appends};
+ghost use Rattle.wpds_port.specs.Causes.{Rose};
+ghost use Rattle.wpds_port.specs.Writing.{AppendsPart};
+ghost use Rattle.wpds_app.specs.Running.{IsCheck, usage_text, Replies, IsCutShort, IsDecided, IsDecidedBy};
+
+use crate::Status;
+use crate::reply::read_and_reply;
+use crate::words::is_check;
+use std::alloc::Global;
+use wpds_port::{Failed, InputFault, Sink, Source, write_all};
+
+const USAGE: &str = "usage: wpds check [--workers N] [--by pre|post] [--brief] [--traces]\nusage: wpds gen N [--workers N] [--by pre|post]\n";
+
+// Writes a text and flushes it.
+fn send<W: Sink>(sink: &mut W, text: &[u8]) -> Result<(), Failed>
+    ensures ok { OnOk result (Appends (W.written sink.old) (W.written sink.new) text.now) }
+    ensures err { OnErr result (AppendsPart (W.written sink.old) (W.written sink.new) text.now) }
+    ensures cause { OnErr result (Rose (W.faults sink.old) (W.faults sink.new)) }
+{
+    write_all(sink, text)?;
+    sink.flush()
+}
+
+// Writes the text of a status, which is the answer unless the sink fails.
+fn finish<W: Sink>(sink: &mut W, status: Status, text: &[u8]) -> Status
+    requires { status ≢ Status.WriteFault }
+    ensures status { result ≢ Status.WriteFault → result ≡ status }
+    ensures whole { result ≢ Status.WriteFault → Appends (W.written sink.old) (W.written sink.new) text.now }
+    ensures part { result ≡ Status.WriteFault → AppendsPart (W.written sink.old) (W.written sink.new) text.now }
+    ensures cause { result ≡ Status.WriteFault → Rose (W.faults sink.old) (W.faults sink.new) }
+{
+    match send(sink, text) {
+        Ok(()) => status,
+        Err(Failed) => Status::WriteFault,
+    }
+}
+
+/// Does all that the program does: takes the words after its name, reads a document, and writes the answer to it.
+///
+/// The only words so far are `check` alone. The document is read to its end, or to one byte more than a document has.
+/// It is refused whole unless it has the first form (docs/FORMATS.md). The report stands in memory before its first
+/// byte is written.
+pub fn run<R: Source, W: Sink>(
+    alloc: Global,
+    words: &[String],
+    source: &mut R,
+    sink: &mut W,
+) -> Status
+    // Words are refused exactly where they are not `check` and no write fault came. Nothing is read then.
+    ensures words_refused { (result ≡ Status.WordsRefused) ↔ ((IsCheck (map string_bytes words.now) → ⊥) × (result ≢ Status.WriteFault)) }
+    ensures words_accepted { result ≢ Status.WordsRefused → result ≢ Status.WriteFault → IsCheck (map string_bytes words.now) }
+    ensures usage { result ≡ Status.WordsRefused → Appends (W.written sink.old) (W.written sink.new) usage_text }
+    ensures unread { (IsCheck (map string_bytes words.now) → ⊥) → R.left source.new ≡ R.left source.old }
+
+    // A fault comes only where its side failed in this call.
+    ensures read_fault { result ≡ Status.ReadFault → Rose (R.faults source.old) (R.faults source.new) }
+    ensures write_fault { result ≡ Status.WriteFault → Rose (W.faults sink.old) (W.faults sink.new) }
+
+    // What is written: all of the answer, a beginning of it, or nothing.
+    ensures answered { result ≡ Status.Answered → Replies (R.left source.old) (R.left source.new) (W.written sink.old) (W.written sink.new) Status.Answered }
+    ensures document_refused { result ≡ Status.DocumentRefused → Replies (R.left source.old) (R.left source.new) (W.written sink.old) (W.written sink.new) Status.DocumentRefused }
+    ensures cut_short { result ≡ Status.WriteFault → IsCutShort (map string_bytes words.now) (R.left source.old) (R.left source.new) (W.written sink.old) (W.written sink.new) }
+    ensures read_fault_unwritten { result ≡ Status.ReadFault → W.written sink.new ≡ W.written sink.old }
+    ensures memory_unwritten { result ≡ Status.OutOfMemory → W.written sink.new ≡ W.written sink.old }
+
+    // Where the source tells its bytes, a document is answered or refused exactly by what they are.
+    ensures exactly { (bytes : List ℕ) → R.left source.old ≡ Some bytes → IsDecided result → IsDecidedBy (take 4194305 bytes) result }
+{
+    if !is_check(words) {
+        return finish(sink, Status::WordsRefused, USAGE.as_bytes());
+    }
+    match read_and_reply(alloc, source) {
+        Ok(reply) => finish(sink, reply.status, reply.text.as_bytes()),
+        Err(InputFault::Read) => Status::ReadFault,
+        Err(InputFault::Memory) => Status::OutOfMemory,
+    }
+}

@@ -1,0 +1,159 @@
+use crate::{Status, run};
+use std::alloc::Global;
+use std::test::Fail;
+use wpds_port::{MemSink, MemSource, OutOfMemory};
+
+const CALL: &str = "wpds 1\nweights reach\ncontrols p q\nsymbols a b\nrule p a -> p b a\nrule p b -> q\nquery p: a => q: a\n";
+
+const USAGE: &str = "usage: wpds check [--workers N] [--by pre|post] [--brief] [--traces]\nusage: wpds gen N [--workers N] [--by pre|post]\n";
+
+// How a run ends that reads 16 bytes at a time and writes 4, and what it writes.
+fn outcome(
+    alloc: Global,
+    words: &[&str],
+    document: &[u8],
+    failing_reads: &[u64],
+    room: usize,
+    failing_writes: &[u64],
+) -> Result<(Status, Vec<u8>), OutOfMemory> {
+    let mut owned = Vec::new(alloc);
+    for word in words {
+        owned.push(String::from_str(alloc, word)?)?;
+    }
+    let reads = failing_reads.to_vec(alloc)?;
+    let mut source = MemSource::new(document.to_vec(alloc)?, 16, reads);
+    let mut sink = MemSink::new(alloc, room, 4, failing_writes.to_vec(alloc)?)?;
+    let status = run(alloc, &owned, &mut source, &mut sink);
+    Ok((status, sink.written().to_vec(alloc)?))
+}
+
+#[test]
+fn answers_documents(rt: HostRuntime) -> Result<(), Fail> {
+    let head = "wpds 1\nweights reach\n";
+    let names = "controls p q\nsymbols a b\n";
+    let not_built = "refused: line 0: 14 NotBuilt\n";
+    let reachable = "query 1: reachable\n";
+    let unreachable = "query 1: unreachable\n";
+    for (rest, status, text) in [
+        // a call that returns to the symbol below it
+        (
+            "rule p a -> p b a\nrule p b -> q\nquery p: a => q: a\n",
+            Status::Answered,
+            reachable,
+        ),
+        ("rule p b -> q\nquery p: a => q: a\n", Status::Answered, unreachable),
+        // the empty run
+        ("rule p b -> q\nquery p: => p:\n", Status::Answered, reachable),
+        // two queries
+        (
+            "rule p b -> q\nquery p: a => q: a\nquery p: a => q: a\n",
+            Status::DocumentRefused,
+            not_built,
+        ),
+        // a step, a pop, and a symbol that a pop uncovers
+        ("rule p a -> p b\nrule p b -> q\nquery p: a a => q: a\n", Status::Answered, reachable),
+        ("rule p a -> p b\nrule p b -> q\nquery p: a a => q:\n", Status::Answered, unreachable),
+        // a recursion that never returns, and one that does
+        ("rule p a -> p a b\nrule p b -> q\nquery p: a => q:\n", Status::Answered, unreachable),
+        ("rule p a -> p a a\nrule p a -> p\nquery p: a => p:\n", Status::Answered, reachable),
+        ("rule p a -> p a a\nrule p a -> p\nquery p: a => p: a a a\n", Status::Answered, reachable),
+        ("rule p a -> p b a\nquery p: a => p: b a\n", Status::Answered, reachable),
+        ("rule p a -> p b a\nquery p: a => p: a b\n", Status::Answered, unreachable),
+        ("", Status::DocumentRefused, not_built),
+        ("query p: a => r: a\n", Status::DocumentRefused, not_built),
+    ] {
+        let document = format!(in rt.alloc(); "{head}{names}{rest}")?;
+        let (ended, written) = outcome(rt.alloc(), &["check"], document.as_bytes(), &[], 100, &[])?;
+        assert_eq!(rt; ended, status, "at {rest}");
+        assert_eq!(rt; written.as_slice(), text.as_bytes(), "at {rest}");
+    }
+    Ok(())
+}
+
+#[test]
+fn refuses_words(rt: HostRuntime) -> Result<(), Fail> {
+    let none: [&str; 0] = [];
+    for words in [
+        none.as_slice(),
+        &["gen"],
+        &["Check"],
+        &["check", "check"],
+        &["check", "--brief"],
+        &["--help"],
+        &[""],
+    ] {
+        let (ended, written) = outcome(rt.alloc(), words, CALL.as_bytes(), &[0], 1000, &[])?;
+        assert_eq!(rt; ended, Status::WordsRefused);
+        assert_eq!(rt; written.as_slice(), USAGE.as_bytes());
+    }
+    Ok(())
+}
+
+#[test]
+fn stops_at_each_fault(rt: HostRuntime) -> Result<(), Fail> {
+    let text = "query 1: reachable\n".as_bytes();
+    let reads = CALL.len() as u64 / 16 + 2;
+    for call in 0..reads {
+        let (ended, written) = outcome(rt.alloc(), &["check"], CALL.as_bytes(), &[call], 100, &[])?;
+        assert_eq!(rt; ended, Status::ReadFault, "at read {call}");
+        assert!(rt; written.is_empty());
+    }
+    let (ended, _) = outcome(rt.alloc(), &["check"], CALL.as_bytes(), &[reads], 100, &[])?;
+    assert_eq!(rt; ended, Status::Answered);
+
+    // five pieces of the text and the flush
+    for call in 0..6u64 {
+        let (ended, written) = outcome(rt.alloc(), &["check"], CALL.as_bytes(), &[], 100, &[call])?;
+        assert_eq!(rt; ended, Status::WriteFault, "at write {call}");
+        let count = text.len().min(4 * call as usize);
+        assert_eq!(rt; written.as_slice(), &text[..count]);
+    }
+    for room in 0..text.len() {
+        let (ended, written) = outcome(rt.alloc(), &["check"], CALL.as_bytes(), &[], room, &[])?;
+        assert_eq!(rt; ended, Status::WriteFault, "with room for {room}");
+        assert!(rt; written.len() <= room && text.starts_with(&written));
+    }
+    let (ended, written) = outcome(rt.alloc(), &["check"], CALL.as_bytes(), &[], text.len(), &[])?;
+    assert_eq!(rt; ended, Status::Answered);
+    assert_eq!(rt; written.as_slice(), text);
+    Ok(())
+}
+
+#[test]
+fn refuses_what_is_too_long(rt: HostRuntime) -> Result<(), Fail> {
+    for (length, text) in [
+        (4_194_304, "refused: line 0: 14 NotBuilt\n"),
+        (4_194_305, "refused: line 0: 1 TooLong\n"),
+        (4_194_306, "refused: line 0: 1 TooLong\n"),
+    ] {
+        let bytes = vec![in rt.alloc(); b'#'; length]?;
+        let (ended, written) = outcome(rt.alloc(), &["check"], &bytes, &[], 100, &[])?;
+        assert_eq!(rt; ended, Status::DocumentRefused, "at {length}");
+        assert_eq!(rt; written.as_slice(), text.as_bytes(), "at {length}");
+    }
+    Ok(())
+}
+
+#[test]
+fn refuses_each_beginning(rt: HostRuntime) -> Result<(), Fail> {
+    let bytes = CALL.as_bytes();
+    for length in 0..bytes.len() {
+        let (ended, _) = outcome(rt.alloc(), &["check"], &bytes[..length], &[], 100, &[])?;
+        assert_eq!(rt; ended, Status::DocumentRefused, "at {length}");
+    }
+    Ok(())
+}
+
+#[test]
+fn codes_are_told_apart(rt: HostRuntime) {
+    for (status, code) in [
+        (Status::Answered, 0),
+        (Status::WordsRefused, 2),
+        (Status::ReadFault, 3),
+        (Status::WriteFault, 4),
+        (Status::DocumentRefused, 5),
+        (Status::OutOfMemory, 6),
+    ] {
+        assert_eq!(rt; status.code(), code);
+    }
+}
