@@ -1,0 +1,106 @@
+ghost use Rattle.std.specs.Prelude.{◌≡◌, Some, IfOk};
+ghost use Rattle.std.specs.String.{string_bytes};
+ghost use Rattle.wpds_port.specs.Refusals.{kind_number, kind_name, refusal_text};
+ghost use Rattle.wpds_port.specs.declared.refusal.ReadFault.TheVariants.{Memory};
+
+use crate::OutOfMemory;
+use std::alloc::{AllocError, AllocFailed, Global};
+use std::fmt;
+use thiserror::Error;
+
+/// Why a document is refused.
+#[derive(Clone, Copy, Debug, PartialEq, Eq)]
+pub enum Kind {
+    /// The document has more bytes than are read.
+    TooLong,
+    /// The document asks for what is not built yet.
+    NotBuilt,
+}
+
+impl Kind {
+    /// The number under which the kind is printed, and by which the kinds of one line are ordered.
+    pub fn number(self) -> u32
+        ensures { result ≡ kind_number self }
+    {
+        match self {
+            Kind::TooLong => 1,
+            Kind::NotBuilt => 14,
+        }
+    }
+
+    /// The name under which the kind is printed.
+    pub fn name(self) -> &'static str
+        ensures { result.now ≡ kind_name self }
+    {
+        match self {
+            Kind::TooLong => "TooLong",
+            Kind::NotBuilt => "NotBuilt",
+        }
+    }
+}
+
+/// The first refused line of a document, and why it is refused.
+///
+/// Lines are numbered from 1. What concerns the document as a whole stands on line 0, and what is
+/// missing at its end on the line after the last.
+#[derive(Clone, Copy, Debug, PartialEq, Eq)]
+pub struct Refusal {
+    pub line: u64,
+    pub kind: Kind,
+}
+
+/// Writes `refused: line L: K NAME`, with no line feed.
+impl fmt::Display for Refusal {
+    ghost output = { λ r. Some (refusal_text r) };
+
+    fn fmt<W: fmt::Write>(&self, f: &mut fmt::Formatter<W>) -> fmt::Result {
+        let line = self.line;
+        let number = self.kind.number();
+        let name = self.kind.name();
+        write!(f, "refused: line {line}: {number} {name}")
+    }
+}
+
+impl Refusal {
+    /// The text `refused: line L: K NAME`, with no line feed.
+    pub fn text(&self, alloc: Global) -> Result<String, OutOfMemory>
+        ensures { IfOk result (λ t. string_bytes t ≡ refusal_text self.now) }
+    {
+        Ok(format!(in alloc; "{self}")?)
+    }
+}
+
+/// Why no document was read.
+#[derive(Clone, Copy, Debug, PartialEq, Eq, Error)]
+pub enum ReadFault {
+    /// The document is refused.
+    #[error("{0}")]
+    Refused(Refusal),
+    /// There was no memory for it.
+    #[error("out of memory")]
+    Memory,
+}
+
+impl From<OutOfMemory> for ReadFault {
+    ghost from_gives = { λ _ e. e ≡ Memory };
+
+    fn from(_: OutOfMemory) -> Self {
+        ReadFault::Memory
+    }
+}
+
+impl From<AllocError> for ReadFault {
+    ghost from_gives = { λ _ e. e ≡ Memory };
+
+    fn from(_: AllocError) -> Self {
+        ReadFault::Memory
+    }
+}
+
+impl<T: Drop> From<AllocFailed<T>> for ReadFault {
+    ghost from_gives = { λ _ e. e ≡ Memory };
+
+    fn from(_: AllocFailed<T>) -> Self {
+        ReadFault::Memory
+    }
+}

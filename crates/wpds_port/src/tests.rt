@@ -1,0 +1,163 @@
+ghost use Rattle.std.specs.Prelude.{◌≤◌};
+
+use crate::{
+    Failed, InputFault, Kind, MemSink, MemSource, OutOfMemory, ReadFault, Refusal, Sink, Source,
+    StdSink, StdSource, SureSink, SureSource, read_up_to, write_all,
+};
+use std::alloc::Global;
+use std::test::Fail;
+
+const TEN: &[u8] = b"ten bytes.";
+
+fn source(alloc: Global, piece: usize, fail: u64) -> Result<MemSource, OutOfMemory>
+    requires { 1 ≤ piece }
+{
+    let bytes = Vec::from_slice(alloc, TEN)?;
+    Ok(MemSource::new(bytes, piece, vec![in alloc; fail]?))
+}
+
+fn sink(alloc: Global, room: usize, piece: usize, fail: u64) -> Result<MemSink, OutOfMemory>
+    requires { 1 ≤ piece }
+{
+    let fails = vec![in alloc; fail]?;
+    MemSink::new(alloc, room, piece, fails)
+}
+
+fn send<W: Sink>(sink: &mut W) -> Result<(), Failed> {
+    write_all(sink, TEN)?;
+    sink.flush()
+}
+
+// How many bytes one read into a buffer of five gives.
+fn first_count<R: Source>(source: &mut R) -> Result<usize, Failed> {
+    let mut buf = [0u8; 5];
+    source.read(&mut buf)
+}
+
+#[test]
+fn reads_in_pieces_until_a_call_fails(rt: HostRuntime) -> Result<(), Fail> {
+    let alloc = rt.alloc();
+    // how many calls it takes to read ten bytes and their end
+    for (piece, calls) in [(1, 11u64), (3, 5), (16, 2)] {
+        assert!(rt; piece >= 1);
+        for fail in 0..=calls {
+            let mut source = source(alloc, piece, fail)?;
+            match read_up_to(alloc, &mut source, 100) {
+                Ok(bytes) => {
+                    assert_eq!(rt; fail, calls);
+                    assert_eq!(rt; bytes.as_slice(), TEN);
+                }
+                Err(fault) => {
+                    assert!(rt; fail < calls);
+                    assert_eq!(rt; fault, InputFault::Read);
+                }
+            }
+        }
+    }
+    Ok(())
+}
+
+#[test]
+fn reads_on_after_a_failure_and_stops_at_the_limit(rt: HostRuntime) -> Result<(), Fail> {
+    let alloc = rt.alloc();
+    let mut source = source(alloc, 3, 1)?;
+    assert_eq!(rt; first_count(&mut source), Ok(3));
+    assert_eq!(rt; first_count(&mut source), Err(Failed));
+    assert_eq!(rt; first_count(&mut source), Ok(3));
+    let rest = read_up_to(alloc, &mut source, 2)?;
+    assert_eq!(rt; rest.as_slice(), b"te".as_slice());
+    assert_eq!(rt; first_count(&mut source), Ok(2));
+    assert_eq!(rt; first_count(&mut source), Ok(0));
+    Ok(())
+}
+
+#[test]
+fn writes_in_pieces_until_a_call_fails(rt: HostRuntime) -> Result<(), Fail> {
+    let alloc = rt.alloc();
+    // how many calls it takes to write ten bytes and to flush, and what is written before each
+    let cases = [
+        (1, 11u64, [0usize, 1, 2, 3, 4, 5, 6, 7, 8, 9, 10]),
+        (3, 5, [0, 3, 6, 9, 10, 10, 10, 10, 10, 10, 10]),
+        (16, 2, [0, 10, 10, 10, 10, 10, 10, 10, 10, 10, 10]),
+    ];
+    for (piece, calls, written) in cases {
+        assert!(rt; piece >= 1);
+        for (count, fail) in written.into_iter().zip(0..=calls) {
+            let mut sink = sink(alloc, 10, piece, fail)?;
+            let result = send(&mut sink);
+            assert_eq!(rt; result.is_ok(), fail == calls);
+            assert_eq!(rt; sink.written().len(), count);
+            assert!(rt; TEN.starts_with(sink.written()));
+        }
+    }
+    Ok(())
+}
+
+#[test]
+fn writes_what_has_room(rt: HostRuntime) -> Result<(), Fail> {
+    let alloc = rt.alloc();
+    // what a sink takes of ten bytes that has room for 0, 1, 2 and so on
+    let cases = [
+        (1, [0usize, 1, 2, 3, 4, 5, 6, 7, 8, 9, 10]),
+        (3, [0, 0, 0, 3, 3, 3, 6, 6, 6, 9, 10]),
+        (16, [0, 0, 0, 0, 0, 0, 0, 0, 0, 0, 10]),
+    ];
+    for (piece, taken) in cases {
+        assert!(rt; piece >= 1);
+        for (room, count) in taken.into_iter().enumerate() {
+            let mut sink = sink(alloc, room, piece, 99)?;
+            assert_eq!(rt; write_all(&mut sink, TEN).is_ok(), room == 10);
+            assert_eq!(rt; sink.written().len(), count);
+            assert!(rt; TEN.starts_with(sink.written()));
+        }
+    }
+    Ok(())
+}
+
+#[test]
+fn other_ends(rt: HostRuntime) -> Result<(), Fail> {
+    let alloc = rt.alloc();
+    let mut sure = SureSource::new(Vec::from_slice(alloc, TEN)?);
+    assert_eq!(rt; first_count(&mut sure), Ok(5));
+    assert_eq!(rt;
+        read_up_to(alloc, &mut sure, 100)?.as_slice(),
+        b"ytes.".as_slice()
+    );
+    send(&mut SureSink::new())?;
+    let mut reader = StdSource::new(TEN);
+    assert_eq!(rt; first_count(&mut reader), Ok(5));
+    assert_eq!(rt;
+        read_up_to(alloc, &mut reader, 100)?.as_slice(),
+        b"ytes.".as_slice()
+    );
+    let mut bytes = Vec::new(alloc);
+    send(&mut StdSink::new(&mut bytes))?;
+    assert_eq!(rt; bytes.as_slice(), TEN);
+    // a writer that is full takes none of a piece
+    let mut full = [0u8; 4];
+    assert_eq!(rt; send(&mut StdSink::new(full.as_mut_slice())), Err(Failed));
+    Ok(())
+}
+
+#[test]
+fn texts(rt: HostRuntime) -> Result<(), Fail> {
+    let alloc = rt.alloc();
+    for (line, kind, text) in [
+        (0, Kind::NotBuilt, "refused: line 0: 14 NotBuilt"),
+        (
+            u64::MAX,
+            Kind::TooLong,
+            "refused: line 18446744073709551615: 1 TooLong",
+        ),
+    ] {
+        let refusal = Refusal { line, kind };
+        assert_eq!(rt; refusal.text(alloc)?.as_str(), text);
+        let fault = ReadFault::Refused(refusal);
+        assert_eq!(rt; format!(in alloc; "{fault}")?.as_str(), text);
+    }
+    assert_eq!(rt;
+        format!(in alloc; "{}", ReadFault::from(OutOfMemory))?.as_str(),
+        "out of memory"
+    );
+    Ok(())
+}
