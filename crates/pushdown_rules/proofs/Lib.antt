@@ -1,5 +1,7 @@
 pub mod Stacks
 pub mod Systems
 pub mod RunValues
+pub mod OfSystems
 pub mod Walks
 pub mod OfAnswers
+pub mod OfRuns
