@@ -5,3 +5,4 @@ pub mod OfSystems
 pub mod Walks
 pub mod OfAnswers
 pub mod OfRuns
+pub mod WorkedRows

@@ -1,5 +1,5 @@
 -- An answer's value is the only one.
-use Rattle.std.proofs.Common.{◌≡◌, ◌≢◌, ◌↔◌, ◌⊎◌, inl, inr, ℕ, Bool, true, false, IsTrue, List, [], ◌∷◌, refl, sym, subst, ◌∙◌}
+use Rattle.std.proofs.Common.{◌≡◌, ◌≢◌, ◌↔◌, ◌⊎◌, inl, inr, ℕ, Bool, true, List, [], ◌∷◌, sym, subst, ◌∙◌}
 use Rattle.std.specs.Prelude.{map}
 use Rattle.std.specs.List.{AllByRecursion}
 use Rattle.std.proofs.lemmas.Bool.{cases_Bool}
@@ -73,8 +73,7 @@ module _ {S W Map : Type 0} (operations : S → Operations W Map) (laws : (x : S
   pub feasible_where_not_zero : (from to : Configuration → Bool) (v : W) (xs : List (List ℕ)) → Answers (operations p.semiring) p from to v xs
       → (v ≢ (operations p.semiring).zero) ↔ HasFeasibleRun (operations p.semiring) p from to
   feasible_where_not_zero from to v xs answer =
-      let s = operations p.semiring in
-      (
+      let s = operations p.semiring in (
         λ nonzero. elim (feasible_or_none from to xs answer.lead) [
           | inl run ↦ run
           | inr zeros ↦ absurd (nonzero (answer.combined ∙ combination_of_zeros (laws p.semiring) (map (value_of s p) xs) zeros))
