@@ -2,9 +2,16 @@
 #![tactic(auto)]
 
 mod combination;
+mod laws;
 mod reach;
 mod semiring;
+#[cfg(test)]
+mod tests;
 
 pub use combination::combine_all;
+pub use laws::{
+    below_is_an_order, combination_is_greatest_below, combination_is_of_members,
+    combine_is_greatest_below, operations_distribute, operations_keep_below,
+};
 pub use reach::{NoMap, Reach};
 pub use semiring::Semiring;

@@ -225,7 +225,6 @@ fn saturated(
 ) -> Result<(Vec<Place>, u32), OutOfMemory>
     ghost goal: { Configuration }
     requires goal { goal ≡ to.now }
-    requires few { system.now.controls ≤ 1000 }
     requires control { to.now.control < system.now.controls }
     requires short { length to.now.stack ≤ 1000 }
     ensures places { IfOk result (λ r. IsSaturating system.now goal r.0.items r.0.items (length system.now.rules)) }
@@ -245,7 +244,6 @@ pub fn reaches(
     from: &Config,
     to: &Config,
 ) -> Result<bool, OutOfMemory>
-    requires few { system.now.controls ≤ 1000 }
     requires from { from.now.control < system.now.controls }
     requires to { to.now.control < system.now.controls }
     requires short { length to.now.stack ≤ 1000 }

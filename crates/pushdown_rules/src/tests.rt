@@ -1,0 +1,125 @@
+ghost use Rattle.std.specs.Prelude.{◌≡◌, ◌∷◌, [], length, IfOk};
+
+use crate::{Config, Rule, RuleFault, System};
+use semiring_laws::{NoMap, Reach, Semiring};
+use std::alloc::Global;
+use std::test::Fail;
+
+// Controls p and q, symbols a and b: p a -> p b a, and p b -> q.
+fn call_and_return(alloc: Global) -> Result<System<Reach>, RuleFault>
+    ensures { IfOk result (λ s. length s.rules ≡ 2) }
+{
+    let mut system = System::new(alloc, Reach, 2, 2);
+    system.add_rule(alloc, 0, 0, 0, &[1, 0], true, None)?;
+    system.add_rule(alloc, 0, 1, 1, &[], true, None)?;
+    Ok(system)
+}
+
+fn counts_of<S: Semiring>(system: &System<S>) -> (u32, u32, u32) {
+    (system.controls(), system.symbols(), system.rules())
+}
+
+#[test]
+fn rules_are_kept(rt: HostRuntime) -> Result<(), Fail> {
+    let alloc = rt.alloc();
+    let system = call_and_return(alloc)?;
+    assert_eq!(rt; counts_of(&system), (2, 2, 2));
+    assert!(rt; system.semiring().same_kind(&Reach));
+    let Rule {
+        control,
+        symbol,
+        to,
+        right,
+        weight,
+        map,
+    } = system.rule(0);
+    assert_eq!(rt; (*control, *symbol, *to, *weight), (0, 0, 0, true));
+    assert_eq!(rt; right.symbols(), [1, 0].as_slice());
+    assert_eq!(rt; *map, Some(NoMap::Plain), "a push has the plain map");
+    assert_eq!(rt; system.rule(1).map, None);
+    Ok(())
+}
+
+#[test]
+fn refusals(rt: HostRuntime) -> Result<(), Fail> {
+    let alloc = rt.alloc();
+    let mut system = call_and_return(alloc)?;
+    let plain = Some(NoMap::Plain);
+    let rows: [(u32, u32, u32, &[u32], Option<NoMap>, RuleFault); 9] = [
+        (0, 2, 0, &[], None, RuleFault::NoSymbol),
+        (0, 0, 0, &[0, 2], None, RuleFault::NoSymbol),
+        (2, 0, 0, &[], None, RuleFault::NoControl),
+        (0, 0, 2, &[], None, RuleFault::NoControl),
+        (2, 2, 0, &[], None, RuleFault::NoControl),
+        (0, 0, 0, &[0, 0, 0], None, RuleFault::RightTooLong),
+        (0, 0, 0, &[0, 0, 2], None, RuleFault::NoSymbol),
+        (0, 0, 0, &[0], plain, RuleFault::ReturnOnNonPush),
+        (0, 0, 0, &[0, 0, 0], plain, RuleFault::RightTooLong),
+    ];
+    for (control, symbol, to, right, map, fault) in rows {
+        let answer = system.add_rule(alloc, control, symbol, to, right, true, map);
+        assert_eq!(rt; answer, Err(fault), "at {control} {symbol} {to}");
+        assert_eq!(rt; system.rules(), 2);
+    }
+    assert_eq!(rt;
+        system.add_rule(alloc, 1, 1, 1, &[0, 1], false, plain),
+        Ok(2)
+    );
+    Ok(())
+}
+
+#[test]
+fn firing(rt: HostRuntime) -> Result<(), Fail> {
+    let alloc = rt.alloc();
+    let system = call_and_return(alloc)?;
+    let mut config = Config::new(alloc, 0, &[0])?;
+    // a rule, whether it fires, and where that leads
+    let rows: [(u32, bool, u32, &[u32]); 4] = [
+        (1, false, 0, &[0]),
+        (0, true, 0, &[1, 0]),
+        (1, true, 1, &[0]),
+        (0, false, 1, &[0]),
+    ];
+    for (rule, fires, control, stack) in rows {
+        assert!(rt; rule < system.rules());
+        assert_eq!(rt;
+            system.fire(alloc, &mut config, rule)?,
+            fires,
+            "rule {rule}"
+        );
+        assert_eq!(rt; config.control(), control);
+        assert!(rt; config.depth() == stack.len());
+        for i in 0..config.depth() {
+            assert_eq!(rt; config.at(i), stack[i]);
+        }
+    }
+    Ok(())
+}
+
+#[test]
+fn run_values(rt: HostRuntime) -> Result<(), Fail> {
+    let alloc = rt.alloc();
+    let mut system = System::new(alloc, Reach, 2, 2);
+    system.add_rule(alloc, 0, 0, 0, &[1, 0], true, None)?;
+    system.add_rule(alloc, 0, 1, 1, &[], true, None)?;
+    system.add_rule(alloc, 1, 0, 1, &[0], false, None)?;
+    let start = Config::new(alloc, 0, &[0])?;
+    assert_eq!(rt; system.run_value(alloc, &start, &[0, 1])?, Some(true));
+    assert_eq!(rt; system.run_value(alloc, &start, &[0])?, Some(true));
+    assert_eq!(rt; system.run_value(alloc, &start, &[])?, Some(true));
+    assert_eq!(rt; system.run_value(alloc, &start, &[0, 1, 2])?, Some(false));
+    assert_eq!(rt; system.run_value(alloc, &start, &[1, 0])?, None);
+    Ok(())
+}
+
+#[test]
+fn equal_systems(rt: HostRuntime) -> Result<(), Fail> {
+    let alloc = rt.alloc();
+    let system = call_and_return(alloc)?;
+    let mut other = call_and_return(alloc)?;
+    assert!(rt; system.same(&other));
+    other.add_rule(alloc, 0, 1, 1, &[], true, None)?;
+    assert!(rt; !system.same(&other), "a rule more");
+    assert!(rt; !System::new(alloc, Reach, 2, 2).same(&System::new(alloc, Reach, 2, 3)));
+    Ok(())
+}
