@@ -7,5 +7,5 @@ pub saturate-requires : goal.saturate-requires
 saturate-requires g c =
     let same = c.requires.0 in
     let within : g.goal.control < c.args.system.now.controls = rw same c.requires.1.0 in
-    let places = rw (c.control.ensures, c.controls.ensures, c.deref.ensures.value, c.in_ok-stack.ensures, ← same) at c.in_ok-places.ensures.places in
+    let places = rw (c.control.ensures, c.controls.ensures.value, c.deref.ensures.value, c.in_ok-stack.ensures, ← same) at c.in_ok-places.ensures.places in
     rw places (opening_saturates c.args.system.now g.goal within)
