@@ -1,3 +1,4 @@
 pub mod Lists
 pub mod OfNames
+pub mod OfReading
 mod Rows
