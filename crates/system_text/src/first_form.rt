@@ -63,7 +63,10 @@ fn in_order<'t, 'l>(lines: &'l [&'t [u8]]) -> Option<Lines<'t, 'l>>
 fn framed(alloc: Global, lines: &Lines) -> Result<bool, OutOfMemory>
     ensures { IfOk result (λ b. b ≡ is_framed (words lines.now.header.now) (words lines.now.weights.now) (words lines.now.last.now) (length lines.now.rules.now)) }
 {
-    if !lines.last.is_empty() || lines.rules.len() > MOST_RULES {
+    if !lines.last.is_empty() {
+        return Ok(false);
+    }
+    if lines.rules.len() > MOST_RULES {
         return Ok(false);
     }
     Ok(says(alloc, lines.header, &HEADER)? && says(alloc, lines.weights, &WEIGHTS)?)
