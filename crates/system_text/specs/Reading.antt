@@ -54,17 +54,25 @@ module _ (controls symbols : List (List ℕ)) where
     stack ← each (number_in symbols) ws
     Some (record { control = control; stack = stack }))
 
-  abbrev pub query_of : List (List ℕ) → Option QueryLine
-  query_of [] = None
-  query_of (w ∷ ws) = guarded (bytes_eq w (codes "query")) (do
+  -- two configurations with `=>` between
+  abbrev pub sides_of : List (List ℕ) → Option QueryLine
+  sides_of ws = do
     at ← position (bytes_eq (codes "=>")) ws
     from ← config_of (take at ws)
     to ← config_of (drop (at + 1) ws)
-    Some (record { from = from; to = to }))
+    Some (record { from = from; to = to })
+
+  abbrev pub query_of : List (List ℕ) → Option QueryLine
+  query_of [] = None
+  query_of (w ∷ ws) = guarded (bytes_eq w (codes "query")) (sides_of ws)
+
+-- the lines whose words are fixed, of which the last is what stands behind the last line feed, and the number of rules
+abbrev pub is_framed : (header weights last : List (List ℕ)) (rules : ℕ) → Bool
+is_framed h w l n = same_words l ([] ∷ []) && nat_le n 130000 && (same_words h header_words && same_words w weights_words)
 
 -- the document with these lines: four, then rules, a query and the empty text behind the last line feed
 abbrev pub document_of : (header weights controls symbols : List (List ℕ)) (rules : List (List (List ℕ))) (query last : List (List ℕ)) → Option Document
-document_of h w c s rs q l = guarded (same_words h header_words && same_words w weights_words && same_words l ([] ∷ []) && nat_le (length rs) 130000) (do
+document_of h w c s rs q l = guarded (is_framed h w l (length rs)) (do
   controls ← names_of (codes "controls") 1000 c
   symbols ← names_of (codes "symbols") 40000 s
   rules ← each (rule_of controls symbols) rs

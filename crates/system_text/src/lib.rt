@@ -3,9 +3,11 @@
 
 mod cut;
 mod document;
+mod first_form;
 mod names;
 mod reading;
 mod words;
 
 pub use document::{ConfigText, Document, QueryLine, RuleLine, RuleLines, Symbols};
+pub use first_form::{one_document, read_first_form};
 pub use names::Names;

@@ -1,9 +1,9 @@
 //! Reading a document.
 
-ghost use Rattle.std.specs.Prelude.{◌≡◌, ◌<◌, ◌≤◌, length, map, IfOk, option_map, if◌then◌else◌, Some, None};
+ghost use Rattle.std.specs.Prelude.{◌≡◌, ◌<◌, ◌≤◌, length, map, position, codes, bytes_eq, IfOk, IfSome, option_map, if◌then◌else◌, Some, None};
 ghost use Rattle.system_text.specs.Lines.{words, texts};
 ghost use Rattle.system_text.specs.Names.{number_in};
-ghost use Rattle.system_text.specs.Reading.{each, same_words, are_names, names_of, number_before_colon, rule_of, config_of, query_of};
+ghost use Rattle.system_text.specs.Reading.{each, same_words, are_names, names_of, number_before_colon, rule_of, config_of, sides_of, query_of};
 
 use crate::cut::words_of;
 use crate::words::may_be_declared;
@@ -11,6 +11,10 @@ use crate::{ConfigText, Names, QueryLine, RuleLine, RuleLines, Symbols};
 use std::alloc::Global;
 use wpds_port::OutOfMemory;
 
+const RULE: &[u8] = b"rule";
+const ARROW: &[u8] = b"->";
+const QUERY: &[u8] = b"query";
+const SIDES: &[u8] = b"=>";
 const MOST_PUSHED: usize = 2;
 const MOST_ON_STACK: usize = 1_000;
 
@@ -84,3 +88,140 @@ fn control_before_colon(controls: &Names, word: &[u8]) -> Option<u32>
     controls.number_of(word.strip_suffix(b":")?)
 }
 
+
+
+// The rule that a line with these words is.
+fn rule_from(
+    alloc: Global,
+    controls: &Names,
+    symbols: &Names,
+    words: &[&[u8]],
+) -> Result<Option<RuleLine>, OutOfMemory>
+    ensures { IfOk result (λ o. o ≡ rule_of controls.now symbols.now (texts words.now)) }
+{
+    let [first, control, symbol, arrow, to, right @ ..] = words else {
+        return Ok(None);
+    };
+    if *first != RULE || *arrow != ARROW || right.len() > MOST_PUSHED {
+        return Ok(None);
+    }
+    let Some(control) = controls.number_of(control) else {
+        return Ok(None);
+    };
+    let Some(symbol) = symbols.number_of(symbol) else {
+        return Ok(None);
+    };
+    let Some(to) = controls.number_of(to) else {
+        return Ok(None);
+    };
+    match symbols_of(alloc, symbols, right)? {
+        Some(right) => Ok(Some(RuleLine {
+            control,
+            symbol,
+            to,
+            right,
+        })),
+        None => Ok(None),
+    }
+}
+
+/// The rules of these lines, if each is a rule.
+pub(crate) fn rules(
+    alloc: Global,
+    controls: &Names,
+    symbols: &Names,
+    lines: &[&[u8]],
+) -> Result<Option<RuleLines>, OutOfMemory>
+    ensures { IfOk result (λ o. o ≡ each (rule_of controls.now symbols.now) (map (λ line. words line.now) lines.now)) }
+{
+    let mut rules = Vec::new(alloc);
+    for line in lines {
+        let words = words_of(alloc, line)?;
+        match rule_from(alloc, controls, symbols, words.as_slice())? {
+            Some(rule) => rules.push(rule)?,
+            None => return Ok(None),
+        }
+    }
+    Ok(Some(RuleLines::from_vec(rules)))
+}
+
+// The configuration of a side of a query.
+fn config(
+    alloc: Global,
+    controls: &Names,
+    symbols: &Names,
+    words: &[&[u8]],
+) -> Result<Option<ConfigText>, OutOfMemory>
+    ensures { IfOk result (λ o. o ≡ config_of controls.now symbols.now (texts words.now)) }
+{
+    let [control, stack @ ..] = words else {
+        return Ok(None);
+    };
+    if stack.len() > MOST_ON_STACK {
+        return Ok(None);
+    }
+    let Some(control) = control_before_colon(controls, control) else {
+        return Ok(None);
+    };
+    match symbols_of(alloc, symbols, stack)? {
+        Some(stack) => Ok(Some(ConfigText { control, stack })),
+        None => Ok(None),
+    }
+}
+
+// Where the arrow between the sides of a query stands.
+fn arrow_in(words: &[&[u8]]) -> Option<usize>
+    ensures value { result ≡ position (bytes_eq (codes "=>")) (texts words.now) }
+    ensures within { IfSome result (λ at. at < length words.now) }
+{
+    words.iter().position(|word| SIDES == *word)
+}
+
+// The query whose sides these words are.
+fn sides(
+    alloc: Global,
+    controls: &Names,
+    symbols: &Names,
+    words: &[&[u8]],
+) -> Result<Option<QueryLine>, OutOfMemory>
+    ensures { IfOk result (λ o. o ≡ sides_of controls.now symbols.now (texts words.now)) }
+{
+    let Some(arrow) = arrow_in(words) else {
+        return Ok(None);
+    };
+    let Some(from) = config(alloc, controls, symbols, &words[..arrow])? else {
+        return Ok(None);
+    };
+    match config(alloc, controls, symbols, &words[arrow + 1..])? {
+        Some(to) => Ok(Some(QueryLine { from, to })),
+        None => Ok(None),
+    }
+}
+
+// The query that a line with these words is.
+fn query_from(
+    alloc: Global,
+    controls: &Names,
+    symbols: &Names,
+    words: &[&[u8]],
+) -> Result<Option<QueryLine>, OutOfMemory>
+    ensures { IfOk result (λ o. o ≡ query_of controls.now symbols.now (texts words.now)) }
+{
+    match words {
+        [first, rest @ ..] if *first == QUERY => sides(alloc, controls, symbols, rest),
+        _ => Ok(None),
+    }
+}
+
+/// The query of a line.
+pub(crate) fn query(
+    alloc: Global,
+    controls: &Names,
+    symbols: &Names,
+    line: &[u8],
+) -> Result<Option<QueryLine>, OutOfMemory>
+    ensures { IfOk result (λ o. o ≡ query_of controls.now symbols.now (words line.now)) }
+{
+    let words = words_of(alloc, line)?;
+    query_from(alloc, controls, symbols, words.as_slice())
+}

@@ -1,0 +1,5 @@
+use Rattle.system_text.proofs.OfFirstForm.{one_form}
+use Rattle.system_text.proofs.first_form.one_document.Goals as goal
+
+pub returns : goal.returns
+returns c = one_form
