@@ -1,3 +1,4 @@
 pub mod OfPlaces
 pub mod OfSaturation
 pub mod OfWords
+pub mod OfReplies

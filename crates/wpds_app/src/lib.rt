@@ -4,12 +4,12 @@
 mod place;
 mod document_system;
 mod reply;
-mod run;
+mod program;
 mod saturation;
 mod status;
 mod words;
 
-pub use run::run;
+pub use program::run;
 pub use status::Status;
 
 #[cfg(test)]

@@ -1,0 +1,71 @@
+-- Answers to inputs.
+use Rattle.std.proofs.Common.{◌≡◌, ◌≢◌, ℕ, Bool, true, false, nat_lt, ◌+◌, ◌<◌, ◌≤◌, ◌⊎◌, ◌↔◌, inl, inr, List, [], ◌∷◌, ◌++◌, length, take, refl, sym, ap, ◌∙◌, subst, arith, append-nil}
+use Rattle.std.proofs.lemmas.Bool.{ltb-true, ltb-false}
+use Rattle.std.proofs.Math.Seq.{take-append_seam}
+use Rattle.std.specs.Prelude.{Result, Ok, Err, IfOk, Option, None, Some}
+use Rattle.std.specs.String.{string_bytes}
+use Rattle.std.specs.Io.KnownBytes.{Consumes, IsAtEnd}
+use Rattle.std.proofs.lemmas.List.{take_all}
+use Rattle.wpds_port.specs.Refusals.{refusal_text}
+use Rattle.wpds_port.specs.declared.refusal.Refusal.{Refusal}
+use Rattle.wpds_port.specs.declared.refusal.Kind.TheVariants.{TooLong, NotBuilt}
+use Rattle.system_text.specs.FirstForm.{IsFirstForm}
+use Rattle.system_text.specs.declared.document.Document.{Document}
+use Rattle.wpds_app.specs.declared.status.Status.{Status}
+use Rattle.wpds_app.specs.declared.status.Status.TheVariants.{Answered, WordsRefused, ReadFault, WriteFault, DocumentRefused, OutOfMemory}
+use Rattle.wpds_app.specs.declared.reply.Reply.{Reply}
+use Rattle.wpds_app.specs.Running.{IsInput, IsAccepted, IsRefused, IsReply, HasReply, IsDecided, IsDecidedBy}
+
+-- a refusal's line is the answer to an input that it refuses
+pub refused_replies : {E : Type 0} (input : List ℕ) (refusal : Refusal) (r : Result Reply E) → IfOk r (λ x. x.status ≡ DocumentRefused)
+    → IfOk r (λ x. string_bytes x.text ≡ refusal_text refusal ++ 10 ∷ []) → IsRefused input refusal → IfOk r (λ x. IsReply input x.status (string_bytes x.text))
+refused_replies input refusal (Ok x) status text refused = subst (λ s. IsReply input s (string_bytes x.text)) (sym status) (refusal, refused, text)
+refused_replies input refusal (Err e) status text refused = tt
+
+-- an input is accepted or refused, and not both
+accepted_not_refused : (input : List ℕ) (d : Document) (r : Refusal) → IsAccepted input d → IsRefused input r → ⊥
+accepted_not_refused input d r accepted (inl too_long) = absurd (let short = accepted.short in omega arith)
+accepted_not_refused input d r accepted (inr none) = none.1 d accepted.form
+
+decided : (input text : List ℕ) (status : Status) → IsReply input status text → IsDecidedBy input status
+decided input text Answered reply = record {
+  answered = (λ _. (reply.0, reply.1), λ _. refl);
+  refused = (λ e. cc, λ r. absurd (accepted_not_refused input reply.0 r.0 reply.1 r.1));
+}
+decided input text DocumentRefused reply = record {
+  answered = (λ e. cc, λ d. absurd (accepted_not_refused input d.0 reply.0 d.1 reply.1));
+  refused = (λ _. (reply.0, reply.1), λ _. refl);
+}
+decided input text WordsRefused reply = absurd reply
+decided input text ReadFault reply = absurd reply
+decided input text WriteFault reply = absurd reply
+decided input text OutOfMemory reply = absurd reply
+
+beginning_by : (b : Bool) (n : ℕ) (bytes input rest : List ℕ) → nat_lt (length input) n ≡ b → bytes ≡ input ++ rest → length input ≤ n → (length input < n → rest ≡ []) → input ≡ take n bytes
+beginning_by true n bytes input rest test joined within whole =
+    let all : bytes ≡ input = joined ∙ ap (λ r. input ++ r) (whole (ltb-true (length input) n test)) ∙ append-nil input in
+    sym (ap (take n) all ∙ take_all n input within)
+beginning_by false n bytes input rest test joined within whole =
+    let long : n ≡ length input = omega (arith, ltb-false (length input) n test) in
+    sym (ap (take n) joined ∙ ap (λ k. take k (input ++ rest)) long ∙ take-append_seam input rest)
+
+-- the input is the first bytes of what was left
+input_is : (bytes input : List ℕ) (left_now : Option (List ℕ)) → IsInput (Some bytes) left_now input → input ≡ take 4194305 bytes
+input_is bytes input None read = absurd read.consumed
+input_is bytes input (Some rest) read = beginning_by _ 4194305 bytes input rest refl read.consumed read.limit read.whole
+
+decided_unfaulted : (status : Status) → IsDecided status → status ≢ WriteFault
+decided_unfaulted status (inl e) fault = cc
+decided_unfaulted status (inr e) fault = cc
+
+-- where the source tells its bytes, they decide
+decided_by : (bytes text : List ℕ) (left_before left_now : Option (List ℕ)) (status : Status) → left_before ≡ Some bytes → HasReply left_before left_now status text → IsDecidedBy (take 4194305 bytes) status
+decided_by bytes text before now status told has =
+    let read : IsInput (Some bytes) now has.input = subst (λ o. IsInput o now has.input) told has.read in
+    subst (λ i. IsDecidedBy i status) (input_is bytes has.input now read) (decided has.input text status has.reply)
+
+-- the answer that was sent, if no fault came
+pub sent_decided : (bytes text : List ℕ) (left_before left_now : Option (List ℕ)) (status sent : Status) → left_before ≡ Some bytes → HasReply left_before left_now status text
+    → (sent ≢ WriteFault → sent ≡ status) → IsDecided sent → IsDecidedBy (take 4194305 bytes) sent
+sent_decided bytes text before now status sent told has kept done =
+    subst (IsDecidedBy (take 4194305 bytes)) (sym (kept (decided_unfaulted sent done))) (decided_by bytes text before now status told has)
