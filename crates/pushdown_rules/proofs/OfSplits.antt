@@ -42,19 +42,19 @@ module _ {S W Map : Type 0} (p : Pushdown S W Map) where
       ap (next_of p k) (ap₂ (λ n h. at_stack n (h ∷ above)) control symbol) ∙ fires p k r f.there above in
       elim (split run r.to (r.right ++ above) below d (subst P mid goes.2)) [
         | inl h ↦ inl (record {
-            first = k ∷ h.first;
-            rest = h.rest;
-            control = h.control;
-            joins = ap (λ z. k ∷ z) h.joins;
-            goes = (at_stack r.to (r.right ++ above), first, h.goes);
-            goes_on = h.goes_on;
-          })
+          first = k ∷ h.first;
+          rest = h.rest;
+          control = h.control;
+          joins = ap (λ z. k ∷ z) h.joins;
+          goes = (at_stack r.to (r.right ++ above), first, h.goes);
+          goes_on = h.goes_on;
+        })
         | inr h ↦ inr (record {
-            word = h.word;
-            full = h.full;
-            ends = h.ends;
-            goes = (at_stack r.to (r.right ++ above), first, h.goes);
-          })
+          word = h.word;
+          full = h.full;
+          ends = h.ends;
+          goes = (at_stack r.to (r.right ++ above), first, h.goes);
+        })
       ]
 
 module _ {S W Map : Type 0} (s : Operations W Map) where
@@ -86,7 +86,6 @@ module _ {W Map : Type 0} (s : Operations W Map) where
   no_frames m e =
       let at : W → List (Frame W Map) → Machine W Map = λ w fs. record { accumulator = w; frames = fs } in
       ap (at m.accumulator) e ∙ ap (λ n. at (end_value s n) []) (sym (ap (at m.accumulator) e))
-
 
 -- fewer calls than symbols, or none
 abbrev IsDeep : {W Map : Type 0} → List (Frame W Map) → List ℕ → Type 0

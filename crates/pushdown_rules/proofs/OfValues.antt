@@ -1,6 +1,6 @@
 -- The values of runs that are put together.
-use Rattle.std.proofs.Common.{◌≡◌, ℕ, ◌<◌, ◌≤◌, List, [], ◌∷◌, ◌++◌, length, refl, sym, ap, ◌∙◌, subst}
-use Rattle.std.specs.Prelude.{Some, slice_get, unwrap_or}
+use Rattle.std.proofs.Common.{◌≡◌, ℕ, suc, arith, ◌<◌, ◌≤◌, List, [], ◌∷◌, ◌++◌, length, refl, sym, ap, ◌∙◌, subst}
+use Rattle.std.specs.Prelude.{Option, Some, IsSome, slice_get, unwrap_or}
 use Rattle.std.specs.List.{AllByRecursion}
 use Rattle.std.proofs.lemmas.List.Elements.{filter_map-append}
 use Rattle.semiring_laws.specs.Semiring.{Operations, IsSemiring, Fits, FitsMap}
@@ -14,6 +14,9 @@ use Rattle.pushdown_rules.proofs.RunValues.{step_fits, plain_or_fits}
 use Rattle.pushdown_rules.proofs.OfSystems.{rule_at, rules_fit, value_fits}
 use Rattle.pushdown_rules.proofs.OfFiring.{fired}
 use Rattle.pushdown_rules.proofs.OfMachines.{value_is, machine-append, by_word, rules_cons, ends_empty, ends_full, value_after}
+
+is_some_of : {X : Type 0} (x : X) → IsSome (Some x)
+is_some_of x = refl
 
 module _ {S W Map : Type 0} {operations : S → Operations W Map} {p : Pushdown S W Map} (valid : IsSystem operations p) (laws : IsSemiring (operations p.semiring)) where
   abbrev s : Operations W Map
@@ -89,6 +92,31 @@ module _ {S W Map : Type 0} {operations : S → Operations W Map} {p : Pushdown 
         ∙ ends_full s p short a c d goes r.weight [] (frame ∷ []) one full
         ∙ ap (s.extend s.one) (later r.weight fit a)
         ∙ laws.extend-one_left (s.extend r.weight (value a)) (laws.fits-extend r.weight (value a) fit (fits a))
+
+  -- a rule with a return map is a push
+  pub two_symbols : (r : Rule S W Map) (word : List ℕ) → r.right ≡ word → length word ≡ 2 → (g₁ : ℕ) × (g₂ : ℕ) × (r.right ≡ g₁ ∷ g₂ ∷ [])
+  two_symbols r [] right two = absurd (omega arith)
+  two_symbols r (g ∷ []) right two = absurd (omega arith)
+  two_symbols r (g ∷ h ∷ []) right two = (g, h, right)
+  two_symbols r (g ∷ h ∷ i ∷ word) right two = absurd (let e : suc (suc (suc (length word))) ≡ 2 = two in omega arith)
+
+  pub pushes : (k : ℕ) (r : Rule S W Map) → slice_get p.rules k ≡ Some r → (h : Map) → r.map ≡ Some h → (g₁ : ℕ) × (g₂ : ℕ) × (r.right ≡ g₁ ∷ g₂ ∷ [])
+  pushes k r there h map =
+      let P : Option Map → Type 0 = λ m. IsSome m in
+      two_symbols r r.right refl ((rule_at valid k r there).fits.pushes.0 (subst P (sym map) (is_some_of h)))
+
+  pub returned_value : (k : ℕ) (r : Rule S W Map) → slice_get p.rules k ≡ Some r → (h : Map) → r.map ≡ Some h → (a b : List ℕ) (c d : Configuration) → Run p c a d → length c.stack ≡ 1 → d.stack ≡ []
+      → value (k ∷ (a ++ b)) ≡ s.extend (s.after h (s.extend r.weight (value a))) (value b)
+  returned_value k r there h map a b c d goes one empty =
+      let push = pushes k r there h map in
+      push_value k r there push.0 push.1 push.2 a b c d goes one empty
+      ∙ ap (λ m. s.extend (s.after (unwrap_or m s.plain) (s.extend r.weight (value a))) (value b)) map
+
+  pub waiting_value : (k : ℕ) (r : Rule S W Map) → slice_get p.rules k ≡ Some r → (h : Map) → r.map ≡ Some h → (a : List ℕ) (c d : Configuration) → Run p c a d → length c.stack ≡ 1 → (d.stack ≡ [] → ⊥)
+      → value (k ∷ a) ≡ s.extend r.weight (value a)
+  waiting_value k r there h map a c d goes one full =
+      let push = pushes k r there h map in
+      open_value k r there push.0 push.1 push.2 a c d goes one full
 
   -- a run ends in a control
   pub ends_control : (run : List ℕ) (c d : Configuration) → Run p c run d → c.control < p.controls → d.control < p.controls
