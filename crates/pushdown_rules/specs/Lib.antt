@@ -7,3 +7,4 @@ pub mod Values
 pub mod Splits
 pub mod Progress
 pub mod Answers
+pub mod Guarded
