@@ -1,16 +1,15 @@
 -- The values of runs that are put together.
 use Rattle.std.proofs.Common.{◌≡◌, ℕ, suc, arith, ◌<◌, ◌≤◌, List, [], ◌∷◌, ◌++◌, length, refl, sym, ap, ◌∙◌, subst}
 use Rattle.std.specs.Prelude.{Option, Some, IsSome, slice_get, unwrap_or}
-use Rattle.std.specs.List.{AllByRecursion}
 use Rattle.std.proofs.lemmas.List.Elements.{filter_map-append}
 use Rattle.semiring_laws.specs.Semiring.{Operations, IsSemiring, Fits, FitsMap}
 use Rattle.pushdown_rules.specs.declared.rule.Rule.{Rule}
 use Rattle.pushdown_rules.specs.Configuration.{Configuration}
-use Rattle.pushdown_rules.specs.Pushdown.{Pushdown, FitsRule, IsSystem}
+use Rattle.pushdown_rules.specs.Pushdown.{Pushdown, IsSystem}
 use Rattle.pushdown_rules.specs.Firing.{Run}
-use Rattle.pushdown_rules.specs.RunValue.{Frame, Machine, FitsFrame, FitsMachine, starting, machine_after, run_machine, product, end_value, value_from, run_value}
+use Rattle.pushdown_rules.specs.RunValue.{Frame, Machine, starting, run_machine, product, value_from, run_value}
 use Rattle.pushdown_rules.specs.Values.{rules_of, value_of}
-use Rattle.pushdown_rules.proofs.RunValues.{step_fits, plain_or_fits}
+use Rattle.pushdown_rules.proofs.RunValues.{plain_or_fits}
 use Rattle.pushdown_rules.proofs.OfSystems.{rule_at, rules_fit, value_fits}
 use Rattle.pushdown_rules.proofs.OfFiring.{fired}
 use Rattle.pushdown_rules.proofs.OfMachines.{value_is, machine-append, by_word, rules_cons, ends_empty, ends_full, value_after}
