@@ -2,8 +2,11 @@ pub mod Stacks
 pub mod Systems
 pub mod RunValues
 pub mod OfSystems
-pub mod Walks
-pub mod OfAnswers
 pub mod OfFiring
+pub mod OfMachines
+pub mod OfValues
+pub mod OfSplits
+pub mod Walks
 pub mod OfRuns
+pub mod OfAnswers
 pub mod WorkedRows

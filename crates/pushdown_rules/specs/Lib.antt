@@ -4,5 +4,7 @@ pub mod Fault
 pub mod Firing
 pub mod RunValue
 pub mod Values
+pub mod Splits
 pub mod Progress
 pub mod Answers
+pub mod Guarded

@@ -1,15 +1,9 @@
 ghost use Rattle.std.specs.Prelude.{◌≡◌, ◌≢◌, ◌↔◌, ℕ, Bool, List};
 ghost use Rattle.pushdown_rules.specs.Configuration.{Configuration};
 ghost use Rattle.pushdown_rules.specs.Pushdown.{Pushdown, IsSystem};
-ghost use Rattle.pushdown_rules.specs.Firing.{Run, end_of};
 ghost use Rattle.pushdown_rules.specs.Answers.{Answers, HasFeasibleRun, HasNoFeasibleRun};
 
 use semiring_laws::Semiring;
-
-/// A run leads to one configuration, where its rules fire one after the other, and else to none.
-pub fn runs_end<S: Semiring>()
-    ensures { (p : Pushdown S S.W S.Ret) (c d : Configuration) (run : List ℕ) → Run p c run d ↔ (end_of p c run ≡ Some d) }
-{}
 
 /// Two answers to one query have the same value, whatever runs they list.
 pub fn answers_agree<S: Semiring>()

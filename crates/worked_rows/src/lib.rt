@@ -1,0 +1,5 @@
+//! Worked rows that take several crates, as tests.
+#![tactic(auto)]
+
+#[cfg(test)]
+mod run_values;
