@@ -1,19 +1,17 @@
 -- The lines of a document are read as the document that is written so.
 use Rattle.std.proofs.Common.{◌≡◌, ℕ, ◌+◌, ◌<◌, ◌≤◌, Bool, true, false, cond, List, [], ◌∷◌, ◌++◌, length, map, Option, Some, None, Result, Ok, Err, refl, sym, ap, subst, ◌∙◌, ◌&&◌, ◌==◌, arith, append_assoc}
-use Rattle.std.specs.Prelude.{codes, nat_le, bytes_eq, All, IfOk, IfSome}
-use Rattle.std.specs.List.{list_all, slice_split, onto_first, AllByRecursion}
-use Rattle.std.specs.Cmp.Lexicographic.{pointwise}
+use Rattle.std.specs.Prelude.{codes, nat_le, IfOk, IfSome}
+use Rattle.std.specs.List.{list_all, slice_split, onto_first}
 use Rattle.std.proofs.lemmas.Bool.{and_parts, and_from, le-leb, leb-true}
 use Rattle.std.proofs.lemmas.List.{length-map, length-append, map-append}
 use Rattle.std.proofs.lemmas.List.Elements.{All-from_recursion, recursion_from_All}
 use Rattle.std.proofs.lemmas.Slice.Eq.{bytes_eq-Decides, slice_eq-Decides}
 use denote.Ref.{Bor}
 use Rattle.system_text.specs.declared.document.Document.{Document}
-use Rattle.system_text.specs.declared.document.RuleLine.{RuleLine}
 use Rattle.system_text.specs.Lines.{line_words, words, texts, is_blank, is_feed}
-use Rattle.system_text.specs.Names.{is_name, has_twice, AreNames}
-use Rattle.system_text.specs.FirstForm.{header_words, weights_words, rule_words, query_words, document_words, IsRuleLine, IsFirstForm}
-use Rattle.system_text.specs.Reading.{each, guarded, same_words, names_of, rule_of, query_of, is_framed, document_of}
+use Rattle.system_text.specs.Names.{is_name, has_twice}
+use Rattle.system_text.specs.FirstForm.{header_words, weights_words, rule_words, query_words, IsRuleLine, IsFirstForm}
+use Rattle.system_text.specs.Reading.{each, same_words, names_of, rule_of, query_of, is_framed, document_of}
 use Rattle.system_text.proofs.Lists.{each-back, each-all, each-written, same_ends}
 use Rattle.system_text.proofs.Options.{guarded-parts, guarded-true, bind-parts, bind-some}
 use Rattle.system_text.proofs.Written.{names-back, names-written, are_names-from, no_name_twice, rule-back, rule-written, query-back, query-written}

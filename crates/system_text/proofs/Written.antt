@@ -1,8 +1,8 @@
 -- What is written with names and numbers is read back, and what is read is written so.
-use Rattle.std.proofs.Common.{◌≡◌, ℕ, zero, suc, ◌+◌, ◌-◌, ◌<◌, ◌≤◌, Bool, true, false, not, cond, List, [], ◌∷◌, ◌++◌, length, map, take, drop, get_or, Option, Some, None, refl, sym, ap, subst, ◌∙◌, ◌||◌, ◌&&◌, arith, append_assoc, append-nil}
-use Rattle.std.specs.Prelude.{position, bytes_eq, codes, nat_lt, nat_le, ◌==◌, option_and_then, option_map, All}
-use Rattle.std.specs.List.{list_any, list_all, prefix_len, position_or_len, AllByRecursion}
-use Rattle.std.proofs.lemmas.Bool.{and_parts, and_from, or_parts, or_from, not-true, true≢false, eqb-true, lt-ltb, ltb-true, le-leb, leb-true, cond-true, false_from_ne_true, not_from_false}
+use Rattle.std.proofs.Common.{◌≡◌, ℕ, zero, suc, ◌+◌, ◌-◌, ◌<◌, ◌≤◌, Bool, true, false, not, cond, List, [], ◌∷◌, ◌++◌, length, map, take, drop, get_or, Some, None, refl, sym, ap, subst, ◌∙◌, ◌&&◌, arith, append_assoc, append-nil}
+use Rattle.std.specs.Prelude.{position, bytes_eq, codes, nat_lt, nat_le, All}
+use Rattle.std.specs.List.{list_any, list_all, position_or_len, AllByRecursion}
+use Rattle.std.proofs.lemmas.Bool.{and_parts, and_from, or_parts, or_from, not-true, true≢false, lt-ltb, ltb-true, le-leb, leb-true, cond-true, false_from_ne_true}
 use Rattle.std.proofs.lemmas.List.{length-map, length-append, take_at, drop_at, take-append-drop, drop_more}
 use Rattle.std.proofs.lemmas.List.Elements.{All-from_recursion, recursion_from_All}
 use Rattle.std.proofs.lemmas.List.Quantifiers.{position-Some}
@@ -13,7 +13,7 @@ use Rattle.system_text.specs.declared.document.ConfigText.{ConfigText}
 use Rattle.system_text.specs.declared.document.QueryLine.{QueryLine}
 use Rattle.system_text.specs.Names.{is_among, is_name, has_twice, name, number_in, begins_name, goes_on_name, reserved, AreNames}
 use Rattle.system_text.specs.FirstForm.{rule_words, config_words, query_words, IsRuleLine, IsConfigText}
-use Rattle.system_text.specs.Reading.{guarded, each, are_names, names_of, number_before_colon, rule_of, config_of, sides_of, query_of}
+use Rattle.system_text.specs.Reading.{each, are_names, names_of, number_before_colon, rule_of, config_of, sides_of, query_of}
 use Rattle.system_text.proofs.Lists.{each-back, each-written, each-all}
 use Rattle.system_text.proofs.Options.{guarded-parts, guarded-true, bind-parts, bind-some}
 
