@@ -1,5 +1,5 @@
 -- Lists, where the project has no word of its own.
-use Rattle.std.proofs.Common.{◌≡◌, ℕ, ◌+◌, ◌<◌, ◌≤◌, Bool, true, false, not, cond, List, [], ◌∷◌, ◌++◌, length, map, take, drop, get_or, Option, Some, None, refl, sym, ap, subst, ◌∙◌, ◌||◌, ◌-◌, arith, append_assoc}
+use Rattle.std.proofs.Common.{◌≡◌, ℕ, ◌+◌, ◌<◌, ◌≤◌, Bool, not, List, [], ◌∷◌, ◌++◌, length, map, take, drop, get_or, Option, Some, None, refl, sym, ap, subst, ◌∙◌, ◌||◌, ◌-◌, arith}
 use Rattle.system_text.proofs.Options.{bind-parts}
 use Rattle.std.specs.Prelude.{position, option_map, option_and_then}
 use Rattle.std.specs.List.{list_any, prefix_len, AllByRecursion}

@@ -1,19 +1,17 @@
 -- The lines of a document are read as the document that is written so.
 use Rattle.std.proofs.Common.{◌≡◌, ℕ, ◌+◌, ◌<◌, ◌≤◌, Bool, true, false, cond, List, [], ◌∷◌, ◌++◌, length, map, Option, Some, None, Result, Ok, Err, refl, sym, ap, subst, ◌∙◌, ◌&&◌, ◌==◌, arith, append_assoc}
-use Rattle.std.specs.Prelude.{codes, nat_le, bytes_eq, All, IfOk, IfSome}
-use Rattle.std.specs.List.{list_all, slice_split, onto_first, AllByRecursion}
-use Rattle.std.specs.Cmp.Lexicographic.{pointwise}
+use Rattle.std.specs.Prelude.{codes, nat_le, IfOk, IfSome}
+use Rattle.std.specs.List.{list_all, slice_split, onto_first}
 use Rattle.std.proofs.lemmas.Bool.{and_parts, and_from, le-leb, leb-true}
 use Rattle.std.proofs.lemmas.List.{length-map, length-append, map-append}
 use Rattle.std.proofs.lemmas.List.Elements.{All-from_recursion, recursion_from_All}
 use Rattle.std.proofs.lemmas.Slice.Eq.{bytes_eq-Decides, slice_eq-Decides}
 use denote.Ref.{Bor}
 use Rattle.system_text.specs.declared.document.Document.{Document}
-use Rattle.system_text.specs.declared.document.RuleLine.{RuleLine}
 use Rattle.system_text.specs.Lines.{line_words, words, texts, is_blank, is_feed}
-use Rattle.system_text.specs.Names.{is_name, has_twice, AreNames}
-use Rattle.system_text.specs.FirstForm.{header_words, weights_words, rule_words, query_words, document_words, IsRuleLine, IsFirstForm}
-use Rattle.system_text.specs.Reading.{each, guarded, same_words, names_of, rule_of, query_of, is_framed, document_of}
+use Rattle.system_text.specs.Names.{is_name, has_twice}
+use Rattle.system_text.specs.FirstForm.{header_words, weights_words, rule_words, query_words, IsRuleLine, IsFirstForm}
+use Rattle.system_text.specs.Reading.{each, same_words, names_of, rule_of, query_of, is_framed, document_of}
 use Rattle.system_text.proofs.Lists.{each-back, each-all, each-written, same_ends}
 use Rattle.system_text.proofs.Options.{guarded-parts, guarded-true, bind-parts, bind-some}
 use Rattle.system_text.proofs.Written.{names-back, names-written, are_names-from, no_name_twice, rule-back, rule-written, query-back, query-written}
@@ -70,10 +68,10 @@ module _ (bytes : List ℕ) (h w c s : List (List ℕ)) (rs : List (List (List �
             ∙ ap (λ x. header_words ∷ weights_words ∷ x ∷ s ∷ (rs ++ q ∷ l ∷ [])) n1.0
             ∙ ap (λ x. header_words ∷ weights_words ∷ (codes "controls" ∷ cs) ∷ x ∷ (rs ++ q ∷ l ∷ [])) n2.0
             ∙ ap (λ x. header_words ∷ weights_words ∷ (codes "controls" ∷ cs) ∷ (codes "symbols" ∷ ss) ∷ x)
-                (ap (λ x. x ++ q ∷ l ∷ []) (sym rules)
-                  ∙ ap (λ x. map (rule_words cs ss) b3.0 ++ x ∷ l ∷ []) (sym query.0)
-                  ∙ ap (λ x. map (rule_words cs ss) b3.0 ++ query_words cs ss b4.0.from b4.0.to ∷ x ∷ []) (equal_words l ([] ∷ []) f0.0)
-                  ∙ sym (append_assoc (map (rule_words cs ss) b3.0) (query_words cs ss b4.0.from b4.0.to ∷ []) (([] ∷ []) ∷ [])));
+            (ap (λ x. x ++ q ∷ l ∷ []) (sym rules)
+            ∙ ap (λ x. map (rule_words cs ss) b3.0 ++ x ∷ l ∷ []) (sym query.0)
+            ∙ ap (λ x. map (rule_words cs ss) b3.0 ++ query_words cs ss b4.0.from b4.0.to ∷ x ∷ []) (equal_words l ([] ∷ []) f0.0)
+            ∙ sym (append_assoc (map (rule_words cs ss) b3.0) (query_words cs ss b4.0.from b4.0.to ∷ []) (([] ∷ []) ∷ [])));
         controls = n1.1;
         symbols = n2.1;
         rules = All-from_recursion (IsRuleLine (length cs) (length ss)) b3.0 (each-all (rule_of cs ss) (IsRuleLine (length cs) (length ss)) (λ x y g. (rule-back cs ss x y g).1) rs b3.0 b3.1);
@@ -106,12 +104,12 @@ module _ (bytes : List ℕ) (h w c s : List (List ℕ)) (rs : List (List (List �
       ∙ ap (λ x. document_of header_words weights_words (codes "controls" ∷ cs) (codes "symbols" ∷ ss) rules x l) ends.1
       ∙ ap (λ x. document_of header_words weights_words (codes "controls" ∷ cs) (codes "symbols" ∷ ss) rules query x) ends.2
       ∙ guarded-true (is_framed header_words weights_words nothing (length rules)) _
-          (and_from (nat_le (length rules) 130000) true (le-leb (length rules) 130000 (subst (λ n. n ≤ 130000) (sym (length-map d.rules (rule_words cs ss))) form.few)) refl)
+      (and_from (nat_le (length rules) 130000) true (le-leb (length rules) 130000 (subst (λ n. n ≤ 130000) (sym (length-map d.rules (rule_words cs ss))) form.few)) refl)
       ∙ bind-some _ _ cs _ (names-written (codes "controls") 1000 cs form.controls)
-          (bind-some _ _ ss _ (names-written (codes "symbols") 40000 ss form.symbols)
-            (bind-some _ _ d.rules _
-              (each-written (rule_of cs ss) (rule_words cs ss) (IsRuleLine (length cs) (length ss)) (rule-written cs ss one.1 two.1) d.rules (recursion_from_All (IsRuleLine (length cs) (length ss)) d.rules form.rules))
-              (bind-some _ _ d.query _ (query-written cs ss one two d.query (form.from, form.to)) refl)))
+      (bind-some _ _ ss _ (names-written (codes "symbols") 40000 ss form.symbols)
+      (bind-some _ _ d.rules _
+      (each-written (rule_of cs ss) (rule_words cs ss) (IsRuleLine (length cs) (length ss)) (rule-written cs ss one.1 two.1) d.rules (recursion_from_All (IsRuleLine (length cs) (length ss)) d.rules form.rules))
+      (bind-some _ _ d.query _ (query-written cs ss one two d.query (form.from, form.to)) refl)))
     where
       same_heads : {X : Type 0} {a b c e a' b' c' e' : X} {xs ys : List X} → a ∷ b ∷ c ∷ e ∷ xs ≡ a' ∷ b' ∷ c' ∷ e' ∷ ys → (a ≡ a') × (b ≡ b') × (c ≡ c') × (e ≡ e') × (xs ≡ ys)
       same_heads h = (cc, cc, cc, cc, cc)
@@ -159,7 +157,7 @@ one_form bytes d e f g =
     let rules = map (rule_words cs ss) d.rules in
     let query = query_words cs ss d.query.from d.query.to in
     let cut : line_words bytes ≡ header_words ∷ weights_words ∷ (codes "controls" ∷ cs) ∷ (codes "symbols" ∷ ss) ∷ (rules ++ query ∷ ([] ∷ []) ∷ []) =
-          f.written ∙ ap (λ x. header_words ∷ weights_words ∷ (codes "controls" ∷ cs) ∷ (codes "symbols" ∷ ss) ∷ x) (append_assoc rules (query ∷ []) (([] ∷ []) ∷ [])) in
+    f.written ∙ ap (λ x. header_words ∷ weights_words ∷ (codes "controls" ∷ cs) ∷ (codes "symbols" ∷ ss) ∷ x) (append_assoc rules (query ∷ []) (([] ∷ []) ∷ [])) in
     let read = written_is_read bytes header_words weights_words (codes "controls" ∷ cs) (codes "symbols" ∷ ss) rules query ([] ∷ []) cut in
     let both : Some d ≡ Some e = sym (read d f) ∙ read e g in
     cc (both)

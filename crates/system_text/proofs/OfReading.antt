@@ -1,5 +1,5 @@
 -- What words are, from what their parts are.
-use Rattle.std.proofs.Common.{◌≡◌, ℕ, ◌+◌, ◌-◌, List, [], ◌∷◌, length, take, drop, Option, Some, None, refl, sym, ap, ◌∙◌}
+use Rattle.std.proofs.Common.{◌≡◌, ℕ, ◌+◌, ◌-◌, List, length, take, drop, Option, Some, None, sym, ap, ◌∙◌}
 use Rattle.std.specs.Prelude.{option_and_then, position, bytes_eq, codes}
 use Rattle.std.proofs.lemmas.List.{take-map, drop-map, take_rest}
 use denote.Ref.{Bor}

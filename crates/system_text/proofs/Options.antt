@@ -1,6 +1,6 @@
 -- Options that are something.
-use Rattle.std.proofs.Common.{◌≡◌, Bool, true, false, Option, Some, None, refl, cond}
-use Rattle.std.specs.Prelude.{option_and_then, option_map}
+use Rattle.std.proofs.Common.{◌≡◌, Bool, true, false, Option, Some, None, refl}
+use Rattle.std.specs.Prelude.{option_and_then}
 use Rattle.system_text.specs.Reading.{guarded}
 
 pub guarded-parts : {A : Type 0} (b : Bool) (o : Option A) (x : A) → guarded b o ≡ Some x → (b ≡ true) × (o ≡ Some x)

@@ -1,8 +1,8 @@
 -- What is written with names and numbers is read back, and what is read is written so.
-use Rattle.std.proofs.Common.{◌≡◌, ℕ, zero, suc, ◌+◌, ◌-◌, ◌<◌, ◌≤◌, Bool, true, false, not, cond, List, [], ◌∷◌, ◌++◌, length, map, take, drop, get_or, Option, Some, None, refl, sym, ap, subst, ◌∙◌, ◌||◌, ◌&&◌, arith, append_assoc, append-nil}
-use Rattle.std.specs.Prelude.{position, bytes_eq, codes, nat_lt, nat_le, ◌==◌, option_and_then, option_map, All}
-use Rattle.std.specs.List.{list_any, list_all, prefix_len, position_or_len, AllByRecursion}
-use Rattle.std.proofs.lemmas.Bool.{and_parts, and_from, or_parts, or_from, not-true, true≢false, eqb-true, lt-ltb, ltb-true, le-leb, leb-true, cond-true, false_from_ne_true, not_from_false}
+use Rattle.std.proofs.Common.{◌≡◌, ℕ, zero, suc, ◌+◌, ◌-◌, ◌<◌, ◌≤◌, Bool, true, false, not, cond, List, [], ◌∷◌, ◌++◌, length, map, take, drop, get_or, Some, None, refl, sym, ap, subst, ◌∙◌, ◌&&◌, arith, append_assoc, append-nil}
+use Rattle.std.specs.Prelude.{position, bytes_eq, codes, nat_lt, nat_le, All}
+use Rattle.std.specs.List.{list_any, list_all, position_or_len, AllByRecursion}
+use Rattle.std.proofs.lemmas.Bool.{and_parts, and_from, or_parts, or_from, not-true, true≢false, lt-ltb, ltb-true, le-leb, leb-true, cond-true, false_from_ne_true}
 use Rattle.std.proofs.lemmas.List.{length-map, length-append, take_at, drop_at, take-append-drop, drop_more}
 use Rattle.std.proofs.lemmas.List.Elements.{All-from_recursion, recursion_from_All}
 use Rattle.std.proofs.lemmas.List.Quantifiers.{position-Some}
@@ -13,7 +13,7 @@ use Rattle.system_text.specs.declared.document.ConfigText.{ConfigText}
 use Rattle.system_text.specs.declared.document.QueryLine.{QueryLine}
 use Rattle.system_text.specs.Names.{is_among, is_name, has_twice, name, number_in, begins_name, goes_on_name, reserved, AreNames}
 use Rattle.system_text.specs.FirstForm.{rule_words, config_words, query_words, IsRuleLine, IsConfigText}
-use Rattle.system_text.specs.Reading.{guarded, each, are_names, names_of, number_before_colon, rule_of, config_of, sides_of, query_of}
+use Rattle.system_text.specs.Reading.{each, are_names, names_of, number_before_colon, rule_of, config_of, sides_of, query_of}
 use Rattle.system_text.proofs.Lists.{each-back, each-written, each-all}
 use Rattle.system_text.proofs.Options.{guarded-parts, guarded-true, bind-parts, bind-some}
 
@@ -68,8 +68,7 @@ module _ (names : List (List ℕ)) where
   pub colon-back : (w : List ℕ) (k : ℕ) → number_before_colon names w ≡ Some k → (name names k ++ codes ":" ≡ w) × (k < length names)
   colon-back w k e =
       let g = guarded-parts _ _ k e in
-      let n = name-number names (take (length w - 1) w) k g.1 in
-      (
+      let n = name-number names (take (length w - 1) w) k g.1 in (
         ap (λ x. x ++ codes ":") n.0 ∙ ap (λ x. take (length w - 1) w ++ x) (sym (equal (drop (length w - 1) w) (codes ":") g.0)) ∙ take-append-drop (length w - 1) w,
         n.1,
       )
@@ -194,8 +193,8 @@ names-no_arrow : (names : List (List ℕ)) (ks : List ℕ) → list_all is_name 
 names-no_arrow names [] n all = refl
 names-no_arrow names (k ∷ ks) n all =
     or_from (bytes_eq arrow (name names k)) _
-      (ap (bytes_eq arrow) (sym (append-nil (name names k))) ∙ name-no_arrow (name names k) [] (declared-name names k n all.0))
-      (names-no_arrow names ks n all.1)
+    (ap (bytes_eq arrow) (sym (append-nil (name names k))) ∙ name-no_arrow (name names k) [] (declared-name names k n all.0))
+    (names-no_arrow names ks n all.1)
 
 -- where the first one that passes stands
 module _ {X : Type 0} (p : X → Bool) where
@@ -232,12 +231,11 @@ module _ (controls symbols : List (List ℕ)) where
       let made : QueryLine = record { from = b2.0; to = b3.0 } in
       let same : made ≡ q = cc (b3.2) in
       let is : config_words controls symbols b2.0 ++ arrow ∷ config_words controls symbols b3.0 ≡ ws =
-            ap (λ l. l ++ arrow ∷ config_words controls symbols b3.0) c2.0
-            ∙ ap (λ l. take at ws ++ arrow ∷ l) c3.0
-            ∙ ap (λ x. take at ws ++ x ∷ drop (at + 1) ws) (equal arrow (get_or ws at []) p.1)
-            ∙ ap (λ l. take at ws ++ l) (sym (drop_more ws at [] p.0))
-            ∙ take-append-drop at ws in
-      (
+      ap (λ l. l ++ arrow ∷ config_words controls symbols b3.0) c2.0
+      ∙ ap (λ l. take at ws ++ arrow ∷ l) c3.0
+      ∙ ap (λ x. take at ws ++ x ∷ drop (at + 1) ws) (equal arrow (get_or ws at []) p.1)
+      ∙ ap (λ l. take at ws ++ l) (sym (drop_more ws at [] p.0))
+      ∙ take-append-drop at ws in (
         ap (λ r. config_words controls symbols r.from ++ arrow ∷ config_words controls symbols r.to) (sym same) ∙ is,
         subst (FitsQuery controls symbols) same (c2.1, c3.1),
       )
@@ -253,16 +251,16 @@ module _ (controls symbols : List (List ℕ)) where
     config-no_arrow : (c : ConfigText) → IsConfigText (length controls) (length symbols) c → list_any (bytes_eq arrow) (config_words controls symbols c) ≡ false
     config-no_arrow c h =
         or_from (bytes_eq arrow (name controls c.control ++ codes ":")) _
-          (name-no_arrow (name controls c.control) (codes ":") (declared-name controls c.control one.0 h.control))
-          (names-no_arrow symbols c.stack two.0 (recursion_from_All (λ g. g < length symbols) c.stack h.stack))
+        (name-no_arrow (name controls c.control) (codes ":") (declared-name controls c.control one.0 h.control))
+        (names-no_arrow symbols c.stack two.0 (recursion_from_All (λ g. g < length symbols) c.stack h.stack))
 
     sides-written : (q : QueryLine) → FitsQuery controls symbols q → sides_of controls symbols (config_words controls symbols q.from ++ arrow ∷ config_words controls symbols q.to) ≡ Some q
     sides-written q h =
         let xs = config_words controls symbols q.from in
         let ys = config_words controls symbols q.to in
         bind-some _ _ (length xs) _ (position-first (bytes_eq arrow) xs arrow ys (config-no_arrow q.from h.0) (bytes_eq-same arrow))
-          (bind-some _ _ q.from _ (ap (config_of controls symbols) (take_at xs (arrow ∷ ys) (length xs) refl) ∙ config-written controls symbols one.1 two.1 q.from h.0)
-            (bind-some _ _ q.to _ (ap (config_of controls symbols) (drop_behind xs arrow ys) ∙ config-written controls symbols one.1 two.1 q.to h.1) refl))
+        (bind-some _ _ q.from _ (ap (config_of controls symbols) (take_at xs (arrow ∷ ys) (length xs) refl) ∙ config-written controls symbols one.1 two.1 q.from h.0)
+        (bind-some _ _ q.to _ (ap (config_of controls symbols) (drop_behind xs arrow ys) ∙ config-written controls symbols one.1 two.1 q.to h.1) refl))
 
     pub query-written : (q : QueryLine) → FitsQuery controls symbols q → query_of controls symbols (query_words controls symbols q.from q.to) ≡ Some q
     query-written q h = sides-written q h

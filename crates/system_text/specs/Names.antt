@@ -1,5 +1,5 @@
 -- Names, and what they are the names of.
-use Rattle.std.specs.Prelude.{◌≡◌, ℕ, ◌<◌, ◌≤◌, Bool, false, not, ◌||◌, ◌&&◌, ◌==◌, nat_le, List, [], ◌∷◌, length, position, slice_index_or, Option, codes, bytes_eq, IsTrue}
+use Rattle.std.specs.Prelude.{ℕ, ◌<◌, ◌≤◌, Bool, false, not, ◌||◌, ◌&&◌, ◌==◌, nat_le, List, [], ◌∷◌, length, position, slice_index_or, Option, codes, bytes_eq, IsTrue}
 use Rattle.std.specs.List.{list_any, list_all}
 
 -- a letter or `_`

@@ -14,11 +14,17 @@ use std::alloc::Global;
 use wpds_port::OutOfMemory;
 
 const MOST_CONTROLS: usize = 1_000;
+
 const MOST_SYMBOLS: usize = 40_000;
+
 const MOST_RULES: usize = 130_000;
+
 const HEADER: [&[u8]; 2] = [b"wpds", b"1"];
+
 const WEIGHTS: [&[u8]; 2] = [b"weights", b"reach"];
+
 const CONTROLS: &[u8] = b"controls";
+
 const SYMBOLS: &[u8] = b"symbols";
 
 /// The lines of a document, by what they say.
@@ -38,15 +44,7 @@ fn in_order<'t, 'l>(lines: &'l [&'t [u8]]) -> Option<Lines<'t, 'l>>
     ensures { MatchOption result (length lines.now < 6) (λ l. texts lines.now ≡ l.header.now ∷ l.weights.now ∷ l.controls.now ∷ l.symbols.now ∷ (texts l.rules.now ++ l.query.now ∷ l.last.now ∷ [])) }
 {
     match lines {
-        [
-            header,
-            weights,
-            controls,
-            symbols,
-            rules @ ..,
-            query,
-            last,
-        ] => Some(Lines {
+        [header, weights, controls, symbols, rules @ .., query, last] => Some(Lines {
             header,
             weights,
             controls,

@@ -11,3 +11,6 @@ mod words;
 pub use document::{ConfigText, Document, QueryLine, RuleLine, RuleLines, Symbols};
 pub use first_form::{one_document, read_first_form};
 pub use names::Names;
+
+#[cfg(test)]
+mod tests;

@@ -6,10 +6,8 @@ use std::alloc::Global;
 use std::marker::Model;
 use wpds_port::OutOfMemory;
 
-/// The most names of one class.
-pub const MOST_NAMES: usize = 40_000;
-
-/// The names of one class, each once, in the order in which they were declared. A name's number is its place, from 0.
+/// The names of one class, at most 40,000, each once, in the order in which they were declared. A name's number is its place,
+/// from 0. Each name is at hand by its number and by its text.
 #[derive(Drop)]
 pub struct Names {
     texts: IndexSet<Vec<u8>>,

@@ -12,10 +12,15 @@ use std::alloc::Global;
 use wpds_port::OutOfMemory;
 
 const RULE: &[u8] = b"rule";
+
 const ARROW: &[u8] = b"->";
+
 const QUERY: &[u8] = b"query";
+
 const SIDES: &[u8] = b"=>";
+
 const MOST_PUSHED: usize = 2;
+
 const MOST_ON_STACK: usize = 1_000;
 
 /// Whether the words of a line are these.
@@ -87,8 +92,6 @@ fn control_before_colon(controls: &Names, word: &[u8]) -> Option<u32>
 {
     controls.number_of(word.strip_suffix(b":")?)
 }
-
-
 
 // The rule that a line with these words is.
 fn rule_from(

@@ -1,4 +1,4 @@
-use Rattle.std.proofs.Common.{[], ◌∷◌, sym, ap, ◌∙◌, length, ◌&&◌}
+use Rattle.std.proofs.Common.{sym, ap, ◌∙◌, length, ◌&&◌}
 use Rattle.std.specs.Prelude.{nat_le}
 use Rattle.system_text.specs.FirstForm.{header_words, weights_words}
 use Rattle.system_text.specs.Lines.{words}
