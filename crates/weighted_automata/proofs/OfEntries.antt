@@ -94,13 +94,13 @@ module _ {S W Map : Type 0} (x : Place) (w : W) (n : ℕ) where
       let next : Option ℕ → Option ℕ = λ o. option_map (λ k. k + 1) o in
       elim (cases_Bool (same_place u.place x)) [
         | inl e ↦
-          ap (index_at x) (cond-true (same_place u.place x) (new ∷ ts) (u ∷ lowered x w n ts) e)
-          ∙ cond-true (same_place x x) (Some 0) (next (index_at x ts)) (same_place_itself x)
-          ∙ ap (λ o. Some (unwrap_or o (length (u ∷ ts)))) (sym (cond-true (same_place u.place x) (Some 0) (next (index_at x ts)) e))
+            ap (index_at x) (cond-true (same_place u.place x) (new ∷ ts) (u ∷ lowered x w n ts) e)
+            ∙ cond-true (same_place x x) (Some 0) (next (index_at x ts)) (same_place_itself x)
+            ∙ ap (λ o. Some (unwrap_or o (length (u ∷ ts)))) (sym (cond-true (same_place u.place x) (Some 0) (next (index_at x ts)) e))
         | inr e ↦
-          ap (index_at x) (cond-false (same_place u.place x) (new ∷ ts) (u ∷ lowered x w n ts) e)
-          ∙ cond-false (same_place u.place x) (Some 0) (next (index_at x (lowered x w n ts))) e
-          ∙ ap next (index_at-lowered ts)
-          ∙ ap Some (plus_one (index_at x ts) (length ts))
-          ∙ ap (λ o. Some (unwrap_or o (length (u ∷ ts)))) (sym (cond-false (same_place u.place x) (Some 0) (next (index_at x ts)) e))
+            ap (index_at x) (cond-false (same_place u.place x) (new ∷ ts) (u ∷ lowered x w n ts) e)
+            ∙ cond-false (same_place u.place x) (Some 0) (next (index_at x (lowered x w n ts))) e
+            ∙ ap next (index_at-lowered ts)
+            ∙ ap Some (plus_one (index_at x ts) (length ts))
+            ∙ ap (λ o. Some (unwrap_or o (length (u ∷ ts)))) (sym (cond-false (same_place u.place x) (Some 0) (next (index_at x ts)) e))
       ]

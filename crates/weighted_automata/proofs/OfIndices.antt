@@ -77,8 +77,8 @@ module _ {X : Type 0} (p : X → Bool) (all : List X) where
       let P : List ℕ → List X → Type 0 = λ is ys. option_and_then (slice_get all) (slice_get is k) ≡ slice_get ys k in
       let rest : List ℕ = indices_from p (length pre + 1) xs in
       let later : (j : ℕ) → option_and_then (slice_get all) (slice_get rest j) ≡ slice_get (filter p xs) j =
-        λ j. subst (λ (n : ℕ). option_and_then (slice_get all) (slice_get (indices_from p n xs) j) ≡ slice_get (filter p xs) j) (length_push pre x)
-        (at_index (pre ++ x ∷ []) xs (append_assoc pre (x ∷ []) xs ∙ e) j) in
+      λ j. subst (λ (n : ℕ). option_and_then (slice_get all) (slice_get (indices_from p n xs) j) ≡ slice_get (filter p xs) j) (length_push pre x)
+      (at_index (pre ++ x ∷ []) xs (append_assoc pre (x ∷ []) xs ∙ e) j) in
       elim (p x) as (λ b. P (cond b (length pre ∷ rest) rest) (cond b (x ∷ filter p xs) (filter p xs))) [
         | true ↦ first_or_later (slice_get all) (length pre) rest x (filter p xs) (ap (λ ys. slice_get ys (length pre)) (sym e) ∙ get_at pre x xs) later k
         | false ↦ later k

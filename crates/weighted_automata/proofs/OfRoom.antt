@@ -91,14 +91,14 @@ still_waits x z (y ∷ ys) e = elim (cases_Bool (same_place y x)) [
     | inr there ↦ inr (ap (has_place z) (cond-true (same_place y x) ys (y ∷ without x ys) is) ∙ there)
   ]
   | inr differs ↦
-    let left : without x (y ∷ ys) ≡ y ∷ without x ys = cond-false (same_place y x) ys (y ∷ without x ys) differs in
-    elim (or_cases (same_place y z) (has_place z ys) e) [
-      | inl here ↦ inr (ap (has_place z) left ∙ or_left (same_place y z) (has_place z (without x ys)) here)
-      | inr there ↦ elim (still_waits x z ys there) [
-        | inl same ↦ inl same
-        | inr more ↦ inr (ap (has_place z) left ∙ or_right (same_place y z) (has_place z (without x ys)) more)
+      let left : without x (y ∷ ys) ≡ y ∷ without x ys = cond-false (same_place y x) ys (y ∷ without x ys) differs in
+      elim (or_cases (same_place y z) (has_place z ys) e) [
+        | inl here ↦ inr (ap (has_place z) left ∙ or_left (same_place y z) (has_place z (without x ys)) here)
+        | inr there ↦ elim (still_waits x z ys there) [
+          | inl same ↦ inl same
+          | inr more ↦ inr (ap (has_place z) left ∙ or_right (same_place y z) (has_place z (without x ys)) more)
+        ]
       ]
-    ]
 ]
 
 module _ {S W Map : Type 0} (x : Place) (w : W) (n : ℕ) where
@@ -156,12 +156,12 @@ pub missed_has : {S W Map : Type 0} (x : Place) (ts : List (Entry S W Map)) → 
 missed_has x [] e = (refl, refl)
 missed_has x (t ∷ ts) e = elim (same_place t.place x) as (λ b. cond b (Some 0) (option_map (λ i. i + 1) (index_where (λ u. same_place u.place x) ts)) ≡ None
     → ((b || has_place x (places_of ts)) ≡ false) × (cond b (Some t) (entry_at x ts) ≡ None)) [
-  | true ↦ λ h. cc
-  | false ↦ λ h. elim (index_where (λ u. same_place u.place x) ts) as (λ i. index_where (λ u. same_place u.place x) ts ≡ i → option_map (λ j. j + 1) i ≡ None → (has_place x (places_of ts) ≡ false) × (entry_at x ts ≡ None)) [
-    | None ↦ λ was f. missed_has x ts was
-    | Some j ↦ λ was f. cc
-  ] refl h
-] e
+      | true ↦ λ h. cc
+      | false ↦ λ h. elim (index_where (λ u. same_place u.place x) ts) as (λ i. index_where (λ u. same_place u.place x) ts ≡ i → option_map (λ j. j + 1) i ≡ None → (has_place x (places_of ts) ≡ false) × (entry_at x ts ≡ None)) [
+        | None ↦ λ was f. missed_has x ts was
+        | Some j ↦ λ was f. cc
+      ] refl h
+    ] e
 
 -- one place more waits
 module _ (places waiting : List Place) (x : Place) where
@@ -179,7 +179,7 @@ pub has_place-take_more : (z : Place) (xs : List Place) (i : ℕ) (d : Place) �
     → has_place z (take (i + 1) xs) ≡ true → (has_place z (take i xs) ≡ true) ⊎ (get_or xs i d ≡ z)
 has_place-take_more z xs i d within e =
     let split : has_place z (take (i + 1) xs) ≡ (has_place z (take i xs) || (same_place (get_or xs i d) z || false)) =
-      ap (has_place z) (take_more xs i d within) ∙ has_place-append z (take i xs) (get_or xs i d ∷ []) in
+    ap (has_place z) (take_more xs i d within) ∙ has_place-append z (take i xs) (get_or xs i d ∷ []) in
     elim (or_cases (has_place z (take i xs)) (same_place (get_or xs i d) z || false) (sym split ∙ e)) [
       | inl before ↦ inl before
       | inr here ↦ elim (or_cases (same_place (get_or xs i d) z) false here) [

@@ -7,3 +7,6 @@ mod transitions;
 
 pub use place::{Label, Place};
 pub use transitions::{Entry, Transitions};
+
+#[cfg(test)]
+mod tests;

@@ -69,24 +69,23 @@ runs_of-node side nodes all k within =
     let n : Node = node_at nodes k in
     let size : length front ≡ k = omega (arith, length-take-le k nodes (omega arith)) in
     let split : nodes ≡ (front ++ n ∷ []) ++ drop (k + 1) nodes =
-      sym (take-append-drop (k + 1) nodes) ∙ ap (λ f. f ++ drop (k + 1) nodes) (take_more nodes k Start within) in
+    sym (take-append-drop (k + 1) nodes) ∙ ap (λ f. f ++ drop (k + 1) nodes) (take_more nodes k Start within) in
     let old : (j : ℕ) → j < k → runs_of side nodes j ≡ runs_of side front j =
-      λ j b. ap (λ l. runs_of side l j) (split ∙ append_assoc front (n ∷ []) (drop (k + 1) nodes)) ∙ runs_of-append side front (n ∷ drop (k + 1) nodes) j (omega arith) in
+    λ j b. ap (λ l. runs_of side l j) (split ∙ append_assoc front (n ∷ []) (drop (k + 1) nodes)) ∙ runs_of-append side front (n ∷ drop (k + 1) nodes) j (omega arith) in
     ap (λ l. runs_of side l k) split
     ∙ runs_of-append side (front ++ n ∷ []) (drop (k + 1) nodes) k (omega (arith, length_push front n))
     ∙ ap (runs_of side (front ++ n ∷ [])) (sym size)
     ∙ runs_of-push_new side front n
     ∙ sym (moved_runs (λ j. Some j) (runs_of side front) (runs_of side nodes) side n
-      (each_named (Moves (λ j. Some j) (runs_of side front) (runs_of side nodes)) n
-        (all_weaker (λ j. j < k) (Moves (λ j. Some j) (runs_of side front) (runs_of side nodes)) (λ j b. (j, refl, old j b)) (named n) (names_earlier nodes all k))))
+    (each_named (Moves (λ j. Some j) (runs_of side front) (runs_of side nodes)) n
+    (all_weaker (λ j. j < k) (Moves (λ j. Some j) (runs_of side front) (runs_of side nodes)) (λ j b. (j, refl, old j b)) (named n) (names_earlier nodes all k))))
     ∙ ap (runs_over side (runs_of side nodes)) (kept_node n)
 
 -- Lists of numbers: each of a list is listed, and nodes that name listed ones alone keep their new names.
-members_from : (pre xs : List ℕ) → AllByRecursion (λ x. is_listed (pre ++ xs) x ≡ true) xs
+pub members_from : (pre xs : List ℕ) → AllByRecursion (λ x. is_listed (pre ++ xs) x ≡ true) xs
 members_from pre [] = tt
 members_from pre (x ∷ xs) =
-    let same : (pre ++ x ∷ []) ++ xs ≡ pre ++ (x ∷ xs) = append_assoc pre (x ∷ []) xs in
-    (
+    let same : (pre ++ x ∷ []) ++ xs ≡ pre ++ (x ∷ xs) = append_assoc pre (x ∷ []) xs in (
       ap (λ l. is_listed l x) (sym same) ∙ listed_more (pre ++ x ∷ []) xs x (listed_new pre x),
       subst (λ (l : List ℕ). AllByRecursion (λ y. is_listed l y ≡ true) xs) same (members_from (pre ++ x ∷ []) xs),
     )
@@ -132,7 +131,7 @@ module _ (new : ℕ → Option ℕ) (P : ℕ → Type 0) where
 
 -- Lists of numbers in which each node follows those that it names, and what their listing is.
 module _ (side : Side) (nodes : List Node) (all : AreNodes nodes) where
-  record IsGood (l : List ℕ) : Type 0 where
+  pub record IsGood (l : List ℕ) : Type 0 where
     pub inside : (j : ℕ) → is_listed l j ≡ true → j < length nodes
     pub closed : (j : ℕ) → is_listed l j ≡ true → AllByRecursion (λ i. is_listed l i ≡ true) (named (node_at nodes j))
     pub runs : (i : ℕ) → i < length l → runs_of side (listed nodes l) i ≡ runs_of side nodes (get_or l i 0)
@@ -166,14 +165,14 @@ module _ (side : Side) (nodes : List Node) (all : AreNodes nodes) where
     same_names : (n : Node) → AllByRecursion (λ j. is_listed l j ≡ true) (named n) → renamed at_more n ≡ renamed at_l n
     same_names n h = renamed_same at_more at_l n
         (each_named (λ i. at_more i ≡ at_l i) n
-          (all_weaker (λ j. is_listed l j ≡ true) (λ i. at_more i ≡ at_l i) (λ i e. let at = some_is (place_of i l) e in place_push_old i l (k ∷ []) at.0 at.1 ∙ sym at.1) (named n) h))
+        (all_weaker (λ j. is_listed l j ≡ true) (λ i. at_more i ≡ at_l i) (λ i e. let at = some_is (place_of i l) e in place_push_old i l (k ∷ []) at.0 at.1 ∙ sym at.1) (named n) h))
 
     listed_push : listed nodes (l ++ k ∷ []) ≡ listed nodes l ++ added ∷ []
     listed_push =
         map-append (λ x. renamed at_more (node_at nodes x)) l (k ∷ [])
         ∙ ap (λ ns. ns ++ renamed at_more (node_at nodes k) ∷ [])
-          (map_same (λ x. renamed at_more (node_at nodes x)) (λ x. renamed at_l (node_at nodes x)) l
-            (all_weaker (λ x. is_listed l x ≡ true) (λ x. renamed at_more (node_at nodes x) ≡ renamed at_l (node_at nodes x)) (λ x e. same_names (node_at nodes x) (good.closed x e)) l (members_from [] l)))
+        (map_same (λ x. renamed at_more (node_at nodes x)) (λ x. renamed at_l (node_at nodes x)) l
+        (all_weaker (λ x. is_listed l x ≡ true) (λ x. renamed at_more (node_at nodes x) ≡ renamed at_l (node_at nodes x)) (λ x e. same_names (node_at nodes x) (good.closed x e)) l (members_from [] l)))
         ∙ ap (λ n. listed nodes l ++ n ∷ []) (same_names (node_at nodes k) names)
 
     was_or_is : (j : ℕ) → is_listed (l ++ k ∷ []) j ≡ true → (is_listed l j ≡ true) ⊎ (k ≡ j)
@@ -191,12 +190,12 @@ module _ (side : Side) (nodes : List Node) (all : AreNodes nodes) where
     moves : EachNamed (Moves at_l (runs_of side nodes) (runs_of side (listed nodes l))) (node_at nodes k)
     moves = each_named (Moves at_l (runs_of side nodes) (runs_of side (listed nodes l))) (node_at nodes k)
         (all_weaker (λ j. is_listed l j ≡ true) (Moves at_l (runs_of side nodes) (runs_of side (listed nodes l)))
-          (λ i e. let g = goes_to l good i e in (g.0, g.1, g.2.1)) (named (node_at nodes k)) names)
+        (λ i e. let g = goes_to l good i e in (g.0, g.1, g.2.1)) (named (node_at nodes k)) names)
 
     goes : EachNamed (Goes at_l (λ j. j < length (listed nodes l))) (node_at nodes k)
     goes = each_named (Goes at_l (λ j. j < length (listed nodes l))) (node_at nodes k)
         (all_weaker (λ j. is_listed l j ≡ true) (Goes at_l (λ j. j < length (listed nodes l)))
-          (λ i e. let g = goes_to l good i e in (g.0, g.1, omega (arith, g.2.0, size))) (named (node_at nodes k)) names)
+        (λ i e. let g = goes_to l good i e in (g.0, g.1, omega (arith, g.2.0, size))) (named (node_at nodes k)) names)
 
     good_more : IsGood (l ++ k ∷ [])
     good_more = record {
@@ -208,22 +207,22 @@ module _ (side : Side) (nodes : List Node) (all : AreNodes nodes) where
       runs = λ i b. ap (λ ns. runs_of side ns i) listed_push ∙ elim (cases_lt i (length l)) [
         | inl old ↦ runs_of-push_old side (listed nodes l) added i (omega (arith, size)) ∙ good.runs i old ∙ ap (runs_of side nodes) (sym (get_or_append_left l (k ∷ []) 0 i old))
         | inr past ↦
-          let is : i ≡ length l = omega (arith, length_push l k) in
-          let last : i ≡ length (listed nodes l) = omega (arith, size) in
-          ap (runs_of side (listed nodes l ++ added ∷ [])) last
-          ∙ runs_of-push_new side (listed nodes l) added
-          ∙ moved_runs at_l (runs_of side nodes) (runs_of side (listed nodes l)) side (node_at nodes k) moves
-          ∙ sym (runs_of-node side nodes all k within)
-          ∙ ap (runs_of side nodes) (sym (get_or_push l k 0 i (sym is)))
+            let is : i ≡ length l = omega (arith, length_push l k) in
+            let last : i ≡ length (listed nodes l) = omega (arith, size) in
+            ap (runs_of side (listed nodes l ++ added ∷ [])) last
+            ∙ runs_of-push_new side (listed nodes l) added
+            ∙ moved_runs at_l (runs_of side nodes) (runs_of side (listed nodes l)) side (node_at nodes k) moves
+            ∙ sym (runs_of-node side nodes all k within)
+            ∙ ap (runs_of side nodes) (sym (get_or_push l k 0 i (sym is)))
       ];
       shape = subst AreNodes (sym listed_push)
-        (nodes_push (listed nodes l) added good.shape (record {
-          orderly = orderly_from (length (listed nodes l)) added (each_renamed at_l (λ j. j < length (listed nodes l)) (node_at nodes k) goes);
-          part = part_renamed at_l (λ j. j < length (listed nodes l)) (node_at nodes k) goes ∙ (all.each k (node_at nodes k) (slice_get-get_or nodes k Start within)).part;
-        }));
+          (nodes_push (listed nodes l) added good.shape (record {
+            orderly = orderly_from (length (listed nodes l)) added (each_renamed at_l (λ j. j < length (listed nodes l)) (node_at nodes k) goes);
+            part = part_renamed at_l (λ j. j < length (listed nodes l)) (node_at nodes k) goes ∙ (all.each k (node_at nodes k) (slice_get-get_or nodes k Start within)).part;
+          }));
     }
 
-  good_order : (root : ℕ) → root < length nodes → IsGood (post_order nodes root)
+  pub good_order : (root : ℕ) → root < length nodes → IsGood (post_order nodes root)
   good_order root within = walk_by nodes all IsGood (length nodes) (λ l k b good new names. good_more l k b good names) (suc root) [] root (omega arith) within good_nil
 
   module _ (root : ℕ) (within : root < length nodes) where
@@ -265,8 +264,8 @@ pub renumbered : (nodes : List Node) (order : List ℕ) (places : List (Option �
 renumbered nodes order places known =
     map_same (λ k. renamed (λ j. get_or places j None) (node_at nodes k)) (λ k. renamed (λ j. place_of j order) (node_at nodes k)) order
     (all_weaker (λ k. is_listed order k ≡ true) (λ k. renamed (λ j. get_or places j None) (node_at nodes k) ≡ renamed (λ j. place_of j order) (node_at nodes k))
-      (λ k e. renamed_same (λ j. get_or places j None) (λ j. place_of j order) (node_at nodes k) (each_of (λ j. get_or places j None ≡ place_of j order) known (node_at nodes k)))
-      order (members_from [] order))
+    (λ k e. renamed_same (λ j. get_or places j None) (λ j. place_of j order) (node_at nodes k) (each_of (λ j. get_or places j None ≡ place_of j order) known (node_at nodes k)))
+    order (members_from [] order))
 
 pub made_listing : (nodes : List Node) (root : ℕ) (made : List Node) (order order' : List ℕ) (places places' : List (Option ℕ)) → made ≡ map (λ k. renamed (λ j. get_or places' j None) (node_at nodes k)) order'
     → order' ≡ order → places' ≡ places → order ≡ post_order nodes root → KnowsPlaces places order → made ≡ listing_of nodes root
@@ -289,21 +288,21 @@ pub listing_tight : {W Map : Type 0} (s : Operations W Map) (value : List ℕ �
     → AreTight s value side nodes (post_order nodes root) → IsTight s value side (listing_of nodes root)
 listing_tight {W = W} s value side nodes root all within tight = record {
   each = λ k n at.
-    let order : List ℕ = post_order nodes root in
-    let good = good_order side nodes all root within in
-    let within_list : k < length order = omega (arith, slice_get_within (listing_of nodes root) k n at, listing_size side nodes all root within) in
-    let x : ℕ = get_or order k 0 in
-    let is_listed_x : is_listed order x ≡ true = All-from_recursion (λ y. is_listed order y ≡ true) order (members_from [] order) k 0 within_list in
-    let new : ℕ → Option ℕ = λ j. place_of j order in
-    let made : ℕ → Node = λ y. renamed new (node_at nodes y) in
-    let is : made x ≡ n = same_Some (made x) n (ap (option_map made) (sym (slice_get-get_or order k 0 within_list)) ∙ sym (slice_get-map made order k) ∙ at) in
-    let worth : List (List ℕ) → W = λ runs. combination s (map value runs) in
-    let P : ℕ → Type 0 = λ b. (j : ℕ) × (new b ≡ Some j) × (worth_of s value side (listing_of nodes root) j ≡ worth_of s value side nodes b) in
-    let Q : Node → Type 0 = λ m. IsTightNode (worth_of s value side (listing_of nodes root)) s.zero k m in
-    subst Q is
-    (tight_renamed (worth_of s value side nodes) (worth_of s value side (listing_of nodes root)) s.zero new k x (node_at nodes x)
+      let order : List ℕ = post_order nodes root in
+      let good = good_order side nodes all root within in
+      let within_list : k < length order = omega (arith, slice_get_within (listing_of nodes root) k n at, listing_size side nodes all root within) in
+      let x : ℕ = get_or order k 0 in
+      let is_listed_x : is_listed order x ≡ true = All-from_recursion (λ y. is_listed order y ≡ true) order (members_from [] order) k 0 within_list in
+      let new : ℕ → Option ℕ = λ j. place_of j order in
+      let made : ℕ → Node = λ y. renamed new (node_at nodes y) in
+      let is : made x ≡ n = same_Some (made x) n (ap (option_map made) (sym (slice_get-get_or order k 0 within_list)) ∙ sym (slice_get-map made order k) ∙ at) in
+      let worth : List (List ℕ) → W = λ runs. combination s (map value runs) in
+      let P : ℕ → Type 0 = λ b. (j : ℕ) × (new b ≡ Some j) × (worth_of s value side (listing_of nodes root) j ≡ worth_of s value side nodes b) in
+      let Q : Node → Type 0 = λ m. IsTightNode (worth_of s value side (listing_of nodes root)) s.zero k m in
+      subst Q is
+      (tight_renamed (worth_of s value side nodes) (worth_of s value side (listing_of nodes root)) s.zero new k x (node_at nodes x)
       (ap worth (good.runs k within_list))
       (each_named P (node_at nodes x)
-        (all_weaker (λ b. is_listed order b ≡ true) P (λ b e. let g = goes_to side nodes all order good b e in (g.0, g.1, ap worth g.2.1)) (named (node_at nodes x)) (good.closed x is_listed_x)))
+      (all_weaker (λ b. is_listed order b ≡ true) P (λ b e. let g = goes_to side nodes all order good b e in (g.0, g.1, ap worth g.2.1)) (named (node_at nodes x)) (good.closed x is_listed_x)))
       (tight x is_listed_x));
 }

@@ -61,8 +61,7 @@ part_all P (Some k) h = h.0
 pub each_named : (P : ℕ → Type 0) (n : Node) → AllByRecursion P (named n) → EachNamed P n
 each_named P Start h = tt
 each_named P (Lower before rule first second) h =
-    let rest = all_right P (option_to_list before) (option_to_list first ++ option_to_list second) h in
-    (
+    let rest = all_right P (option_to_list before) (option_to_list first ++ option_to_list second) h in (
       part_all P before (all_left P (option_to_list before) (option_to_list first ++ option_to_list second) h),
       part_all P first (all_left P (option_to_list first) (option_to_list second) rest),
       part_all P second (all_right P (option_to_list first) (option_to_list second) rest),
@@ -97,8 +96,8 @@ nodes_push nodes n all new = record {
   each = λ k m at. elim (get_push nodes n m k at) [
     | inl old ↦ all.each k m old
     | inr is ↦
-      let P : ℕ → Type 0 = λ i. IsNodeAt i m in
-      let Q : Node → Type 0 = λ o. IsNodeAt (length nodes) o in
-      subst P (sym is.0) (subst Q is.1 new)
+        let P : ℕ → Type 0 = λ i. IsNodeAt i m in
+        let Q : Node → Type 0 = λ o. IsNodeAt (length nodes) o in
+        subst P (sym is.0) (subst Q is.1 new)
   ];
 }

@@ -40,14 +40,14 @@ pub place_within : (k : ℕ) (xs : List ℕ) (i d : ℕ) → place_of k xs ≡ S
 place_within k [] i d e = cc
 place_within k (x ∷ xs) i d e = elim (cases_Bool (nat_eq x k)) [
   | inl is ↦
-    let first : 0 ≡ i = same_Some 0 i (sym (cond-true (nat_eq x k) (Some 0) (next (place_of k xs)) is) ∙ e) in
-    (omega arith, ap (λ j. get_or (x ∷ xs) j d) (sym first) ∙ eqb-true x k is)
+      let first : 0 ≡ i = same_Some 0 i (sym (cond-true (nat_eq x k) (Some 0) (next (place_of k xs)) is) ∙ e) in
+      (omega arith, ap (λ j. get_or (x ∷ xs) j d) (sym first) ∙ eqb-true x k is)
   | inr differs ↦ elim (place_of k xs) as (λ o. place_of k xs ≡ o → next o ≡ Some i → (i < length (x ∷ xs)) × (get_or (x ∷ xs) i d ≡ k)) [
     | None ↦ λ was f. cc
     | Some j ↦ λ was f.
-      let later : suc j ≡ i = let g : j + 1 ≡ i = same_Some (j + 1) i f in omega arith in
-      let before = place_within k xs j d was in
-      (omega (arith, before.0), ap (λ m. get_or (x ∷ xs) m d) (sym later) ∙ before.1)
+        let later : suc j ≡ i = let g : j + 1 ≡ i = same_Some (j + 1) i f in omega arith in
+        let before = place_within k xs j d was in
+        (omega (arith, before.0), ap (λ m. get_or (x ∷ xs) m d) (sym later) ∙ before.1)
   ] refl (sym (cond-false (nat_eq x k) (Some 0) (next (place_of k xs)) differs) ∙ e)
 ]
 

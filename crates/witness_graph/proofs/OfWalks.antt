@@ -16,7 +16,7 @@ use Rattle.witness_graph.proofs.OfNodes.{all_weaker, names_earlier}
 use Rattle.witness_graph.proofs.OfPlaces.{place_push_old, place_push_new, place_push_other, some_is, none_is, listed_more, listed_new}
 
 -- a fold keeps what each of its steps keeps
-fold_keeps : (f : List ℕ → ℕ → List ℕ) (Q : List ℕ → Type 0) (ks : List ℕ) (l : List ℕ) → AllByRecursion (λ k. (m : List ℕ) → Q m → Q (f m k)) ks → Q l → Q (fold f l ks)
+pub fold_keeps : (f : List ℕ → ℕ → List ℕ) (Q : List ℕ → Type 0) (ks : List ℕ) (l : List ℕ) → AllByRecursion (λ k. (m : List ℕ) → Q m → Q (f m k)) ks → Q l → Q (fold f l ks)
 fold_keeps f Q [] l steps q = q
 fold_keeps f Q (k ∷ ks) l steps q = fold_keeps f Q ks (f l k) steps.1 (steps.0 l q)
 
@@ -81,14 +81,14 @@ falls_length limit [] l f = omega arith
 falls_length limit (x ∷ xs) l f = omega (arith, falls_length x xs l f.2, f.0)
 
 module _ (nodes : List Node) where
-  abbrev names : ℕ → List ℕ
+  abbrev pub names : ℕ → List ℕ
   names k = named (node_at nodes k)
 
-  walk_step : (d : ℕ) (l : List ℕ) (k : ℕ) → walk nodes (suc d) l k ≡ cond (is_listed l k) l (fold (walk nodes d) l (names k) ++ k ∷ [])
+  pub walk_step : (d : ℕ) (l : List ℕ) (k : ℕ) → walk nodes (suc d) l k ≡ cond (is_listed l k) l (fold (walk nodes d) l (names k) ++ k ∷ [])
   unfolding walk
   walk_step d l k = refl
 
-  walk_none : (l : List ℕ) (k : ℕ) → walk nodes zero l k ≡ l
+  pub walk_none : (l : List ℕ) (k : ℕ) → walk nodes zero l k ≡ l
   unfolding walk
   walk_none l k = refl
 
@@ -99,11 +99,11 @@ module _ (nodes : List Node) where
       let Q : List ℕ → Type 0 = λ m. is_listed m j ≡ true in
       subst Q (sym (walk_step d l k))
       (cond_both (is_listed l k) l (fold (walk nodes d) l (names k) ++ k ∷ []) Q (λ _. h)
-        (λ _. listed_more (fold (walk nodes d) l (names k)) (k ∷ []) j
-          (fold_keeps (walk nodes d) Q (names k) l (all_of (λ i. (m : List ℕ) → Q m → Q (walk nodes d m i)) (λ i m q. walk_keeps d m i j q) (names k)) h)))
+      (λ _. listed_more (fold (walk nodes d) l (names k)) (k ∷ []) j
+      (fold_keeps (walk nodes d) Q (names k) l (all_of (λ i. (m : List ℕ) → Q m → Q (walk nodes d m i)) (λ i m q. walk_keeps d m i j q) (names k)) h)))
 
   -- the walked node is listed
-  walk_lists : (d : ℕ) (l : List ℕ) (k : ℕ) → is_listed (walk nodes (suc d) l k) k ≡ true
+  pub walk_lists : (d : ℕ) (l : List ℕ) (k : ℕ) → is_listed (walk nodes (suc d) l k) k ≡ true
   walk_lists d l k =
       let Q : List ℕ → Type 0 = λ m. is_listed m k ≡ true in
       subst Q (sym (walk_step d l k))
@@ -120,8 +120,8 @@ module _ (nodes : List Node) (all : AreNodes nodes) where
   walk_deeper (suc d) (suc e) l k h h' =
       walk_step nodes d l k
       ∙ ap (λ m. cond (is_listed l k) l (m ++ k ∷ []))
-        (fold_same (walk nodes d) (walk nodes e) (names nodes k) l
-          (all_weaker (λ j. j < k) (λ j. (m : List ℕ) → walk nodes d m j ≡ walk nodes e m j) (λ j b m. walk_deeper d e m j (omega arith) (omega arith)) (names nodes k) (below k)))
+      (fold_same (walk nodes d) (walk nodes e) (names nodes k) l
+      (all_weaker (λ j. j < k) (λ j. (m : List ℕ) → walk nodes d m j ≡ walk nodes e m j) (λ j b m. walk_deeper d e m j (omega arith) (omega arith)) (names nodes k) (below k)))
       ∙ sym (walk_step nodes e l k)
 
   abbrev full : List ℕ → ℕ → List ℕ
@@ -131,8 +131,8 @@ module _ (nodes : List Node) (all : AreNodes nodes) where
   full_step l k =
       walk_step nodes k l k
       ∙ ap (λ m. cond (is_listed l k) l (m ++ k ∷ []))
-        (fold_same (walk nodes k) full (names nodes k) l
-          (all_weaker (λ j. j < k) (λ j. (m : List ℕ) → walk nodes k m j ≡ full m j) (λ j b m. walk_deeper k (suc j) m j b (omega arith)) (names nodes k) (below k)))
+      (fold_same (walk nodes k) full (names nodes k) l
+      (all_weaker (λ j. j < k) (λ j. (m : List ℕ) → walk nodes k m j ≡ full m j) (λ j b m. walk_deeper k (suc j) m j b (omega arith)) (names nodes k) (below k)))
 
   -- a walk leaves out what is above its node
   walk_below : (d : ℕ) (l : List ℕ) (k j : ℕ) → k < j → place_of j l ≡ None → place_of j (walk nodes d l k) ≡ None
@@ -141,9 +141,9 @@ module _ (nodes : List Node) (all : AreNodes nodes) where
       let Q : List ℕ → Type 0 = λ m. place_of j m ≡ None in
       subst Q (sym (walk_step nodes d l k))
       (cond_both (is_listed l k) l (fold (walk nodes d) l (names nodes k) ++ k ∷ []) Q (λ _. h)
-        (λ _. place_push_other j k (fold (walk nodes d) l (names nodes k)) (λ e. let f : k < j = b in absurd (omega arith))
-          ∙ fold_keeps (walk nodes d) Q (names nodes k) l
-            (all_weaker (λ i. i < k) (λ i. (m : List ℕ) → Q m → Q (walk nodes d m i)) (λ i c m q. walk_below d m i j (omega arith) q) (names nodes k) (below k)) h))
+      (λ _. place_push_other j k (fold (walk nodes d) l (names nodes k)) (λ e. let f : k < j = b in absurd (omega arith))
+      ∙ fold_keeps (walk nodes d) Q (names nodes k) l
+      (all_weaker (λ i. i < k) (λ i. (m : List ℕ) → Q m → Q (walk nodes d m i)) (λ i c m q. walk_below d m i j (omega arith) q) (names nodes k) (below k)) h))
 
   lists_within : (d : ℕ) (l : List ℕ) (k : ℕ) → k < d → is_listed (walk nodes d l k) k ≡ true
   lists_within zero l k h = absurd (omega arith)
@@ -158,8 +158,7 @@ module _ (nodes : List Node) (all : AreNodes nodes) where
     fold_by d (k ∷ ks) l bounds steps p =
         let next : List ℕ = walk nodes d l k in
         let rest = fold_by d ks next bounds.1 steps.1 (steps.0 l p) in
-        let Q : List ℕ → Type 0 = λ m. is_listed m k ≡ true in
-        (
+        let Q : List ℕ → Type 0 = λ m. is_listed m k ≡ true in (
           rest.0,
           (
             fold_keeps (walk nodes d) Q ks next (all_of (λ i. (m : List ℕ) → Q m → Q (walk nodes d m i)) (λ i m q. walk_keeps nodes d m i k q) ks) (lists_within d l k bounds.0),
@@ -175,13 +174,13 @@ module _ (nodes : List Node) (all : AreNodes nodes) where
         (elim (cases_Bool (is_listed l k)) [
           | inl e ↦ subst P (sym (cond-true (is_listed l k) l (fold (walk nodes d) l (names nodes k) ++ k ∷ []) e)) p
           | inr e ↦
-            let got = fold_by d (names nodes k) l
+              let got = fold_by d (names nodes k) l
               (all_weaker (λ j. j < k) (λ j. j < d) (λ j c. omega arith) (names nodes k) (below k))
               (all_weaker (λ j. j < k) (λ j. (m : List ℕ) → P m → P (walk nodes d m j)) (λ j c m q. walk_by d m j (omega arith) (omega arith) q) (names nodes k) (below k)) p in
-            subst P (sym (cond-false (is_listed l k) l (fold (walk nodes d) l (names nodes k) ++ k ∷ []) e))
-            (step (fold (walk nodes d) l (names nodes k)) k b got.0
+              subst P (sym (cond-false (is_listed l k) l (fold (walk nodes d) l (names nodes k) ++ k ∷ []) e))
+              (step (fold (walk nodes d) l (names nodes k)) k b got.0
               (fold_keeps (walk nodes d) Q (names nodes k) l
-                (all_weaker (λ j. j < k) (λ j. (m : List ℕ) → Q m → Q (walk nodes d m j)) (λ j c m q. walk_below d m j k c q) (names nodes k) (below k)) (none_is (place_of k l) e))
+              (all_weaker (λ j. j < k) (λ j. (m : List ℕ) → Q m → Q (walk nodes d m j)) (λ j c m q. walk_below d m j k c q) (names nodes k) (below k)) (none_is (place_of k l) e))
               got.1)
         ])
 
@@ -196,12 +195,12 @@ module _ (nodes : List Node) (all : AreNodes nodes) where
   fold_first l p [] e = cc
   fold_first l p (k ∷ ks) e = elim (cases_Bool (is_listed l k)) [
     | inl is ↦
-      ap (λ m. fold full m ks) (full_listed l k is)
-      ∙ fold_first l p ks (sym (cond-true (is_listed l k) (first_new (is_listed l) ks) (Some k) is) ∙ e)
-      ∙ ap (λ m. fold full m ks) (sym (full_listed (full l p) k (walk_keeps nodes (suc p) l p k is)))
+        ap (λ m. fold full m ks) (full_listed l k is)
+        ∙ fold_first l p ks (sym (cond-true (is_listed l k) (first_new (is_listed l) ks) (Some k) is) ∙ e)
+        ∙ ap (λ m. fold full m ks) (sym (full_listed (full l p) k (walk_keeps nodes (suc p) l p k is)))
     | inr new ↦
-      let same : k ≡ p = same_Some k p (sym (cond-false (is_listed l k) (first_new (is_listed l) ks) (Some k) new) ∙ e) in
-      ap (λ m. fold full m ks) (sym (full_listed (full l k) k (walk_lists nodes k l k)) ∙ ap (λ q. full (full l q) k) same)
+        let same : k ≡ p = same_Some k p (sym (cond-false (is_listed l k) (first_new (is_listed l) ks) (Some k) new) ∙ e) in
+        ap (λ m. fold full m ks) (sym (full_listed (full l k) k (walk_lists nodes k l k)) ∙ ap (λ q. full (full l q) k) same)
   ]
 
   fold_all : (l : List ℕ) (ks : List ℕ) → first_new (is_listed l) ks ≡ None → fold full l ks ≡ l
@@ -243,9 +242,9 @@ module _ (nodes : List Node) (all : AreNodes nodes) (root : ℕ) where
         let first : first_new (is_listed order) (named (node_at nodes t)) ≡ Some p = sym (first_as_listed (named (node_at nodes t))) ∙ e in
         record {
           finishes = finished_push nodes all (stack ++ t ∷ []) p order ∙ finished_push nodes all stack t (full nodes all order p)
-            ∙ ap (finished nodes stack) (descend nodes all order t p top.1 first) ∙ sym (finished_push nodes all stack t order) ∙ w.finishes;
+              ∙ ap (finished nodes stack) (descend nodes all order t p top.1 first) ∙ sym (finished_push nodes all stack t order) ∙ w.finishes;
           falls = falls_push (root + 1) stack t p order w.falls (first_in (is_listed order) (λ j. j < t) p (named (node_at nodes t)) first (names_earlier nodes all t))
-            (none_is (place_of p order) (first_unknown (is_listed order) p (named (node_at nodes t)) first));
+              (none_is (place_of p order) (first_unknown (is_listed order) p (named (node_at nodes t)) first));
           known = w.known;
           size = w.size;
         }
@@ -259,13 +258,13 @@ module _ (nodes : List Node) (all : AreNodes nodes) (root : ℕ) where
           falls = falls_pop (root + 1) stack t order w.falls;
           known = λ k. elim (cases_Bool (nat_eq k t)) [
             | inl e ↦
-              let is : k ≡ t = eqb-true k t e in
-              get_or-set_at places t k (Some (length order)) None is (omega (arith, w.size, top.0))
-              ∙ sym (place_push_new t order top.1) ∙ ap (λ j. place_of j (order ++ t ∷ [])) (sym is)
+                let is : k ≡ t = eqb-true k t e in
+                get_or-set_at places t k (Some (length order)) None is (omega (arith, w.size, top.0))
+                ∙ sym (place_push_new t order top.1) ∙ ap (λ j. place_of j (order ++ t ∷ [])) (sym is)
             | inr e ↦
-              get_or-set_other places t k (Some (length order)) None (λ is. let f : true ≡ false = sym (eq-eqb k t is) ∙ e in cc)
-              ∙ w.known k
-              ∙ sym (place_push_other k t order (λ is. let f : true ≡ false = sym (eq-eqb k t (sym is)) ∙ e in cc))
+                get_or-set_other places t k (Some (length order)) None (λ is. let f : true ≡ false = sym (eq-eqb k t is) ∙ e in cc)
+                ∙ w.known k
+                ∙ sym (place_push_other k t order (λ is. let f : true ≡ false = sym (eq-eqb k t (sym is)) ∙ e in cc))
           ];
           size = length-set places t (Some (length order)) ∙ w.size;
         }

@@ -21,9 +21,9 @@ walk-preserved-in-Continue-branch-4 c =
     let P : List ℕ → Type 0 = λ s. IsWalking c.args.nodes.now c.args.root s c.walk.order.items c.walk.places.items in
     subst P (sym (deeper c))
     (walking_down c.args.nodes.now c.requires.nodes c.args.root c.pop.new.self.items c.in-Some.number c.walk.order.items c.walk.places.items w c.in-Some-next_unplaced.part
-      (ap (λ ps. first_new (λ j. is_some (slice_index_or ps j None)) (named (node_at c.args.nodes.now c.in-Some.number))) (sym c.deref.ensures.value)
-        ∙ ap (λ n. first_new (λ j. is_some (slice_index_or c.deref.result.now j None)) (named n)) (sym c.read_node.ensures)
-        ∙ sym c.next_unplaced.ensures ∙ c.in-Some-next_unplaced.is))
+    (ap (λ ps. first_new (λ j. is_some (slice_index_or ps j None)) (named (node_at c.args.nodes.now c.in-Some.number))) (sym c.deref.ensures.value)
+    ∙ ap (λ n. first_new (λ j. is_some (slice_index_or c.deref.result.now j None)) (named n)) (sym c.read_node.ensures)
+    ∙ sym c.next_unplaced.ensures ∙ c.in-Some-next_unplaced.is))
 
 pub walk-smaller-in-Continue-branch-4 : goal.walk-smaller-in-Continue-branch-4
 walk-smaller-in-Continue-branch-4 c =
@@ -41,7 +41,7 @@ walk-smaller c =
     let top = walking_top c.args.nodes.now c.requires.nodes c.args.root c.pop.new.self.items c.in-Some.number c.walk.order.items c.walk.places.items w in
     smaller_up (sum_by lacks c.walk.places.items) _ c.args.root (length c.walk.stack.items) (length c.pop.new.self.items)
     (lacks_less c.walk.places.items c.in-Some.number c.len.result (omega (arith, w.size))
-      (walking_lacks c.args.nodes.now c.args.root c.pop.new.self.items c.walk.order.items c.in-Some.number c.walk.places.items w))
+    (walking_lacks c.args.nodes.now c.args.root c.pop.new.self.items c.walk.order.items c.in-Some.number c.walk.places.items w))
 
 pub walk-preserved : goal.walk-preserved
 walk-preserved c =
@@ -51,7 +51,7 @@ walk-preserved c =
     let Q : ℕ → Type 0 = λ i. IsWalking c.args.nodes.now c.args.root c.pop.new.self.items (c.walk.order.items ++ c.in-Some.number ∷ []) (set c.walk.places.items c.in-Some.number (Some i)) in
     subst P (sym c.in_ok-push-in-None.ensures.items)
     (subst Q (sym count)
-      (walking_up c.args.nodes.now c.requires.nodes c.args.root c.pop.new.self.items c.in-Some.number c.walk.order.items c.walk.places.items w
-        (ap (λ ps. first_new (λ j. is_some (slice_index_or ps j None)) (named (node_at c.args.nodes.now c.in-Some.number))) (sym c.deref.ensures.value)
-          ∙ ap (λ n. first_new (λ j. is_some (slice_index_or c.deref.result.now j None)) (named n)) (sym c.read_node.ensures)
-          ∙ sym c.next_unplaced.ensures ∙ c.in-None.is)))
+    (walking_up c.args.nodes.now c.requires.nodes c.args.root c.pop.new.self.items c.in-Some.number c.walk.order.items c.walk.places.items w
+    (ap (λ ps. first_new (λ j. is_some (slice_index_or ps j None)) (named (node_at c.args.nodes.now c.in-Some.number))) (sym c.deref.ensures.value)
+    ∙ ap (λ n. first_new (λ j. is_some (slice_index_or c.deref.result.now j None)) (named n)) (sym c.read_node.ensures)
+    ∙ sym c.next_unplaced.ensures ∙ c.in-None.is)))

@@ -14,9 +14,9 @@ replaced g c = c.replace.ensures.set
 
 pub invariant_of-self : goal.invariant_of-self
 invariant_of-self g c = (
-    subst HasDistinctPlaces (sym (replaced g c)) (distinct-lowered c.args.place c.args.weight c.args.node c.self.inside.entries.items c.self.invariant.0),
-    omega (arith, c.replace.ensures.len, c.replace.ensures.room, c.self.invariant.1),
-  )
+  subst HasDistinctPlaces (sym (replaced g c)) (distinct-lowered c.args.place c.args.weight c.args.node c.self.inside.entries.items c.self.invariant.0),
+  omega (arith, c.replace.ensures.len, c.replace.ensures.room, c.self.invariant.1),
+)
 
 pub returns-in-Some-clause-ok : goal.returns-in-Some-clause-ok
 returns-in-Some-clause-ok g c = replaced g c ∙ ap (λ v. lowered c.args.place c.args.weight c.args.node v.transitions) c.self.view_is
@@ -39,9 +39,9 @@ added g c = c.in_ok-add-in-None.ensures.ok
 
 pub invariant_of-self-in-None : goal.invariant_of-self-in-None
 invariant_of-self-in-None g c = (
-    subst HasDistinctPlaces (sym (added g c)) (distinct-lowered c.args.place c.args.weight c.args.node c.self.inside.entries.items c.self.invariant.0),
-    c.add.ensures.room,
-  )
+  subst HasDistinctPlaces (sym (added g c)) (distinct-lowered c.args.place c.args.weight c.args.node c.self.inside.entries.items c.self.invariant.0),
+  c.add.ensures.room,
+)
 
 pub returns-in_ok-add-in-None-clause-ok : goal.returns-in_ok-add-in-None-clause-ok
 returns-in_ok-add-in-None-clause-ok g c = added g c ∙ ap (λ v. lowered c.args.place c.args.weight c.args.node v.transitions) c.self.view_is
@@ -66,6 +66,6 @@ returns-in_err-add-in-None-clause-present g c = λ h.
 pub returns-in_err-add-in-None-clause-room : goal.returns-in_err-add-in-None-clause-room
 returns-in_err-add-in-None-clause-room g c = λ h.
     let f : false ≡ true = c.in_err-add-in-None.ensures.waited
-      (waits_beside c.args.place (places_of c.self.inside.entries.items) c.self.inside.waiting.items
-        (missed_has c.args.place c.self.inside.entries.items (ap (λ v. index_at c.args.place v.transitions) c.self.view_is ∙ sym c.find.ensures ∙ c.in-None.is)).0
-        (ap (λ v. has_place c.args.place v.room) c.self.view_is ∙ h)) in cc
+    (waits_beside c.args.place (places_of c.self.inside.entries.items) c.self.inside.waiting.items
+    (missed_has c.args.place c.self.inside.entries.items (ap (λ v. index_at c.args.place v.transitions) c.self.view_is ∙ sym c.find.ensures ∙ c.in-None.is)).0
+    (ap (λ v. has_place c.args.place v.room) c.self.view_is ∙ h)) in cc

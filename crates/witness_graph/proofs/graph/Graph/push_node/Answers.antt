@@ -7,4 +7,4 @@ pub invariant_of-self-2 : goal.invariant_of-self-2
 invariant_of-self-2 c =
     subst AreNodes (sym c.in_ok-push.ensures.items)
     (nodes_push c.self.inside.nodes.items c.args.node c.self.invariant
-      (subst (λ (k : ℕ). IsNodeAt k c.args.node) (ap (λ v. length v.nodes) (sym c.self.view_is)) c.requires))
+    (subst (λ (k : ℕ). IsNodeAt k c.args.node) (ap (λ v. length v.nodes) (sym c.self.view_is)) c.requires))
