@@ -1,9 +1,8 @@
 -- What a list of transitions has at a place.
-use Rattle.std.proofs.Common.{◌++◌, set, suc, ◌≡◌, ℕ, ◌+◌, ◌<◌, ◌≤◌, true, false, List, [], ◌∷◌, length, get_or, drop, refl, sym, ap, ◌∙◌, inl, inr, arith}
-use Rattle.std.specs.Prelude.{Option, None, Some, cond, option_map, unwrap_or}
+use Rattle.std.proofs.Common.{◌++◌, set, suc, ◌≡◌, ℕ, ◌+◌, true, false, List, [], ◌∷◌, length, refl, sym, ap, ◌∙◌, subst, inl, inr, arith}
+use Rattle.std.specs.Prelude.{Option, None, Some, cond, option_map, option_and_then, unwrap_or, slice_get}
 use Rattle.std.proofs.lemmas.Bool.{cond-true, cond-false, cond_both, cases_Bool}
 use Rattle.std.proofs.lemmas.Option.{same_Some}
-use Rattle.std.proofs.lemmas.List.{at_drop_more, at_drop_all}
 use Rattle.weighted_automata.specs.declared.place.Place.{Place}
 use Rattle.weighted_automata.specs.declared.transitions.Entry.{Entry}
 use Rattle.weighted_automata.specs.Places.{same_place}
@@ -104,3 +103,27 @@ module _ {S W Map : Type 0} (x : Place) (w : W) (n : ℕ) where
             ∙ ap Some (plus_one (index_at x ts) (length ts))
             ∙ ap (λ o. Some (unwrap_or o (length (u ∷ ts)))) (sym (cond-false (same_place u.place x) (Some 0) (next (index_at x ts)) e))
       ]
+
+shifted : {X : Type 0} (x : X) (xs : List X) (o : Option ℕ) → option_and_then (slice_get (x ∷ xs)) (option_map (λ k. k + 1) o) ≡ option_and_then (slice_get xs) o
+shifted x xs None = refl
+shifted x xs (Some k) = let next : k + 1 ≡ suc k = omega arith in ap (slice_get (x ∷ xs)) next
+
+-- what stands where a place stands is the transition there
+pub at_index_at : {S W Map : Type 0} (x : Place) (ts : List (Entry S W Map)) → option_and_then (slice_get ts) (index_at x ts) ≡ entry_at x ts
+at_index_at x [] = refl
+at_index_at x (u ∷ ts) = elim (same_place u.place x) as (λ b. option_and_then (slice_get (u ∷ ts)) (cond b (Some 0) (option_map (λ k. k + 1) (index_at x ts))) ≡ cond b (Some u) (entry_at x ts)) [
+  | true ↦ refl
+  | false ↦ shifted u ts (index_at x ts) ∙ at_index_at x ts
+]
+
+-- as the loop's answer has it, over the transitions that it reads
+module _ {S W Map : Type 0} (x : Place) (ts us : List (Entry S W Map)) where
+  pub entry_found : (k : ℕ) → ts ≡ us → Some k ≡ index_at x ts → slice_get us k ≡ entry_at x us
+  entry_found k same e =
+      let P : List (Entry S W Map) → Type 0 = λ vs. slice_get vs k ≡ entry_at x vs in
+      subst P same (ap (option_and_then (slice_get ts)) e ∙ at_index_at x ts)
+
+  pub entry_missed : ts ≡ us → None ≡ index_at x ts → None ≡ entry_at x us
+  entry_missed same e =
+      let P : List (Entry S W Map) → Type 0 = λ vs. None ≡ entry_at x vs in
+      subst P same (ap (option_and_then (slice_get ts)) e ∙ at_index_at x ts)

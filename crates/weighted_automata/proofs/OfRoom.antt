@@ -1,6 +1,6 @@
 -- Lists of places, and what waits.
 use Rattle.std.proofs.Common.{suc, ◌≡◌, ℕ, ◌+◌, ◌<◌, ◌≤◌, true, false, List, [], ◌∷◌, ◌++◌, length, get_or, take, drop, map, refl, sym, ap, ◌∙◌, arith}
-use Rattle.std.specs.Prelude.{IsTrue, Option, None, Some, cond, option_map, ◌||◌, ◌⊎◌, is_some, Result, Ok, Err, OnErr}
+use Rattle.std.specs.Prelude.{Option, None, Some, cond, option_map, ◌||◌, ◌⊎◌, is_some, Result, Ok, Err, OnErr}
 use Rattle.std.proofs.Common.{inl, inr}
 use Rattle.std.proofs.lemmas.Bool.{cond-true, cond-false, cond_both, cases_Bool}
 use Rattle.std.proofs.lemmas.Option.{same_Some}

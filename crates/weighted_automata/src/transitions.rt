@@ -69,7 +69,8 @@ impl<S: Semiring> Transitions<S> {
 
     /// Where the transition at a place stands.
     pub fn find(&self, place: Place) -> Option<u64>
-        ensures { result ≡ index_at place self.now.transitions }
+        ensures index { result ≡ index_at place self.now.transitions }
+        ensures entry { option_and_then (slice_get self.now.transitions) result ≡ entry_at place self.now.transitions }
     {
         for (i, entry) in self.entries.iter().enumerate() {
             if entry.place.is(place) {

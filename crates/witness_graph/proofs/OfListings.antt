@@ -1,25 +1,25 @@
 -- A listing has the runs of its root.
-use Rattle.std.proofs.Common.{◌≡◌, ℕ, zero, suc, ◌+◌, ◌-◌, ◌<◌, ◌≤◌, Bool, true, false, List, [], ◌∷◌, ◌++◌, length, get_or, take, drop, map, refl, sym, ap, ◌∙◌, subst, inl, inr, arith}
-use Rattle.std.specs.Prelude.{Option, None, Some, IfSome, IsTrue, is_some, cond, ◌||◌, option_map, option_and_then, slice_get, ◌≢◌, ◌⊎◌}
+use Rattle.std.proofs.Common.{◌≡◌, ℕ, suc, ◌+◌, ◌-◌, ◌<◌, true, List, [], ◌∷◌, ◌++◌, length, get_or, take, drop, map, refl, sym, ap, ◌∙◌, subst, inl, inr, arith}
+use Rattle.std.specs.Prelude.{Option, None, Some, IfSome, is_some, ◌||◌, option_map, option_and_then, ◌⊎◌}
 use Rattle.std.specs.List.{AllByRecursion}
 use Rattle.std.specs.Prelude.{All}
 use Rattle.std.proofs.lemmas.List.Elements.{All-from_recursion}
 use Rattle.witness_graph.specs.Walking.{KnowsPlaces}
 use Rattle.std.proofs.lemmas.List.{append-nil, append_assoc, length_push, length-take-le, take-append-drop, take_more, map-append, length-map, get_or_append_left, get_or_push}
 use Rattle.std.proofs.lemmas.Bool.{cases_lt, cases_eq}
-use Rattle.std.proofs.lemmas.Option.{same_Some, slice_get-map, slice_get_within, slice_get-get_or, get_or_from_slice_get}
+use Rattle.std.proofs.lemmas.Option.{same_Some, slice_get-map, slice_get_within, slice_get-get_or}
 use Rattle.semiring_laws.specs.Semiring.{Operations}
 use Rattle.semiring_laws.specs.Combination.{combination}
 use Rattle.witness_graph.specs.declared.node.Node.{Node}
 use Rattle.witness_graph.specs.declared.node.Node.TheVariants.{Start, Lower}
 use Rattle.witness_graph.specs.declared.node.Side.{Side}
-use Rattle.witness_graph.specs.Nodes.{node_at, named, EachNamed, has_part, IsNodeAt, AreNodes, IsListing}
+use Rattle.witness_graph.specs.Nodes.{node_at, named, EachNamed, has_part, AreNodes, IsListing}
 use Rattle.witness_graph.specs.Runs.{runs_of, runs_over, part_runs, earlier_runs, rule_runs, parts_runs}
 use Rattle.witness_graph.specs.Tight.{worth_of, IsTightNode, IsTight, AreTight}
-use Rattle.witness_graph.specs.Order.{place_of, is_listed, walk, post_order, renamed, listed, listing_of}
+use Rattle.witness_graph.specs.Order.{place_of, is_listed, post_order, renamed, listed, listing_of}
 use Rattle.witness_graph.proofs.OfRuns.{runs_of-push_old, runs_of-push_new}
 use Rattle.witness_graph.proofs.OfNodes.{all_weaker, each_named, names_earlier, orderly_from, nodes_push}
-use Rattle.witness_graph.proofs.OfPlaces.{place_push_other, place_push_old, place_push_new, place_within, some_is, listed_more, listed_new}
+use Rattle.witness_graph.proofs.OfPlaces.{place_push_other, place_push_old, place_within, some_is, listed_more, listed_new}
 use Rattle.witness_graph.proofs.OfWalks.{walk_by, walk_ends}
 
 -- the number has a new one, at which the runs are the same

@@ -1,6 +1,6 @@
 -- The post-order has each node that is reached, once.
 use Rattle.std.proofs.Common.{◌≡◌, ℕ, zero, suc, ◌<◌, true, false, List, [], ◌∷◌, ◌++◌, fold, refl, sym, ap, ◌∙◌, subst, inl, inr, arith}
-use Rattle.std.specs.Prelude.{None, Some, is_some, option_map, cond, nat_eq, IsTrue, ◌↔◌}
+use Rattle.std.specs.Prelude.{None, Some, is_some, option_map, nat_eq}
 use Rattle.std.specs.List.{AllByRecursion}
 use Rattle.std.proofs.lemmas.Bool.{cond_both, cond-true, cond-false, cases_Bool, cases_eq, eqb-true, eq-eqb}
 use Rattle.witness_graph.specs.declared.node.Node.{Node}
@@ -10,7 +10,7 @@ use Rattle.std.specs.Prelude.{length, slice_get, ◌+◌, ◌-◌}
 use Rattle.std.proofs.lemmas.List.{length_push}
 use Rattle.witness_graph.specs.Order.{place_of, is_listed, walk, post_order, Reaches, itself, along, IsOnce}
 use Rattle.witness_graph.proofs.OfNodes.{all_weaker}
-use Rattle.witness_graph.proofs.OfPlaces.{place_push_other, eqb_other}
+use Rattle.witness_graph.proofs.OfPlaces.{place_push_other}
 use Rattle.witness_graph.proofs.OfWalks.{names, walk_step, walk_none, walk_lists, walk_by, fold_keeps}
 use Rattle.witness_graph.proofs.OfListings.{members_from, good_order}
 

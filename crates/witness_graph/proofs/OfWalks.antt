@@ -1,6 +1,6 @@
 -- The walk through a graph, and what the code's stack keeps of it.
 use Rattle.std.proofs.Common.{◌≡◌, ℕ, zero, suc, ◌+◌, ◌-◌, ◌*◌, ◌<◌, ◌≤◌, Bool, true, false, List, [], ◌∷◌, ◌++◌, length, get_or, set, fold, refl, sym, ap, ◌∙◌, subst, inl, inr, arith}
-use Rattle.std.specs.Prelude.{Option, None, Some, is_some, cond, nat_eq, ◌⊎◌}
+use Rattle.std.specs.Prelude.{Option, None, Some, is_some, cond, nat_eq}
 use Rattle.std.specs.List.{AllByRecursion, sum_by}
 use Rattle.std.proofs.lemmas.List.Sums.{sum_by-set}
 use Rattle.std.proofs.lemmas.Bool.{cond-true, cond-false, cond_both, cases_Bool, eqb-true, eq-eqb}
@@ -11,9 +11,9 @@ use Rattle.std.proofs.Math.ListN.{length-set}
 use Rattle.witness_graph.specs.declared.node.Node.{Node}
 use Rattle.witness_graph.specs.Nodes.{node_at, named, AreNodes}
 use Rattle.witness_graph.specs.Order.{place_of, is_listed, walk, post_order}
-use Rattle.witness_graph.specs.Walking.{KnowsPlaces, first_new, finished, Falls, IsWalking, lacks}
+use Rattle.witness_graph.specs.Walking.{first_new, finished, Falls, IsWalking, lacks}
 use Rattle.witness_graph.proofs.OfNodes.{all_weaker, names_earlier}
-use Rattle.witness_graph.proofs.OfPlaces.{place_push_old, place_push_new, place_push_other, some_is, none_is, listed_more, listed_new}
+use Rattle.witness_graph.proofs.OfPlaces.{place_push_new, place_push_other, none_is, listed_more, listed_new}
 
 -- a fold keeps what each of its steps keeps
 pub fold_keeps : (f : List ℕ → ℕ → List ℕ) (Q : List ℕ → Type 0) (ks : List ℕ) (l : List ℕ) → AllByRecursion (λ k. (m : List ℕ) → Q m → Q (f m k)) ks → Q l → Q (fold f l ks)

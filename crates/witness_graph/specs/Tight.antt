@@ -1,5 +1,5 @@
 -- Lists of runs without parts that change nothing.
-use Rattle.std.specs.Prelude.{◌≡◌, ◌≢◌, ℕ, List, map, Option, None, Some, IsTrue, slice_get}
+use Rattle.std.specs.Prelude.{◌≡◌, ◌≢◌, ℕ, List, map, None, Some, IsTrue, slice_get}
 use Rattle.semiring_laws.specs.Semiring.{Operations}
 use Rattle.semiring_laws.specs.Combination.{combination}
 use Rattle.witness_graph.specs.declared.node.Node.{Node}

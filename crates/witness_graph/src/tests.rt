@@ -1,4 +1,4 @@
-use crate::{Graph, Node, Side, listing_stays_tight};
+use crate::{Graph, Node, Side, listing_stays_tight, post_order_has_the_reached};
 use semiring_laws::Reach;
 use std::alloc::Global;
 use std::test::Fail;
@@ -123,6 +123,7 @@ fn listings(rt: HostRuntime) -> Result<(), Fail> {
         assert_eq!(rt; listing.nodes.into_vec().as_slice(), want.as_slice());
     }
     listing_stays_tight::<Reach>();
+    post_order_has_the_reached();
     Ok(())
 }
 

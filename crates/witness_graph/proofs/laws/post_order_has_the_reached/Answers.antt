@@ -1,4 +1,3 @@
-use Rattle.std.proofs.Common.{ℕ, ◌-◌, length, slice_get, ap, ◌∙◌}
 use Rattle.witness_graph.specs.Order.{post_order}
 use Rattle.witness_graph.proofs.OfWalks.{walk_ends}
 use Rattle.witness_graph.proofs.OfOrders.{order_reached, reached_order, order_once, last_of}

@@ -1,6 +1,5 @@
-use Rattle.std.proofs.Common.{◌≡◌, ℕ, List, ◌<◌, ◌-◌, length, All, sym, ap, ◌∙◌, subst}
+use Rattle.std.proofs.Common.{◌≡◌, ℕ, List, ◌<◌, ◌-◌, length, All, sym, ◌∙◌, subst}
 use Rattle.witness_graph.specs.declared.node.Node.{Node}
-use Rattle.witness_graph.specs.declared.node.Side.{Side}
 use Rattle.witness_graph.specs.declared.node.Side.TheVariants.{Pre}
 use Rattle.witness_graph.specs.Nodes.{IsListing}
 use Rattle.witness_graph.specs.Runs.{runs_of}

@@ -1,4 +1,4 @@
-use Rattle.std.proofs.Common.{◌≡◌, ℕ, map, take, None, slice_index_or}
+use Rattle.std.proofs.Common.{◌≡◌, map, take, None, slice_index_or}
 use Rattle.witness_graph.specs.Nodes.{node_at}
 use Rattle.witness_graph.specs.Order.{renamed}
 use Rattle.witness_graph.proofs.order.renumber.Given as goal
