@@ -1,0 +1,4 @@
+pub mod OfPlaces
+pub mod OfIndices
+pub mod OfEntries
+pub mod OfRoom

@@ -1,0 +1,70 @@
+use Rattle.std.proofs.Common.{◌≡◌, true, false, ◌++◌, length, sym, ap, ◌∙◌, subst, arith}
+use Rattle.std.specs.Prelude.{Some, is_some, unwrap_or}
+use Rattle.weighted_automata.specs.Places.{has_place}
+use Rattle.weighted_automata.specs.Entries.{index_at, lowered, places_of, HasDistinctPlaces}
+use Rattle.weighted_automata.proofs.OfEntries.{distinct-lowered, lowered_at, lowered_last, index_at-lowered}
+use Rattle.weighted_automata.proofs.OfRoom.{missed_has, room_kept, room_stays, waits_beside}
+use Rattle.weighted_automata.proofs.transitions.Transitions.lower.Goals as goal
+
+-- Where the place is there its entry is written.
+replaced : (g : _) (c : goal.After-replace g) → c.replace.new.entries.items ≡ lowered c.args.place c.args.weight c.args.node c.self.inside.entries.items
+replaced g c = c.replace.ensures.set
+    ∙ sym (lowered_at c.args.place c.args.weight c.args.node c.self.inside.entries.items c.in-Some.k (ap (λ v. index_at c.args.place v.transitions) c.self.view_is ∙ sym c.find.ensures.index ∙ c.in-Some.is))
+
+pub invariant_of-self : goal.invariant_of-self
+invariant_of-self g c = (
+  subst HasDistinctPlaces (sym (replaced g c)) (distinct-lowered c.args.place c.args.weight c.args.node c.self.inside.entries.items c.self.invariant.0),
+  omega (arith, c.replace.ensures.len, c.replace.ensures.room, c.self.invariant.1),
+)
+
+pub returns-in-Some-clause-ok : goal.returns-in-Some-clause-ok
+returns-in-Some-clause-ok g c = replaced g c ∙ ap (λ v. lowered c.args.place c.args.weight c.args.node v.transitions) c.self.view_is
+
+pub returns-in-Some-clause-index : goal.returns-in-Some-clause-index
+returns-in-Some-clause-index g c =
+    ap (index_at c.args.place) (replaced g c)
+    ∙ index_at-lowered c.args.place c.args.weight c.args.node c.self.inside.entries.items
+    ∙ ap (λ o. Some (unwrap_or o (length c.self.inside.entries.items))) (ap (λ v. index_at c.args.place v.transitions) c.self.view_is ∙ sym c.find.ensures.index ∙ c.in-Some.is)
+
+pub returns-in-Some-clause-kept : goal.returns-in-Some-clause-kept
+returns-in-Some-clause-kept g c = λ z h.
+    ap (λ ts. has_place z (places_of ts ++ c.self.inside.waiting.items)) (replaced g c)
+    ∙ room_stays c.args.place c.args.weight c.args.node z c.self.inside.entries.items c.self.inside.waiting.items (ap (λ v. has_place z v.room) c.self.view_is ∙ h)
+
+-- Else it is added last.
+added : (g : _) (c : goal.In_ok-add-in-None g) → c.add.new.entries.items ≡ lowered c.args.place c.args.weight c.args.node c.self.inside.entries.items
+added g c = c.in_ok-add-in-None.ensures.ok
+    ∙ sym (lowered_last c.args.place c.args.weight c.args.node c.self.inside.entries.items (ap (λ v. index_at c.args.place v.transitions) c.self.view_is ∙ sym c.find.ensures.index ∙ c.in-None.is))
+
+pub invariant_of-self-in-None : goal.invariant_of-self-in-None
+invariant_of-self-in-None g c = (
+  subst HasDistinctPlaces (sym (added g c)) (distinct-lowered c.args.place c.args.weight c.args.node c.self.inside.entries.items c.self.invariant.0),
+  c.add.ensures.room,
+)
+
+pub returns-in_ok-add-in-None-clause-ok : goal.returns-in_ok-add-in-None-clause-ok
+returns-in_ok-add-in-None-clause-ok g c = added g c ∙ ap (λ v. lowered c.args.place c.args.weight c.args.node v.transitions) c.self.view_is
+
+pub returns-in_ok-add-in-None-clause-index : goal.returns-in_ok-add-in-None-clause-index
+returns-in_ok-add-in-None-clause-index g c =
+    ap (index_at c.args.place) (added g c)
+    ∙ index_at-lowered c.args.place c.args.weight c.args.node c.self.inside.entries.items
+    ∙ ap (λ o. Some (unwrap_or o (length c.self.inside.entries.items))) (ap (λ v. index_at c.args.place v.transitions) c.self.view_is ∙ sym c.find.ensures.index ∙ c.in-None.is)
+    ∙ ap Some (ap (λ v. length v.transitions) c.self.view_is ∙ sym c.len-k.ensures.len)
+
+pub returns-in_ok-add-in-None-clause-kept : goal.returns-in_ok-add-in-None-clause-kept
+returns-in_ok-add-in-None-clause-kept g c = λ z h.
+    ap (λ ts. has_place z (places_of ts ++ c.add.new.waiting.items)) (added g c)
+    ∙ ap (λ ws. has_place z (places_of (lowered c.args.place c.args.weight c.args.node c.self.inside.entries.items) ++ ws)) c.in_ok-add-in-None.ensures.left
+    ∙ room_kept c.args.place c.args.weight c.args.node z c.self.inside.entries.items c.self.inside.waiting.items (ap (λ v. has_place z v.room) c.self.view_is ∙ h)
+
+pub returns-in_err-add-in-None-clause-present : goal.returns-in_err-add-in-None-clause-present
+returns-in_err-add-in-None-clause-present g c = λ h.
+    let f : true ≡ false = sym h ∙ ap is_some (missed_has c.args.place c.args.self.now.transitions (sym c.find.ensures.index ∙ c.in-None.is)).1 in cc
+
+pub returns-in_err-add-in-None-clause-room : goal.returns-in_err-add-in-None-clause-room
+returns-in_err-add-in-None-clause-room g c = λ h.
+    let f : false ≡ true = c.in_err-add-in-None.ensures.waited
+    (waits_beside c.args.place (places_of c.self.inside.entries.items) c.self.inside.waiting.items
+    (missed_has c.args.place c.self.inside.entries.items (ap (λ v. index_at c.args.place v.transitions) c.self.view_is ∙ sym c.find.ensures.index ∙ c.in-None.is)).0
+    (ap (λ v. has_place c.args.place v.room) c.self.view_is ∙ h)) in cc

@@ -1,0 +1,9 @@
+-- Places that wait for their transition.
+use Rattle.std.specs.Prelude.{List, [], ◌∷◌, if◌then◌else◌}
+use Rattle.weighted_automata.specs.declared.place.Place.{Place}
+use Rattle.weighted_automata.specs.Places.{same_place}
+
+-- the places without the first that is this one
+abbrev pub without : Place → List Place → List Place
+without x [] = []
+without x (y ∷ ys) = if same_place y x then ys else y ∷ without x ys

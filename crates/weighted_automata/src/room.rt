@@ -1,0 +1,98 @@
+ghost use Rattle.std.specs.Prelude.{◌≡◌, ◌+◌, ◌≤◌, ◌⊎◌, ◌++◌, [], ◌∷◌, length, vec_len, vec_capacity, IsTrue, IsOk, OnOk, OnErr, option_map, slice_set};
+ghost use Rattle.weighted_automata.specs.Places.{same_place, has_place};
+ghost use Rattle.weighted_automata.specs.Room.{without};
+ghost use Rattle.weighted_automata.specs.Entries.{index_where};
+
+use crate::{Entry, Place};
+use semiring_laws::Semiring;
+use wpds_port::OutOfMemory;
+
+// Where a place stands first.
+pub fn position(places: &[Place], place: Place) -> Option<usize>
+    ensures { result ≡ index_where (λ y. same_place y place) places.now }
+{
+    for (i, other) in places.iter().enumerate() {
+        if other.is(place) {
+            return Some(i);
+        }
+    }
+    None
+}
+
+// Takes a place out of those that wait for their transition, and says whether it was there.
+pub fn take_out(waiting: &mut Vec<Place>, place: Place) -> bool
+    ensures taken { result ≡ has_place place waiting.old.items }
+    ensures left { waiting.new.items ≡ without place waiting.old.items }
+{
+    match position(waiting, place) {
+        Some(k) => {
+            waiting.remove(k);
+            true
+        }
+        None => false,
+    }
+}
+
+// Makes space for one transition more than those that are waited for.
+fn make_space<S: Semiring>(
+    entries: &mut Vec<Entry<S>>,
+    waiting: &Vec<Place>,
+) -> Result<(), OutOfMemory>
+    ensures entries { entries.new.items ≡ entries.old.items }
+    ensures len { vec_len entries.new ≡ vec_len entries.old }
+    ensures capacity { vec_capacity entries.old ≤ vec_capacity entries.new }
+    ensures ok { OnOk result (vec_len entries.new + length waiting.now.items + 1 ≤ vec_capacity entries.new) }
+{
+    let wanted = waiting.len().checked_add(1).ok_or(OutOfMemory)?;
+    entries.reserve(wanted)?;
+    Ok(())
+}
+
+// Adds a transition, and keeps room for each place that waits. Where its own place waited, there is room.
+pub fn add<S: Semiring>(
+    entries: &mut Vec<Entry<S>>,
+    waiting: &mut Vec<Place>,
+    entry: Entry<S>,
+) -> Result<(), OutOfMemory>
+    requires { vec_len entries.old + length waiting.old.items ≤ vec_capacity entries.old }
+    ensures ok { OnOk result (entries.new.items ≡ entries.old.items ++ entry ∷ []) }
+    ensures err { OnErr result (entries.new.items ≡ entries.old.items) }
+    ensures left { OnOk result (waiting.new.items ≡ without entry.place waiting.old.items) }
+    ensures stays { OnErr result (waiting.new.items ≡ waiting.old.items) }
+    ensures room { vec_len entries.new + length waiting.new.items ≤ vec_capacity entries.new }
+    ensures waited { IsTrue (has_place entry.place waiting.old.items) → IsOk result }
+{
+    if !take_out(waiting, entry.place) {
+        make_space(entries, waiting)?;
+    }
+    entries.push_reserved(entry);
+    Ok(())
+}
+
+// Writes a transition over another.
+pub fn replace<S: Semiring>(entries: &mut Vec<Entry<S>>, k: usize, entry: Entry<S>)
+    ensures set { entries.new.items ≡ slice_set entries.old.items k entry }
+    ensures len { vec_len entries.new ≡ vec_len entries.old }
+    ensures room { vec_capacity entries.new ≡ vec_capacity entries.old }
+{
+    if k < entries.len() {
+        entries[k] = entry;
+    }
+}
+
+// Makes room for a transition at one more place.
+pub fn wait<S: Semiring>(
+    entries: &mut Vec<Entry<S>>,
+    waiting: &mut Vec<Place>,
+    place: Place,
+) -> Result<(), OutOfMemory>
+    requires { vec_len entries.old + length waiting.old.items ≤ vec_capacity entries.old }
+    ensures entries { entries.new.items ≡ entries.old.items }
+    ensures ok { OnOk result (waiting.new.items ≡ waiting.old.items ++ place ∷ []) }
+    ensures err { OnErr result (waiting.new.items ≡ waiting.old.items) }
+    ensures room { vec_len entries.new + length waiting.new.items ≤ vec_capacity entries.new }
+{
+    make_space(entries, waiting)?;
+    waiting.push(place)?;
+    Ok(())
+}

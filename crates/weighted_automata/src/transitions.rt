@@ -1,0 +1,182 @@
+ghost use Rattle.std.specs.Prelude.{◌≡◌, ◌<◌, ◌++◌, [], ◌∷◌, length, slice_get, filter, IsTrue, IsOk, IsSome, IfOk, OnOk, OnErr, IfSome, option_and_then};
+ghost use Rattle.weighted_automata.specs.declared.place.Place.{Place as PlaceValue};
+ghost use Rattle.weighted_automata.specs.Places.{has_place};
+ghost use Rattle.weighted_automata.specs.Entries.{entry_at, index_at, lowered, indices_from, is_from, is_into, HasDistinctPlaces};
+
+use crate::room::{add, position, replace, wait};
+use crate::{Label, Place};
+use semiring_laws::Semiring;
+use std::alloc::Global;
+use std::marker::Model;
+use wpds_port::OutOfMemory;
+
+/// A transition, with its weight and the number of the node that stands for its runs.
+#[derive(Drop)]
+pub struct Entry<S: Semiring> {
+    pub place: Place,
+    pub weight: S::W,
+    pub node: u64,
+}
+
+/// The transitions that were found, in order of addition, at most one for each place.
+///
+/// Some places have room: a transition there can be lowered or added without memory. Each place that
+/// has a transition has room, and [`Transitions::reserve`] makes it for others.
+#[derive(Drop)]
+pub struct Transitions<S: Semiring> {
+    entries: Vec<Entry<S>>,
+    // Places for which `entries` has capacity beside its own.
+    waiting: Vec<Place>,
+}
+
+impl<S: Semiring> Model for Transitions<S> {
+    ghost use Rattle.std.specs.Prelude.{◌+◌, ◌≤◌, ◌++◌, length, vec_len, vec_capacity};
+    ghost use Rattle.weighted_automata.specs.Entries.{HasDistinctPlaces, TransitionList, places_of};
+
+    ghost Value = { TransitionList S S.W S.Ret };
+
+    ghost view = { λ t. record { transitions = t.entries.items; room = places_of t.entries.items ++ t.waiting.items } };
+
+    ghost invariant = { λ t. HasDistinctPlaces t.entries.items × (vec_len t.entries + length t.waiting.items ≤ vec_capacity t.entries) };
+}
+
+impl<S: Semiring> Transitions<S> {
+    /// No transitions, and no room. It takes no memory.
+    pub fn new(alloc: Global) -> Transitions<S>
+        ensures { result ≡ record { transitions = []; room = [] } }
+    {
+        Transitions {
+            entries: Vec::new(alloc),
+            waiting: Vec::new(alloc),
+        }
+    }
+
+    /// How many transitions there are.
+    pub fn len(&self) -> u64
+        ensures len { result ≡ length self.now.transitions }
+        ensures distinct { HasDistinctPlaces self.now.transitions }
+    {
+        self.entries.len() as u64
+    }
+
+    /// The `k`-th transition in order of addition.
+    pub fn entry(&self, k: u64) -> &Entry<S>
+        requires { k < length self.now.transitions }
+        ensures { slice_get self.now.transitions k ≡ Some result.now }
+    {
+        &self.entries[k as usize]
+    }
+
+    /// Where the transition at a place stands.
+    pub fn find(&self, place: Place) -> Option<u64>
+        ensures index { result ≡ index_at place self.now.transitions }
+        ensures entry { option_and_then (slice_get self.now.transitions) result ≡ entry_at place self.now.transitions }
+    {
+        for (i, entry) in self.entries.iter().enumerate() {
+            if entry.place.is(place) {
+                return Some(i as u64);
+            }
+        }
+        None
+    }
+
+    /// Where the `k`-th transition stands, counted from 0, of those that go from a state and read a label.
+    pub fn from_state(&self, state: u32, label: Label, k: usize) -> Option<u64>
+        ensures index { result ≡ slice_get (indices_from (is_from state label) 0 self.now.transitions) k }
+        ensures entry { option_and_then (slice_get self.now.transitions) result ≡ slice_get (filter (is_from state label) self.now.transitions) k }
+    {
+        let mut left = k;
+        for (i, entry) in self.entries.iter().enumerate() {
+            if entry.place.is_from(state, label) {
+                if left == 0 {
+                    return Some(i as u64);
+                }
+                left -= 1;
+            }
+        }
+        None
+    }
+
+    /// Where the `k`-th transition stands, counted from 0, of those that go to a state.
+    pub fn into_state(&self, state: u32, k: usize) -> Option<u64>
+        ensures index { result ≡ slice_get (indices_from (is_into state) 0 self.now.transitions) k }
+        ensures entry { option_and_then (slice_get self.now.transitions) result ≡ slice_get (filter (is_into state) self.now.transitions) k }
+    {
+        let mut left = k;
+        for (i, entry) in self.entries.iter().enumerate() {
+            if entry.place.to == state {
+                if left == 0 {
+                    return Some(i as u64);
+                }
+                left -= 1;
+            }
+        }
+        None
+    }
+
+    /// Replaces the weight and the node of a place, or adds the place last, and says where it stands.
+    /// It is refused only for want of memory, and never at a place that has a transition or room.
+    pub fn lower(
+        &mut self,
+        _alloc: Global,
+        place: Place,
+        weight: S::W,
+        node: u64,
+    ) -> Result<u64, OutOfMemory>
+        ensures ok { OnOk result (self.new.transitions ≡ lowered place weight node self.old.transitions) }
+        ensures index { IfOk result (λ k. index_at place self.new.transitions ≡ Some k) }
+        ensures err { OnErr result (self.new.transitions ≡ self.old.transitions) }
+        ensures kept { (x : PlaceValue) → IsTrue (has_place x self.old.room) → IsTrue (has_place x self.new.room) }
+        ensures present { IsSome (entry_at place self.old.transitions) → IsOk result }
+        ensures room { IsTrue (has_place place self.old.room) → IsOk result }
+    {
+        let entry = Entry {
+            place,
+            weight,
+            node,
+        };
+        match self.find(place) {
+            Some(k) => {
+                replace(&mut self.entries, k as usize, entry);
+                Ok(k)
+            }
+            None => {
+                let k = self.len();
+                add(&mut self.entries, &mut self.waiting, entry)?;
+                Ok(k)
+            }
+        }
+    }
+
+    /// Makes room for these places. It is refused only for want of memory; some of them may have room then.
+    pub fn reserve(&mut self, _alloc: Global, places: &[Place]) -> Result<(), OutOfMemory>
+        ensures transitions { self.new.transitions ≡ self.old.transitions }
+        ensures named { OnOk result ((x : PlaceValue) → IsTrue (has_place x places.now) → IsTrue (has_place x self.new.room)) }
+        ensures kept { (x : PlaceValue) → IsTrue (has_place x self.old.room) → IsTrue (has_place x self.new.room) }
+    {
+        for place in places {
+            self.make_room(*place)?;
+        }
+        Ok(())
+    }
+
+    /// Whether a place has room.
+    pub fn has_room(&self, place: Place) -> bool
+        ensures { result ≡ has_place place self.now.room }
+    {
+        self.find(place).is_some() || position(&self.waiting, place).is_some()
+    }
+
+    // Makes room for one place.
+    fn make_room(&mut self, place: Place) -> Result<(), OutOfMemory>
+        ensures transitions { self.new.transitions ≡ self.old.transitions }
+        ensures named { OnOk result (IsTrue (has_place place self.new.room)) }
+        ensures kept { (x : PlaceValue) → IsTrue (has_place x self.old.room) → IsTrue (has_place x self.new.room) }
+    {
+        if self.has_room(place) {
+            return Ok(());
+        }
+        wait(&mut self.entries, &mut self.waiting, place)?;
+        Ok(())
+    }
+}

@@ -1,0 +1,21 @@
+ghost use Rattle.std.specs.Prelude.{◌≡◌, ◌<◌, ◌-◌, ◌↔◌, ℕ, List, Some, IsTrue, length, slice_get};
+ghost use Rattle.witness_graph.specs.declared.node.Node.{Node as NodeValue};
+ghost use Rattle.witness_graph.specs.declared.node.Side.{Side as SideValue};
+ghost use Rattle.witness_graph.specs.Nodes.{AreNodes};
+ghost use Rattle.witness_graph.specs.Order.{post_order, listing_of, is_listed, Reaches, IsOnce};
+ghost use Rattle.witness_graph.specs.Tight.{IsTight, AreTight};
+
+use semiring_laws::Semiring;
+
+/// A listing is tight where the reached nodes of its graph are.
+pub fn listing_stays_tight<S: Semiring>()
+    ensures { (semiring : S) (value : List ℕ → S.W) (side : SideValue) (nodes : List NodeValue) (root : ℕ) → AreNodes nodes → root < length nodes
+        → AreTight (S.operations semiring) value side nodes (post_order nodes root) → IsTight (S.operations semiring) value side (listing_of nodes root) }
+{}
+
+/// The post-order from a root has the nodes that are reached, each once, and the root last.
+pub fn post_order_has_the_reached()
+    ensures reached { (nodes : List NodeValue) (root k : ℕ) → AreNodes nodes → root < length nodes → IsTrue (is_listed (post_order nodes root) k) ↔ Reaches nodes root k }
+    ensures once { (nodes : List NodeValue) (root : ℕ) → AreNodes nodes → root < length nodes → IsOnce (post_order nodes root) }
+    ensures last { (nodes : List NodeValue) (root : ℕ) → AreNodes nodes → root < length nodes → slice_get (post_order nodes root) (length (post_order nodes root) - 1) ≡ Some root }
+{}
