@@ -69,3 +69,16 @@ pub sent_decided : (bytes text : List ℕ) (left_before left_now : Option (List 
     → (sent ≢ WriteFault → sent ≡ status) → IsDecided sent → IsDecidedBy (take 4194305 bytes) sent
 sent_decided bytes text before now status sent told has kept done =
     subst (IsDecidedBy (take 4194305 bytes)) (sym (kept (decided_unfaulted sent done))) (decided_by bytes text before now status told has)
+
+reply_decides : (input text : List ℕ) (status : Status) → IsReply input status text → IsDecided status
+reply_decides input text Answered reply = inl refl
+reply_decides input text DocumentRefused reply = inr refl
+reply_decides input text WordsRefused reply = absurd reply
+reply_decides input text ReadFault reply = absurd reply
+reply_decides input text WriteFault reply = absurd reply
+reply_decides input text OutOfMemory reply = absurd reply
+
+-- an answer that was sent without a fault is one to the input
+pub sent_decides : (text : List ℕ) (left_before left_now : Option (List ℕ)) (status sent : Status) → HasReply left_before left_now status text
+    → (sent ≢ WriteFault → sent ≡ status) → sent ≢ WriteFault → IsDecided sent
+sent_decides text before now status sent has kept unfaulted = subst IsDecided (sym (kept unfaulted)) (reply_decides has.input text status has.reply)

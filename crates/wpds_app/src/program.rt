@@ -65,7 +65,9 @@ pub fn run<R: Source, W: Sink>(
     ensures read_fault_unwritten { result ≡ Status.ReadFault → W.written sink.new ≡ W.written sink.old }
     ensures memory_unwritten { result ≡ Status.OutOfMemory → W.written sink.new ≡ W.written sink.old }
 
-    // Where the source tells its bytes, a document is answered or refused exactly by what they are.
+    // Accepted words, no fault and memory enough give an answer to the input. Where the source tells its bytes, it is
+    // exactly the answer to them.
+    ensures complete { IsCheck (map string_bytes words.now) → result ≢ Status.ReadFault → result ≢ Status.WriteFault → result ≢ Status.OutOfMemory → IsDecided result }
     ensures exactly { (bytes : List ℕ) → R.left source.old ≡ Some bytes → IsDecided result → IsDecidedBy (take 4194305 bytes) result }
 {
     if !is_check(words) {

@@ -238,7 +238,7 @@ fn saturated(
 
 /// Whether some run of the system leads from one configuration to another, by saturation backwards from the second
 /// (pre*, Schwoon 2002) over a plain list of transitions.
-pub fn reaches(
+pub(crate) fn reaches(
     alloc: Global,
     system: &System<Reach>,
     from: &Config,
