@@ -259,20 +259,19 @@ each_of P f (Lower before rule first second) = (part_of before, part_of first, p
   part_of (Some k) = f k
 
 -- what the code makes by its table of places
-pub renumbered : (nodes : List Node) (order : List ℕ) (places : List (Option ℕ)) → KnowsPlaces places order
-    → map (λ k. renamed (λ j. get_or places j None) (node_at nodes k)) order ≡ listed nodes order
-renumbered nodes order places known =
-    map_same (λ k. renamed (λ j. get_or places j None) (node_at nodes k)) (λ k. renamed (λ j. place_of j order) (node_at nodes k)) order
-    (all_weaker (λ k. is_listed order k ≡ true) (λ k. renamed (λ j. get_or places j None) (node_at nodes k) ≡ renamed (λ j. place_of j order) (node_at nodes k))
-    (λ k e. renamed_same (λ j. get_or places j None) (λ j. place_of j order) (node_at nodes k) (each_of (λ j. get_or places j None ≡ place_of j order) known (node_at nodes k)))
+pub renumbered : (nodes : List Node) (order : List ℕ) (table : ℕ → Option ℕ) → KnowsPlaces table order
+    → map (λ k. renamed (λ j. table j) (node_at nodes k)) order ≡ listed nodes order
+renumbered nodes order table known =
+    map_same (λ k. renamed (λ j. table j) (node_at nodes k)) (λ k. renamed (λ j. place_of j order) (node_at nodes k)) order
+    (all_weaker (λ k. is_listed order k ≡ true) (λ k. renamed (λ j. table j) (node_at nodes k) ≡ renamed (λ j. place_of j order) (node_at nodes k))
+    (λ k e. renamed_same (λ j. table j) (λ j. place_of j order) (node_at nodes k) (each_of (λ j. table j ≡ place_of j order) known (node_at nodes k)))
     order (members_from [] order))
 
-pub made_listing : (nodes : List Node) (root : ℕ) (made : List Node) (order order' : List ℕ) (places places' : List (Option ℕ)) → made ≡ map (λ k. renamed (λ j. get_or places' j None) (node_at nodes k)) order'
-    → order' ≡ order → places' ≡ places → order ≡ post_order nodes root → KnowsPlaces places order → made ≡ listing_of nodes root
-made_listing nodes root made order order' places places' e same same' is known =
-    e ∙ ap (λ ps. map (λ k. renamed (λ j. get_or ps j None) (node_at nodes k)) order') same'
-    ∙ ap (map (λ k. renamed (λ j. get_or places j None) (node_at nodes k))) same
-    ∙ renumbered nodes order places known ∙ ap (listed nodes) is
+pub made_listing : (nodes : List Node) (root : ℕ) (made : List Node) (order order' : List ℕ) (table : ℕ → Option ℕ) → made ≡ map (λ k. renamed (λ j. table j) (node_at nodes k)) order'
+    → order' ≡ order → order ≡ post_order nodes root → KnowsPlaces table order → made ≡ listing_of nodes root
+made_listing nodes root made order order' table e same is known =
+    e ∙ ap (map (λ k. renamed (λ j. table j) (node_at nodes k))) same
+    ∙ renumbered nodes order table known ∙ ap (listed nodes) is
 
 -- A node with new numbers is as tight, where what it names has the same worth there.
 tight_renamed : {W : Type 0} (worth worth' : ℕ → W) (bottom : W) (new : ℕ → Option ℕ) (k x : ℕ) (n : Node) → worth' k ≡ worth x

@@ -1,17 +1,14 @@
 -- The walk through a graph, and what the code's stack keeps of it.
-use Rattle.std.proofs.Common.{◌≡◌, ℕ, zero, suc, ◌+◌, ◌-◌, ◌*◌, ◌<◌, ◌≤◌, Bool, true, false, List, [], ◌∷◌, ◌++◌, length, get_or, set, fold, refl, sym, ap, ◌∙◌, subst, inl, inr, arith}
+use Rattle.std.proofs.Common.{◌≡◌, ℕ, zero, suc, ◌+◌, ◌-◌, ◌*◌, ◌<◌, ◌≤◌, Bool, true, false, List, [], ◌∷◌, ◌++◌, length, fold, refl, sym, ap, ap₂, ◌∙◌, subst, inl, inr, arith}
 use Rattle.std.specs.Prelude.{Option, None, Some, is_some, cond, nat_eq}
-use Rattle.std.specs.List.{AllByRecursion, sum_by}
-use Rattle.std.proofs.lemmas.List.Sums.{sum_by-set}
+use Rattle.std.specs.List.{AllByRecursion}
 use Rattle.std.proofs.lemmas.Bool.{cond-true, cond-false, cond_both, cases_Bool, eqb-true, eq-eqb}
 use Rattle.std.proofs.lemmas.Option.{same_Some}
-use Rattle.std.proofs.lemmas.List.{get_or-set_other, length_push}
-use Rattle.std.proofs.lemmas.Grind.{get_or-set_at}
-use Rattle.std.proofs.Math.ListN.{length-set}
+use Rattle.std.proofs.lemmas.List.{length_push}
 use Rattle.witness_graph.specs.declared.node.Node.{Node}
 use Rattle.witness_graph.specs.Nodes.{node_at, named, AreNodes}
 use Rattle.witness_graph.specs.Order.{place_of, is_listed, walk, post_order}
-use Rattle.witness_graph.specs.Walking.{first_new, finished, Falls, IsWalking, lacks}
+use Rattle.witness_graph.specs.Walking.{first_new, finished, Falls, IsWalking, lacks, unlisted}
 use Rattle.witness_graph.proofs.OfNodes.{all_weaker, names_earlier}
 use Rattle.witness_graph.proofs.OfPlaces.{place_push_new, place_push_other, none_is, listed_more, listed_new}
 
@@ -226,17 +223,17 @@ module _ (nodes : List Node) (all : AreNodes nodes) where
 
 -- The code's turns keep what it keeps.
 module _ (nodes : List Node) (all : AreNodes nodes) (root : ℕ) where
-  pub walking_start : (places : List (Option ℕ)) → ((k : ℕ) → get_or places k None ≡ None) → length places ≡ root + 1 → IsWalking nodes root (root ∷ []) [] places
-  walking_start places none size = record { finishes = refl; falls = (omega arith, refl, tt); known = none; size = size }
+  pub walking_start : (table : ℕ → Option ℕ) → ((k : ℕ) → table k ≡ None) → IsWalking nodes root (root ∷ []) [] table
+  walking_start table none = record { finishes = refl; falls = (omega arith, refl, tt); known = none }
 
-  module _ (stack : List ℕ) (t : ℕ) (order : List ℕ) (places : List (Option ℕ)) (w : IsWalking nodes root (stack ++ t ∷ []) order places) where
+  module _ (stack : List ℕ) (t : ℕ) (order : List ℕ) (table : ℕ → Option ℕ) (w : IsWalking nodes root (stack ++ t ∷ []) order table) where
     pub walking_top : t < root + 1
     walking_top = (falls_top (root + 1) stack t order w.falls).0
 
-    first_as_listed : (ks : List ℕ) → first_new (λ j. is_some (get_or places j None)) ks ≡ first_new (is_listed order) ks
-    first_as_listed ks = first_same (λ j. is_some (get_or places j None)) (is_listed order) (λ k. ap is_some (w.known k)) ks
+    first_as_listed : (ks : List ℕ) → first_new (λ j. is_some (table j)) ks ≡ first_new (is_listed order) ks
+    first_as_listed ks = first_same (λ j. is_some (table j)) (is_listed order) (λ k. ap is_some (w.known k)) ks
 
-    pub walking_down : (p : ℕ) → first_new (λ j. is_some (get_or places j None)) (named (node_at nodes t)) ≡ Some p → IsWalking nodes root ((stack ++ t ∷ []) ++ p ∷ []) order places
+    pub walking_down : (p : ℕ) → first_new (λ j. is_some (table j)) (named (node_at nodes t)) ≡ Some p → IsWalking nodes root ((stack ++ t ∷ []) ++ p ∷ []) order table
     walking_down p e =
         let top = falls_top (root + 1) stack t order w.falls in
         let first : first_new (is_listed order) (named (node_at nodes t)) ≡ Some p = sym (first_as_listed (named (node_at nodes t))) ∙ e in
@@ -246,33 +243,32 @@ module _ (nodes : List Node) (all : AreNodes nodes) (root : ℕ) where
           falls = falls_push (root + 1) stack t p order w.falls (first_in (is_listed order) (λ j. j < t) p (named (node_at nodes t)) first (names_earlier nodes all t))
               (none_is (place_of p order) (first_unknown (is_listed order) p (named (node_at nodes t)) first));
           known = w.known;
-          size = w.size;
         }
 
-    pub walking_up : first_new (λ j. is_some (get_or places j None)) (named (node_at nodes t)) ≡ None → IsWalking nodes root stack (order ++ t ∷ []) (set places t (Some (length order)))
-    walking_up e =
+    pub walking_up : (next : ℕ → Option ℕ) → ((k : ℕ) → next k ≡ cond (nat_eq t k) (Some (length order)) (table k))
+        → first_new (λ j. is_some (table j)) (named (node_at nodes t)) ≡ None → IsWalking nodes root stack (order ++ t ∷ []) next
+    walking_up next noted e =
         let top = falls_top (root + 1) stack t order w.falls in
         let first : first_new (is_listed order) (named (node_at nodes t)) ≡ None = sym (first_as_listed (named (node_at nodes t))) ∙ e in
         record {
           finishes = ap (finished nodes stack) (sym (ascend nodes all order t top.1 first)) ∙ sym (finished_push nodes all stack t order) ∙ w.finishes;
           falls = falls_pop (root + 1) stack t order w.falls;
-          known = λ k. elim (cases_Bool (nat_eq k t)) [
+          known = λ k. noted k ∙ elim (cases_Bool (nat_eq t k)) [
             | inl e ↦
-                let is : k ≡ t = eqb-true k t e in
-                get_or-set_at places t k (Some (length order)) None is (omega (arith, w.size, top.0))
-                ∙ sym (place_push_new t order top.1) ∙ ap (λ j. place_of j (order ++ t ∷ [])) (sym is)
+                let is : t ≡ k = eqb-true t k e in
+                cond-true (nat_eq t k) (Some (length order)) (table k) e
+                ∙ sym (place_push_new t order top.1) ∙ ap (λ j. place_of j (order ++ t ∷ [])) is
             | inr e ↦
-                get_or-set_other places t k (Some (length order)) None (λ is. let f : true ≡ false = sym (eq-eqb k t is) ∙ e in cc)
+                cond-false (nat_eq t k) (Some (length order)) (table k) e
                 ∙ w.known k
-                ∙ sym (place_push_other k t order (λ is. let f : true ≡ false = sym (eq-eqb k t (sym is)) ∙ e in cc))
+                ∙ sym (place_push_other k t order (λ is. let f : true ≡ false = sym (eq-eqb t k is) ∙ e in cc))
           ];
-          size = length-set places t (Some (length order)) ∙ w.size;
         }
 
 -- as the code's loop has its stack and its measure
-pub walking_popped : (nodes : List Node) (root : ℕ) (stack rest order : List ℕ) (t : ℕ) (places : List (Option ℕ)) → stack ≡ rest ++ t ∷ []
-    → IsWalking nodes root stack order places → IsWalking nodes root (rest ++ t ∷ []) order places
-walking_popped nodes root stack rest order t places e w = let P : List ℕ → Type 0 = λ s. IsWalking nodes root s order places in subst P e w
+pub walking_popped : (nodes : List Node) (root : ℕ) (stack rest order : List ℕ) (t : ℕ) (table : ℕ → Option ℕ) → stack ≡ rest ++ t ∷ []
+    → IsWalking nodes root stack order table → IsWalking nodes root (rest ++ t ∷ []) order table
+walking_popped nodes root stack rest order t table e w = let P : List ℕ → Type 0 = λ s. IsWalking nodes root s order table in subst P e w
 
 pub smaller_down : (m root : ℕ) (stack rest stack' order : List ℕ) (t p : ℕ) → stack ≡ rest ++ t ∷ [] → stack' ≡ (rest ++ t ∷ []) ++ p ∷ [] → Falls (root + 1) stack' order
     → m * (root + 2) + (root + 1 - length stack') < m * (root + 2) + (root + 1 - length stack)
@@ -291,14 +287,35 @@ smaller_up m m' root a b e =
     let p : m * (root + 2) ≡ m' * (root + 2) + (root + 2) = ap (λ x. x * (root + 2)) (sym e) ∙ product m' (root + 2) in
     omega arith
 
--- a number that gets a place lacks none
-pub lacks_less : (places : List (Option ℕ)) (t i : ℕ) → t < length places → get_or places t None ≡ None → sum_by lacks (set places t (Some i)) + 1 ≡ sum_by lacks places
-lacks_less places t i within none =
-    let was : lacks (get_or places t None) ≡ 1 = ap lacks none in
-    omega (arith, sum_by-set lacks places t (Some i) None within)
+unlisted_above : (n t : ℕ) (order : List ℕ) → n ≤ t → unlisted n (order ++ t ∷ []) ≡ unlisted n order
+unfolding unlisted
+unlisted_above zero t order above = refl
+unlisted_above (suc n) t order above =
+    ap₂ (λ o u. lacks o + u) (place_push_other n t order (λ e. let f : n < t = omega arith in absurd (omega arith))) (unlisted_above n t order (omega arith))
 
-pub walking_lacks : (nodes : List Node) (root : ℕ) (stack order : List ℕ) (t : ℕ) (places : List (Option ℕ)) → IsWalking nodes root (stack ++ t ∷ []) order places → get_or places t None ≡ None
-walking_lacks nodes root stack order t places w = w.known t ∙ (falls_top (root + 1) stack t order w.falls).1
+unlisted_at : (n t : ℕ) (order : List ℕ) (b : Bool) → nat_eq n t ≡ b → t < suc n → place_of t order ≡ None
+    → (t < n → unlisted n (order ++ t ∷ []) + 1 ≡ unlisted n order)
+    → (lacks (place_of n (order ++ t ∷ [])) + unlisted n (order ++ t ∷ [])) + 1 ≡ lacks (place_of n order) + unlisted n order
+unlisted_at n t order true test below none fewer =
+    let is : n ≡ t = eqb-true n t test in
+    let now : lacks (place_of n (order ++ t ∷ [])) ≡ 0 = ap (λ k. lacks (place_of k (order ++ t ∷ []))) is ∙ ap lacks (place_push_new t order none) in
+    let was : lacks (place_of n order) ≡ 1 = ap (λ k. lacks (place_of k order)) is ∙ ap lacks none in
+    let rest = unlisted_above n t order (omega arith) in
+    omega (arith, now, was, rest)
+unlisted_at n t order false test below none fewer =
+    let other : n ≡ t → ⊥ = λ e. let f : true ≡ false = sym (eq-eqb n t e) ∙ test in cc in
+    let apart : t < n = omega arith in
+    let same : lacks (place_of n (order ++ t ∷ [])) ≡ lacks (place_of n order) = ap lacks (place_push_other n t order (λ e. other (sym e))) in
+    omega (arith, same, fewer apart)
+
+-- a number that gets a place is one fewer without
+pub unlisted_less : (n t : ℕ) (order : List ℕ) → t < n → place_of t order ≡ None → unlisted n (order ++ t ∷ []) + 1 ≡ unlisted n order
+unfolding unlisted
+unlisted_less zero t order below none = absurd (omega arith)
+unlisted_less (suc n) t order below none = unlisted_at n t order (nat_eq n t) refl below none (λ apart. unlisted_less n t order apart none)
+
+pub walking_lacks : (nodes : List Node) (root : ℕ) (stack order : List ℕ) (t : ℕ) (table : ℕ → Option ℕ) → IsWalking nodes root (stack ++ t ∷ []) order table → place_of t order ≡ None
+walking_lacks nodes root stack order t table w = (falls_top (root + 1) stack t order w.falls).1
 
 -- the root stands last
 pub walk_ends : (nodes : List Node) (root : ℕ) → (front : List ℕ) × (post_order nodes root ≡ front ++ root ∷ [])

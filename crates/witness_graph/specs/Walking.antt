@@ -1,11 +1,11 @@
 -- What the walk through a graph keeps.
-use Rattle.std.specs.Prelude.{◌≡◌, ℕ, suc, ◌+◌, ◌<◌, Bool, List, [], ◌∷◌, length, Option, None, Some, slice_index_or, if◌then◌else◌}
+use Rattle.std.specs.Prelude.{◌≡◌, ℕ, zero, suc, ◌+◌, ◌<◌, Bool, List, [], ◌∷◌, Option, None, Some, if◌then◌else◌}
 use Rattle.witness_graph.specs.declared.node.Node.{Node}
 use Rattle.witness_graph.specs.Order.{place_of, walk, post_order}
 
--- each number's place in the order
-abbrev pub KnowsPlaces : List (Option ℕ) → List ℕ → Type 0
-KnowsPlaces places order = (k : ℕ) → slice_index_or places k None ≡ place_of k order
+-- each number's place in the order, by a table that is looked up
+abbrev pub KnowsPlaces : (ℕ → Option ℕ) → List ℕ → Type 0
+KnowsPlaces table order = (k : ℕ) → table k ≡ place_of k order
 
 -- the first of these that is not known
 abbrev pub first_new : (ℕ → Bool) → List ℕ → Option ℕ
@@ -22,13 +22,17 @@ abbrev pub Falls : ℕ → List ℕ → List ℕ → Type 0
 Falls limit [] order = Unit {0}
 Falls limit (k ∷ ks) order = (k < limit) × (place_of k order ≡ None) × Falls k ks order
 
-pub record IsWalking (nodes : List Node) (root : ℕ) (stack order : List ℕ) (places : List (Option ℕ)) : Type 0 where
+pub record IsWalking (nodes : List Node) (root : ℕ) (stack order : List ℕ) (table : ℕ → Option ℕ) : Type 0 where
   pub finishes : finished nodes stack order ≡ post_order nodes root
   pub falls : Falls (root + 1) stack order
-  pub known : KnowsPlaces places order
-  pub size : length places ≡ root + 1
+  pub known : KnowsPlaces table order
 
 -- one for a number without a place
 abbrev pub lacks : Option ℕ → ℕ
 lacks None = 1
 lacks (Some i) = 0
+
+-- how many numbers below a limit are not listed
+unfoldable pub unlisted : ℕ → List ℕ → ℕ
+unlisted zero order = 0
+unlisted (suc n) order = lacks (place_of n order) + unlisted n order

@@ -1,4 +1,5 @@
-ghost use Rattle.std.specs.Prelude.{◌≡◌, ◌<◌, ◌+◌, ◌-◌, ℕ, List, map, length, None, Some, is_some, IfOk, All, option_to_list, option_and_then, slice_index_or};
+ghost use Rattle.std.specs.Prelude.{◌≡◌, ◌<◌, ◌+◌, ◌-◌, ℕ, List, map, length, None, Some, is_some, IfOk, All, option_to_list, option_and_then, nat_eq};
+ghost use Rattle.std.specs.HashMap.{get};
 ghost use Rattle.witness_graph.specs.declared.node.Node.{Node as NodeValue};
 ghost use Rattle.witness_graph.specs.Nodes.{AreNodes, IsListing, named, node_at};
 ghost use Rattle.witness_graph.specs.Order.{renamed, listing_of};
@@ -9,31 +10,29 @@ ghost use Rattle.witness_graph.specs.Walking.{KnowsPlaces, first_new};
 
 use crate::Node;
 use std::alloc::Global;
+use std::collections::HashMap;
 use wpds_port::OutOfMemory;
 
 // The numbers of nodes in the order of a walk, and the place there of each number that has one.
 #[derive(Drop)]
 struct Visited {
     order: Vec<u64>,
-    places: Vec<Option<u64>>,
+    places: HashMap<u64, u64>,
 }
 
 // Where a number stands, if it does.
-fn place(places: &[Option<u64>], part: Option<u64>) -> Option<u64>
-    ensures { result ≡ option_and_then (λ j. slice_index_or places.now j None) part }
+fn place(places: &HashMap<u64, u64>, part: Option<u64>) -> Option<u64>
+    ensures { result ≡ option_and_then (λ j. get nat_eq places.now j) part }
 {
     match part {
-        Some(k) => match places.get(k as usize) {
-            Some(place) => *place,
-            None => None,
-        },
+        Some(k) => places.get(&k).copied(),
         None => None,
     }
 }
 
 // The part, unless it has a place.
-fn unplaced(places: &[Option<u64>], part: Option<u64>) -> Option<u64>
-    ensures { result ≡ first_new (λ j. is_some (slice_index_or places.now j None)) (option_to_list part) }
+fn unplaced(places: &HashMap<u64, u64>, part: Option<u64>) -> Option<u64>
+    ensures { result ≡ first_new (λ j. is_some (get nat_eq places.now j)) (option_to_list part) }
 {
     match place(places, part) {
         Some(_) => None,
@@ -42,8 +41,8 @@ fn unplaced(places: &[Option<u64>], part: Option<u64>) -> Option<u64>
 }
 
 // The first number that a node names and that has no place.
-fn next_unplaced(places: &[Option<u64>], node: Node) -> Option<u64>
-    ensures { result ≡ first_new (λ j. is_some (slice_index_or places.now j None)) (named node) }
+fn next_unplaced(places: &HashMap<u64, u64>, node: Node) -> Option<u64>
+    ensures { result ≡ first_new (λ j. is_some (get nat_eq places.now j)) (named node) }
 {
     match node {
         Node::Start => None,
@@ -74,10 +73,10 @@ fn post_order(alloc: Global, nodes: &[Node], root: u64) -> Result<Visited, OutOf
     requires root { root < length nodes.now }
     requires nodes { AreNodes nodes.now }
     ensures order { IfOk result (λ v. v.order.items ≡ order.post_order nodes.now root) }
-    ensures places { IfOk result (λ v. KnowsPlaces v.places.items v.order.items) }
+    ensures places { IfOk result (λ v. KnowsPlaces (λ j. get nat_eq v.places j) v.order.items) }
 {
     let mut order = Vec::new(alloc);
-    let mut places = vec![in alloc; None; root as usize + 1]?;
+    let mut places = HashMap::new(alloc);
     let mut stack = Vec::new(alloc);
     stack.push(root)?;
     'walk: while let Some(number) = stack.pop() {
@@ -87,7 +86,7 @@ fn post_order(alloc: Global, nodes: &[Node], root: u64) -> Result<Visited, OutOf
                 stack.push(part)?;
             }
             None => {
-                places[number as usize] = Some(order.len() as u64);
+                places.insert(number, order.len() as u64)?;
                 order.push(number)?;
             }
         }
@@ -113,10 +112,10 @@ fn renumber(
     alloc: Global,
     nodes: &[Node],
     order: &[u64],
-    places: &[Option<u64>],
+    places: &HashMap<u64, u64>,
 ) -> Result<Vec<Node>, OutOfMemory>
     requires { All (λ k. k < length nodes.now) order.now }
-    ensures { IfOk result (λ v. v.items ≡ map (λ k. renamed (λ j. slice_index_or places.now j None) (node_at nodes.now k)) order.now) }
+    ensures { IfOk result (λ v. v.items ≡ map (λ k. renamed (λ j. get nat_eq places.now j) (node_at nodes.now k)) order.now) }
 {
     let mut list = Vec::new(alloc);
     for number in order {
@@ -126,8 +125,8 @@ fn renumber(
 }
 
 // The node with each number that it names replaced by its place.
-fn renamed(node: Node, places: &[Option<u64>]) -> Node
-    ensures { result ≡ order.renamed (λ j. slice_index_or places.now j None) node }
+fn renamed(node: Node, places: &HashMap<u64, u64>) -> Node
+    ensures { result ≡ order.renamed (λ j. get nat_eq places.now j) node }
 {
     match node {
         Node::Start => Node::Start,
