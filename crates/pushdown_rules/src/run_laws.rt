@@ -3,8 +3,7 @@ ghost use Rattle.pushdown_rules.specs.declared.rule.Rule.{Rule as RuleValue};
 ghost use Rattle.pushdown_rules.specs.Configuration.{Configuration, at_stack};
 ghost use Rattle.pushdown_rules.specs.Pushdown.{Pushdown, IsSystem};
 ghost use Rattle.pushdown_rules.specs.Firing.{Run, end_of};
-ghost use Rattle.pushdown_rules.specs.RunValue.{starting, run_machine};
-ghost use Rattle.pushdown_rules.specs.Values.{rules_of, value_of};
+ghost use Rattle.pushdown_rules.specs.Values.{rules_of, value_of, LeavesNoCall};
 ghost use Rattle.pushdown_rules.specs.Splits.{Falls, Stays};
 
 use semiring_laws::Semiring;
@@ -33,9 +32,10 @@ pub fn runs_fall_or_stay<S: Semiring>()
 pub fn values_are_products<S: Semiring>()
     ensures rules { (x : S) (p q : Pushdown S S.W S.Ret) (a b : List ℕ) →
         rules_of (S.operations x) p a ≡ rules_of (S.operations x) q b → value_of (S.operations x) p a ≡ value_of (S.operations x) q b }
-    ensures level { (p : Pushdown S S.W S.Ret) (a b : List ℕ) → IsSystem S.operations p →
-        (run_machine (S.operations p.semiring) (starting (S.operations p.semiring)) (rules_of (S.operations p.semiring) p a)).frames ≡ [] →
+    ensures level { (p : Pushdown S S.W S.Ret) (a b : List ℕ) → IsSystem S.operations p → LeavesNoCall (S.operations p.semiring) p a →
         value_of (S.operations p.semiring) p (a ++ b) ≡ (S.operations p.semiring).extend (value_of (S.operations p.semiring) p a) (value_of (S.operations p.semiring) p b) }
+    ensures used_up { (p : Pushdown S S.W S.Ret) (c d : Configuration) (a : List ℕ) → IsSystem S.operations p → Run p c a d → d.stack ≡ [] →
+        LeavesNoCall (S.operations p.semiring) p a }
     ensures falls { (p : Pushdown S S.W S.Ret) (from : ℕ) (above below run : List ℕ) (d : Configuration) → IsSystem S.operations p →
         (split : Falls p from above below run d) →
         value_of (S.operations p.semiring) p run ≡ (S.operations p.semiring).extend (value_of (S.operations p.semiring) p split.first) (value_of (S.operations p.semiring) p split.rest) }

@@ -2,7 +2,7 @@ use Rattle.std.proofs.Common.{ap, ◌∙◌, refl}
 use Rattle.pushdown_rules.specs.RunValue.{run_value}
 use Rattle.pushdown_rules.specs.Values.{value_of}
 use Rattle.pushdown_rules.proofs.OfValues.{step_value}
-use Rattle.pushdown_rules.proofs.OfSplits.{level_value, joined_value, step_last}
+use Rattle.pushdown_rules.proofs.OfSplits.{level_value, none_left, joined_value, step_last}
 use Rattle.pushdown_rules.proofs.run_laws.values_are_products.Goals as goal
 
 pub returns-clause-rules : goal.returns-clause-rules
@@ -19,3 +19,6 @@ returns-clause-step g c = λ p k r n run valid there right. step_value valid (g.
 
 pub returns-clause-last : goal.returns-clause-last
 returns-clause-last g c = λ p k r n run valid there right. step_last valid (g.S.Semiring.laws p.semiring) k r there n right run
+
+pub returns-clause-used_up : goal.returns-clause-used_up
+returns-clause-used_up g c = λ p from to run valid goes empty. none_left valid (g.S.Semiring.laws p.semiring) run from to goes empty
