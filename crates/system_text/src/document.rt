@@ -18,12 +18,14 @@ impl Model for Symbols {
 }
 
 impl Symbols {
+    /// These numbers, the first one first. It takes no memory.
     pub fn from_vec(numbers: Vec<u32>) -> Symbols
         ensures { result ≡ numbers.items }
     {
         Symbols { numbers }
     }
 
+    /// The numbers in order.
     pub fn as_slice(&self) -> &[u32]
         ensures { result.now ≡ self.now }
     {
@@ -56,12 +58,14 @@ impl Model for RuleLines {
 }
 
 impl RuleLines {
+    /// These rules, the first one first. It takes no memory.
     pub fn from_vec(rules: Vec<RuleLine>) -> RuleLines
         ensures { result ≡ rules.items }
     {
         RuleLines { rules }
     }
 
+    /// The rules in order.
     pub fn as_slice(&self) -> &[RuleLine]
         ensures { result.now ≡ self.now }
     {
