@@ -1,0 +1,3 @@
+pub mod OfMachine
+pub mod Readings
+pub mod Trees

@@ -2,7 +2,11 @@
 #![tactic(auto)]
 
 mod expr;
+mod laws;
+mod operator;
 mod tables;
 
 pub use expr::{Expr, eval};
+pub use laws::{one_making, one_tree};
+pub use operator::Operator;
 pub use tables::{Table2, Table3, value2, value3};
