@@ -9,30 +9,30 @@ use Rattle.truth_tables.specs.Grammar.{Operator, operator_level, least_left, Tre
 use Rattle.truth_tables.specs.Stacks.{constant_of, Pending, AfterNot, AfterOperator, InBracket, First2, Second2, First3, Second3, Third3, Reading, Wants, Word2, Word3, Number2, Number3, Has, joined, after_operator, at_comma, at_close, behind_operand, at_name, next_reading, alone, at_end, tree_from, tree_of}
 use Rattle.truth_tables.specs.Machine.{Parts, Unclosed, NotOpen, OperatorOpen, BracketOpen, First2Open, Second2Open, First3Open, Second3Open, Third3Open, Progress, Wanted, Behind2, Behind3, Counted2, Counted3, Operand, folded, closed, behind_comma, behind_close, operator_waits, behind_mark, behind_name, progress, only, at_last, made_from, made_of}
 
-module _ {X : Type 0} (p : Parts X) where
-  abbrev unclosed : Pending → Unclosed X
+module _ {X N : Type 0} (p : Parts X N) where
+  abbrev unclosed : Pending → Unclosed X N
   unclosed AfterNot = NotOpen
   unclosed (AfterOperator o a) = OperatorOpen o (folded p a)
   unclosed InBracket = BracketOpen
-  unclosed (First2 n) = First2Open n
-  unclosed (Second2 n a) = Second2Open n (folded p a)
-  unclosed (First3 n) = First3Open n
-  unclosed (Second3 n a) = Second3Open n (folded p a)
-  unclosed (Third3 n a b) = Third3Open n (folded p a) (folded p b)
+  unclosed (First2 n) = First2Open (p.number2 n)
+  unclosed (Second2 n a) = Second2Open (p.number2 n) (folded p a)
+  unclosed (First3 n) = First3Open (p.number3 n)
+  unclosed (Second3 n a) = Second3Open (p.number3 n) (folded p a)
+  unclosed (Third3 n a b) = Third3Open (p.number3 n) (folded p a) (folded p b)
 
-  abbrev stack : List Pending → List (Unclosed X)
+  abbrev stack : List Pending → List (Unclosed X N)
   stack [] = []
   stack (q ∷ qs) = unclosed q ∷ stack qs
 
-  abbrev both : List Pending × Tree → List (Unclosed X) × X
+  abbrev both : List Pending × Tree → List (Unclosed X N) × X
   both r = (stack r.0, folded p r.1)
 
-  abbrev reached : Reading → Progress X
+  abbrev reached : Reading → Progress X N
   reached (Wants ps) = Wanted (stack ps)
   reached (Word2 ps) = Behind2 (stack ps)
   reached (Word3 ps) = Behind3 (stack ps)
-  reached (Number2 ps n) = Counted2 (stack ps) n
-  reached (Number3 ps n) = Counted3 (stack ps) n
+  reached (Number2 ps n) = Counted2 (stack ps) (p.number2 n)
+  reached (Number3 ps n) = Counted3 (stack ps) (p.number3 n)
   reached (Has ps e) = Operand (stack ps) (folded p e)
 
   closes_so : (k : ℕ) (ps : List Pending) (e : Tree) → closed p k (stack ps) (folded p e) ≡ both (joined k ps e)
@@ -124,7 +124,7 @@ module _ {X : Type 0} (p : Parts X) where
   made_so r [] = end_so r
   made_so r (w ∷ ws) = go (progress p (reached r) w) (next_reading r w) (step_so r w) (λ q. made_so q ws)
     where
-      go : (o : Option (Progress X)) (n : Option Reading) → o ≡ option_map reached n → ((q : Reading) → made_from p (reached q) ws ≡ option_map (folded p) (tree_from q ws))
+      go : (o : Option (Progress X N)) (n : Option Reading) → o ≡ option_map reached n → ((q : Reading) → made_from p (reached q) ws ≡ option_map (folded p) (tree_from q ws))
           → elim o [ None ↦ None | Some q ↦ made_from p q ws ] ≡ option_map (folded p) (elim n [ None ↦ None | Some q ↦ tree_from q ws ])
       go None None h more = refl
       go (Some q) None h more = cc

@@ -1,5 +1,5 @@
 -- Expressions: which words are which expression.
-use Rattle.std.specs.Prelude.{◌≡◌, IsTrue, ℕ, ◌+◌, ◌-◌, ◌*◌, Bool, true, false, not, ◌||◌, ◌&&◌, nat_le, nat_lt, max, List, [], ◌∷◌, ◌++◌, fold, codes, bytes_eq}
+use Rattle.std.specs.Prelude.{◌≡◌, IsTrue, ℕ, ◌+◌, ◌-◌, ◌*◌, Bool, true, false, not, ◌||◌, ◌&&◌, nat_le, nat_lt, max, List, [], ◌∷◌, ◌++◌, codes, bytes_eq}
 use Rattle.std.specs.List.{list_all}
 use Rattle.wpds_port.specs.declared.Mark.{Mark}
 use Rattle.wpds_port.specs.declared.Mark.TheVariants.{Implies, Equal, Differs, Or, Xor, And, Not, Open, Close, Comma}
@@ -101,9 +101,13 @@ depth (Two o a b) = max (depth a) (depth b) + 1
 depth (Table2 n a b) = max (depth a) (depth b) + 1
 depth (Table3 n a b c) = max (depth a) (max (depth b) (depth c)) + 1
 
--- the number that digits write
+-- the number that digits write behind a number
+abbrev pub number_onto : ℕ → List ℕ → ℕ
+number_onto n [] = n
+number_onto n (d ∷ ds) = number_onto (10 * n + (d - 48)) ds
+
 abbrev pub number_of : List ℕ → ℕ
-number_of digits = fold (λ n d. 10 * n + (d - 48)) 0 digits
+number_of digits = number_onto 0 digits
 
 -- a table number is too large
 abbrev pub has_large_table : Tree → Bool

@@ -12,6 +12,6 @@ pub fn one_tree()
 {}
 
 /// What is made of words a word at a time is what is made of the tree that they are, whatever is made of its parts.
-pub fn one_making<X>()
-    ensures { (p : Parts X) (words : List Word) → made_of p words ≡ option_map (folded p) (tree_of words) }
+pub fn one_making<X, N>()
+    ensures { (p : Parts X N) (words : List Word) → made_of p words ≡ option_map (folded p) (tree_of words) }
 {}

@@ -3,10 +3,14 @@
 
 mod expr;
 mod laws;
+mod operand;
 mod operator;
+mod raw;
+mod stack;
 mod tables;
 
 pub use expr::{Expr, eval};
 pub use laws::{one_making, one_tree};
 pub use operator::Operator;
+pub use raw::RawExpr;
 pub use tables::{Table2, Table3, value2, value3};
