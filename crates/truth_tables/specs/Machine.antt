@@ -69,6 +69,9 @@ module _ {X N : Type 0} (p : Parts X N) where
   abbrev pub operator_waits : Operator → List (Unclosed X N) × X → Progress X N
   operator_waits o r = Wanted (OperatorOpen o r.1 ∷ r.0)
 
+  abbrev pub after_operator : Operator → List (Unclosed X N) → X → Option (Progress X N)
+  after_operator o ps e = Some (operator_waits o (closed (least_left o) ps e))
+
   abbrev pub behind_mark : Mark → List (Unclosed X N) → X → Option (Progress X N)
   behind_mark Comma ps e = let r = closed 1 ps e in behind_comma r.0 r.1
   behind_mark Close ps e = let r = closed 1 ps e in behind_close r.0 r.1
@@ -77,9 +80,12 @@ module _ {X N : Type 0} (p : Parts X N) where
   abbrev pub behind_name : List (Unclosed X N) → List ℕ → Option (Progress X N)
   behind_name ps x = if bytes_eq x (codes "return") then None else (if bytes_eq x (codes "tab2") then Some (Behind2 ps) else (if bytes_eq x (codes "tab3") then Some (Behind3 ps) else Some (Operand ps (p.variable x))))
 
+  abbrev pub behind_number : List (Unclosed X N) → List ℕ → Option (Progress X N)
+  behind_number ps n = option_map (λ b. Operand ps (p.constant b)) (constant_of n)
+
   abbrev pub progress : Progress X N → Word → Option (Progress X N)
   progress (Wanted ps) (Name x) = behind_name ps x
-  progress (Wanted ps) (Number n) = option_map (λ b. Operand ps (p.constant b)) (constant_of n)
+  progress (Wanted ps) (Number n) = behind_number ps n
   progress (Wanted ps) (Sign Not) = Some (Wanted (NotOpen ∷ ps))
   progress (Wanted ps) (Sign Open) = Some (Wanted (BracketOpen ∷ ps))
   progress (Behind2 ps) (Number n) = Some (Counted2 ps (p.number2 n))

@@ -7,6 +7,7 @@ mod operand;
 mod operator;
 mod raw;
 mod stack;
+mod steps;
 mod tables;
 
 pub use expr::{Expr, eval};
