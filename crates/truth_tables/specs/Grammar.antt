@@ -116,8 +116,8 @@ has_large_table (Variable x) = false
 has_large_table (Bracket e) = has_large_table e
 has_large_table (Inverse e) = has_large_table e
 has_large_table (Two o a b) = has_large_table a || has_large_table b
-has_large_table (Table2 n a b) = nat_lt 15 (number_of n) || has_large_table a || has_large_table b
-has_large_table (Table3 n a b c) = nat_lt 255 (number_of n) || has_large_table a || has_large_table b || has_large_table c
+has_large_table (Table2 n a b) = nat_lt 15 (number_of n) || (has_large_table a || has_large_table b)
+has_large_table (Table3 n a b c) = nat_lt 255 (number_of n) || (has_large_table a || (has_large_table b || has_large_table c))
 
 -- ---- the operator tables
 

@@ -5,3 +5,4 @@ pub mod Operands
 pub mod Positions
 pub mod Stacks
 pub mod Tables
+pub mod Texts
