@@ -1,15 +1,15 @@
 -- The text of an expression, and its answer.
-use Rattle.std.proofs.Common.{◌≡◌, ◌≢◌, ℕ, zero, suc, ◌+◌, ◌-◌, ◌<◌, ◌≤◌, Bool, true, false, not, ◌&&◌, cond, List, [], ◌∷◌, ◌++◌, length, take, drop, map, get_or, Option, Some, None, option_map, refl, sym, ap, ◌∙◌, subst, arith, drop-cons}
-use Rattle.std.specs.Prelude.{Result, Ok, Err, IfOk, nat_lt}
+use Rattle.std.proofs.Common.{◌≡◌, ◌≢◌, ℕ, zero, suc, ◌+◌, ◌-◌, ◌<◌, ◌≤◌, Bool, true, false, not, ◌||◌, cond, List, [], ◌∷◌, ◌++◌, length, take, drop, map, get_or, Option, Some, None, option_map, refl, sym, ap, ◌∙◌, subst, arith, drop-cons}
+use Rattle.std.specs.Prelude.{IsTrue, Result, Ok, Err, IfOk, nat_lt}
 use Rattle.std.proofs.lemmas.List.{length-map, length-take-le}
 use Rattle.wpds_port.specs.declared.OutOfMemory.{OutOfMemory}
 use Rattle.std.specs.List.{list_all}
-use Rattle.std.proofs.lemmas.Bool.{ltb-true, ltb-false}
+use Rattle.std.proofs.lemmas.Bool.{ltb-true, ltb-false, lt-ltb, or_parts, not-true}
 use Rattle.wpds_port.specs.declared.Word.{Word}
 use Rattle.wpds_port.specs.declared.Token.{Token}
 use Rattle.wpds_port.specs.Tokens.{is_lawful_word}
-use Rattle.truth_tables.specs.Formulas.{Formula}
-use Rattle.truth_tables.specs.Grammar.{Tree, Writes, IsExpression, depth, has_large_table, formula_of}
+use Rattle.truth_tables.specs.Formulas.{Formula, has_small_tables}
+use Rattle.truth_tables.specs.Grammar.{Operator, ThenOperator, SameOperator, OtherOperator, OrOperator, XorOperator, AndOperator, Tree, Constant, Variable, Bracket, Inverse, Two, Table2, Table3, IsExpression, depth, number_of, table_of, has_large_table, formula_of}
 use Rattle.truth_tables.specs.Stacks.{tree_of}
 use Rattle.truth_tables.specs.Machine.{folded, made_of}
 use Rattle.truth_tables.specs.Operands.{Made, built_of, operand_of, parts, raw_formula}
@@ -19,7 +19,7 @@ use Rattle.truth_tables.specs.declared.operand.Unread.TheVariants.{Table, Deep}
 use Rattle.truth_tables.specs.declared.raw.RawExpr.{RawExpr}
 use Rattle.truth_tables.specs.declared.reading.ExprRead.{ExprRead}
 use Rattle.truth_tables.specs.declared.reading.ExprRead.TheVariants.{Read, Form, Table as TableAnswer, Deep as DeepAnswer}
-use Rattle.truth_tables.specs.Texts.{words_of, text_within, text_at, IsAnswer, answer_on}
+use Rattle.truth_tables.specs.Texts.{words_of, text_within, text_at, IsAnswer, IfRead, answer_on}
 use Rattle.truth_tables.proofs.Readings.{is_tree}
 use Rattle.truth_tables.proofs.OfMachine.{made_of_tree}
 use Rattle.truth_tables.proofs.OfOutcomes.{outcome, made_so}
@@ -136,3 +136,47 @@ answer_made limit next ws None lawful h = answer_form limit next ws h
 answer_made limit next ws (Some (Ok b)) lawful h = answer_read limit next next ws b.expr (built_of b) lawful h refl refl
 answer_made limit next ws (Some (Err Table)) lawful h = answer_table limit next ws lawful h
 answer_made limit next ws (Some (Err Deep)) lawful h = answer_deep limit next ws lawful h
+
+-- ---- tables
+
+operator_small : (o : Operator) → nat_lt (table_of o) 16 ≡ true
+operator_small ThenOperator = refl
+operator_small SameOperator = refl
+operator_small OtherOperator = refl
+operator_small OrOperator = refl
+operator_small XorOperator = refl
+operator_small AndOperator = refl
+
+number_small : (n : List ℕ) → nat_lt 15 (number_of n) ≡ false → nat_lt (number_of n) 16 ≡ true
+number_small n h = lt-ltb (number_of n) 16 (omega (arith, ltb-false 15 (number_of n) h))
+
+pub small_tables : (e : Tree) → has_large_table e ≡ false → has_small_tables (formula_of e) ≡ true
+small_tables (Constant b) h = refl
+small_tables (Variable x) h = refl
+small_tables (Bracket e) h = small_tables e h
+small_tables (Inverse e) h = small_tables e h
+small_tables (Two o a b) h =
+    let k = or_parts (has_large_table a) (has_large_table b) h in
+    rw (operator_small o, small_tables a k.0, small_tables b k.1) refl
+small_tables (Table2 n a b) h =
+    let k = or_parts (nat_lt 15 (number_of n)) (has_large_table a || has_large_table b) h in
+    let l = or_parts (has_large_table a) (has_large_table b) k.1 in
+    rw (number_small n k.0, small_tables a l.0, small_tables b l.1) refl
+small_tables (Table3 n a b c) h =
+    let k = or_parts (nat_lt 255 (number_of n)) (has_large_table a || (has_large_table b || has_large_table c)) h in
+    let l = or_parts (has_large_table a) (has_large_table b || has_large_table c) k.1 in
+    let m = or_parts (has_large_table b) (has_large_table c) l.1 in
+    rw (small_tables a l.0, small_tables b m.0, small_tables c m.1) refl
+
+abbrev HasSmall : ExprRead → Type 0
+HasSmall r = IfRead r (λ e. IsTrue (has_small_tables (raw_formula e)))
+
+answer_small : (limit end : ℕ) (ws : List Word) (r : ExprRead) → IsAnswer ws end limit r → HasSmall r
+answer_small limit end ws (Read e n) h = subst (λ f. has_small_tables f ≡ true) (sym h.4) (small_tables h.0 (not-true (has_large_table h.0) h.2))
+answer_small limit end ws Form h = tt
+answer_small limit end ws TableAnswer h = tt
+answer_small limit end ws DeepAnswer h = tt
+
+pub read_small : (limit end : ℕ) (ws : List Word) (r : Result ExprRead OutOfMemory) → IfOk r (IsAnswer ws end limit) → IfOk r HasSmall
+read_small limit end ws (Ok r) h = answer_small limit end ws r h
+read_small limit end ws (Err e) h = tt

@@ -27,6 +27,14 @@ is_over n (Opposite f) = is_over n f
 is_over n (Binary t f g) = nat_lt t 16 && is_over n f && is_over n g
 is_over n (Ternary t f g h) = is_over n f && is_over n g && is_over n h
 
+-- each table of two places is below 16
+abbrev pub has_small_tables : {V : Type 0} → Formula V → Bool
+has_small_tables (Constant b) = true
+has_small_tables (Variable x) = true
+has_small_tables (Opposite f) = has_small_tables f
+has_small_tables (Binary t f g) = nat_lt t 16 && (has_small_tables f && has_small_tables g)
+has_small_tables (Ternary t f g h) = has_small_tables f && (has_small_tables g && has_small_tables h)
+
 -- the formula that an expression in memory is
 abbrev pub formula : Expr → Formula ℕ
 formula (Const b) = Constant b

@@ -9,6 +9,7 @@ use Rattle.truth_tables.specs.Operands.{raw_formula}
 use Rattle.truth_tables.specs.declared.operand.Built.{Built}
 use Rattle.truth_tables.specs.declared.operand.Unread.{Unread}
 use Rattle.truth_tables.specs.declared.operand.Unread.TheVariants.{Table as TooLarge, Deep as TooDeep}
+use Rattle.truth_tables.specs.declared.raw.RawExpr.{RawExpr}
 use Rattle.truth_tables.specs.declared.reading.ExprRead.{ExprRead}
 use Rattle.truth_tables.specs.declared.reading.ExprRead.TheVariants.{Read, Form, Table, Deep}
 
@@ -64,3 +65,8 @@ answer_on None next = Form
 answer_on (Some (Ok b)) next = Read b.expr next
 answer_on (Some (Err TooLarge)) next = Table
 answer_on (Some (Err TooDeep)) next = Deep
+
+-- a fact for the expression, where one was read
+abbrev pub IfRead : ExprRead → (RawExpr → Type 0) → Type 0
+IfRead (Read expr next) P = P expr
+IfRead r P = Unit {0}

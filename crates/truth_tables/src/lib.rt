@@ -2,6 +2,7 @@
 #![tactic(auto)]
 
 mod expr;
+mod instances;
 mod laws;
 mod operand;
 mod operator;
@@ -12,8 +13,12 @@ mod steps;
 mod tables;
 
 pub use expr::{Expr, eval};
+pub use instances::{instance2, instance3};
 pub use laws::{one_making, one_tree};
 pub use operator::Operator;
 pub use raw::RawExpr;
 pub use reading::{ExprRead, read_expr};
 pub use tables::{Table2, Table3, value2, value3};
+
+#[cfg(test)]
+mod tests;

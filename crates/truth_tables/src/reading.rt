@@ -1,9 +1,10 @@
-ghost use Rattle.std.specs.Prelude.{◌≡◌, ◌+◌, ◌^◌, ◌<◌, ◌≤◌, IfOk, codes, length, option_map, take};
+ghost use Rattle.std.specs.Prelude.{◌≡◌, ◌+◌, ◌^◌, ◌<◌, ◌≤◌, IfOk, IsTrue, codes, length, option_map, take};
 ghost use Rattle.std.specs.List.{list_all};
 ghost use Rattle.wpds_port.specs.Tokens.{is_lawful_word};
+ghost use Rattle.truth_tables.specs.Formulas.{has_small_tables};
 ghost use Rattle.truth_tables.specs.Machine.{made_of};
-ghost use Rattle.truth_tables.specs.Operands.{operand_of, parts};
-ghost use Rattle.truth_tables.specs.Texts.{words_of, is_name, brackets_after, is_end_mark, ends_text as ends_text_of, text_within, text_at, IsAnswer, answer_on};
+ghost use Rattle.truth_tables.specs.Operands.{operand_of, parts, raw_formula};
+ghost use Rattle.truth_tables.specs.Texts.{words_of, is_name, brackets_after, is_end_mark, ends_text as ends_text_of, text_within, text_at, IsAnswer, IfRead, answer_on};
 
 use crate::RawExpr;
 use crate::operand::{Operand, Unread};
@@ -147,7 +148,8 @@ pub fn read_expr(
     depth: u32,
 ) -> Result<ExprRead, OutOfMemory>
     requires { at ≤ length tokens.now }
-    ensures { IfOk result (λ r. let text = text_at (words_of tokens.now) at in IsAnswer text (at + length text) depth r) }
+    ensures answer { IfOk result (λ r. let text = text_at (words_of tokens.now) at in IsAnswer text (at + length text) depth r) }
+    ensures tables { IfOk result (λ r. IfRead r (λ e. IsTrue (has_small_tables (raw_formula e)))) }
 {
     let rest = &tokens[at..];
     let count = text_len(rest);
