@@ -2,7 +2,7 @@ ghost use Rattle.std.specs.Prelude.{◌≤◌};
 
 use crate::{
     Failed, InputFault, Kind, MemSink, MemSource, OutOfMemory, ReadFault, Refusal, Sink, Source,
-    StdSink, StdSource, SureSink, SureSource, read_up_to, write_all,
+    StdSink, StdSource, SureSink, SureSource, Token, Word, read_up_to, tokens, write_all,
 };
 use std::alloc::Global;
 use std::test::Fail;
@@ -159,5 +159,58 @@ fn texts(rt: HostRuntime) -> Result<(), Fail> {
         format!(in alloc; "{}", ReadFault::from(OutOfMemory))?.as_str(),
         "out of memory"
     );
+    Ok(())
+}
+
+fn kind_of(token: &Token) -> &'static str {
+    match &token.word {
+        Word::Name(_) => "name",
+        Word::Number(_) => "number",
+        Word::Mark(_) => "mark",
+    }
+}
+
+#[test]
+fn lines_are_cut_into_tokens(rt: HostRuntime) -> Result<(), Fail> {
+    let alloc = rt.alloc();
+    // each token with its kind and its text between bars, or what begins no token
+    let cases: [(&str, &str); 10] = [
+        ("", ""),
+        (" \t ", ""),
+        ("a_1$@b->c", "name a_1$@b|mark ->|name c|"),
+        ("_x 007 7x", "name _x|number 007|number 7|name x|"),
+        (
+            "=>=!=!: :=:",
+            "mark =>|mark =|mark !=|mark !|mark :|mark :=|mark :|",
+        ),
+        ("->->- >", "unknown"),
+        (
+            ";,.*+-?",
+            "mark ;|mark ,|mark .|mark *|mark +|mark -|mark ?|",
+        ),
+        (
+            "&|^(){}",
+            "mark &|mark ||mark ^|mark (|mark )|mark {|mark }|",
+        ),
+        ("a $b", "unknown"),
+        ("x \u{e9}", "unknown"),
+    ];
+    for (line, want) in cases {
+        let mut text = String::new(alloc);
+        match tokens(alloc, line.as_bytes())? {
+            None => text.push_str("unknown")?,
+            Some(found) => {
+                for token in found.as_slice() {
+                    let word = String::from_utf8_lossy(alloc, token.word.text())?;
+                    text.push_str(format!(in alloc; "{} {}|", kind_of(token), word)?.as_str())?;
+                    assert_eq!(rt;
+                        line.as_bytes().get(token.start..token.end),
+                        Some(token.word.text())
+                    );
+                }
+            }
+        }
+        assert_eq!(rt; text.as_str(), want);
+    }
     Ok(())
 }

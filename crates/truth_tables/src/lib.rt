@@ -1,0 +1,24 @@
+//! Operators by their truth tables, and the expressions that both languages write with them.
+#![tactic(auto)]
+
+mod expr;
+mod instances;
+mod laws;
+mod operand;
+mod operator;
+mod raw;
+mod reading;
+mod stack;
+mod steps;
+mod tables;
+
+pub use expr::{Expr, eval};
+pub use instances::{instance2, instance3};
+pub use laws::{one_making, one_tree};
+pub use operator::Operator;
+pub use raw::RawExpr;
+pub use reading::{ExprRead, read_expr};
+pub use tables::{Table2, Table3, value2, value3};
+
+#[cfg(test)]
+mod tests;

@@ -1,0 +1,152 @@
+ghost use Rattle.std.specs.Prelude.{◌≡◌, ◌≤◌, IfOk, Ok, drop, length};
+ghost use Rattle.truth_tables.specs.Operands.{both_of, level_more, built_of, operand_of, raw_formula, bracketed, opposite, two_made, three_made, table_at_most, Const, Var};
+
+use crate::RawExpr;
+use std::alloc::Global;
+use wpds_port::{OutOfMemory, Text};
+
+/// Why an expression that has its form is not read.
+#[derive(Clone, Copy, Debug, PartialEq, Eq)]
+pub enum Unread {
+    /// The number of a table is too large.
+    Table,
+    /// It is too deep.
+    Deep,
+}
+
+/// An expression that was read, and how deep it was written.
+#[derive(Drop)]
+pub struct Built {
+    pub expr: RawExpr,
+    pub depth: u32,
+}
+
+/// A part of an expression while it is read: built, as long as it is not too deep.
+pub type Operand = Result<Built, Unread>;
+
+/// The number of a table, if it is not too large.
+pub type TableNumber = Result<u8, Unread>;
+
+// Both values, or what keeps one of them from being read, a table's number first.
+fn both<A: Drop, B: Drop>(a: Result<A, Unread>, b: Result<B, Unread>) -> Result<(A, B), Unread>
+    ensures { result ≡ both_of a b }
+{
+    match (a, b) {
+        (Ok(a), Ok(b)) => Ok((a, b)),
+        (Ok(_), Err(fault)) => Err(fault),
+        (Err(Unread::Deep), Err(fault)) => Err(fault),
+        (Err(fault), _) => Err(fault),
+    }
+}
+
+// An expression over parts of this depth.
+fn above(limit: u32, below: u32, expr: RawExpr) -> Operand
+    ensures { operand_of result ≡ level_more limit below (raw_formula expr) }
+{
+    if below < limit {
+        Ok(Built {
+            expr,
+            depth: below + 1,
+        })
+    } else {
+        Err(Unread::Deep)
+    }
+}
+
+pub fn constant(limit: u32, value: bool) -> Operand
+    ensures { operand_of result ≡ level_more limit 0 (Const value) }
+{
+    above(limit, 0, RawExpr::Const(value))
+}
+
+pub fn variable(alloc: Global, limit: u32, name: &Text) -> Result<Operand, OutOfMemory>
+    ensures { IfOk result (λ e. operand_of e ≡ level_more limit 0 (Var name.now)) }
+{
+    let name = Text::of(alloc, name.as_bytes())?;
+    Ok(above(limit, 0, RawExpr::Var(name)))
+}
+
+pub fn bracket(limit: u32, operand: Operand) -> Operand
+    ensures { operand_of result ≡ bracketed limit (operand_of operand) }
+{
+    match operand {
+        Ok(built) => above(limit, built.depth, built.expr),
+        Err(fault) => Err(fault),
+    }
+}
+
+pub fn inverse(alloc: Global, limit: u32, operand: Operand) -> Result<Operand, OutOfMemory>
+    ensures { IfOk result (λ e. operand_of e ≡ opposite limit (operand_of operand)) }
+{
+    match operand {
+        Ok(built) => {
+            let expr = RawExpr::Not(Box::new(alloc, built.expr)?);
+            Ok(above(limit, built.depth, expr))
+        }
+        Err(fault) => Ok(Err(fault)),
+    }
+}
+
+#[tactic(auto, using(crate::proofs::OfOperands::two_built, crate::proofs::OfOperands::two_unread))]
+pub fn two(
+    alloc: Global,
+    limit: u32,
+    table: TableNumber,
+    left: Operand,
+    right: Operand,
+) -> Result<Operand, OutOfMemory>
+    ensures { IfOk result (λ e. operand_of e ≡ two_made limit table (operand_of left) (operand_of right)) }
+{
+    match both(table, both(left, right)) {
+        Ok((table, (left, right))) => {
+            let below = left.depth.max(right.depth);
+            let expr = RawExpr::Two {
+                table,
+                left: Box::new(alloc, left.expr)?,
+                right: Box::new(alloc, right.expr)?,
+            };
+            Ok(above(limit, below, expr))
+        }
+        Err(fault) => Ok(Err(fault)),
+    }
+}
+
+#[tactic(auto, using(crate::proofs::OfOperands::three_built, crate::proofs::OfOperands::three_unread))]
+pub fn three(
+    alloc: Global,
+    limit: u32,
+    table: TableNumber,
+    a: Operand,
+    b: Operand,
+    c: Operand,
+) -> Result<Operand, OutOfMemory>
+    ensures { IfOk result (λ e. operand_of e ≡ three_made limit table (operand_of a) (operand_of b) (operand_of c)) }
+{
+    match both(table, both(a, both(b, c))) {
+        Ok((table, (a, (b, c)))) => {
+            let below = a.depth.max(b.depth.max(c.depth));
+            let expr = RawExpr::Three {
+                table,
+                a: Box::new(alloc, a.expr)?,
+                b: Box::new(alloc, b.expr)?,
+                c: Box::new(alloc, c.expr)?,
+            };
+            Ok(above(limit, below, expr))
+        }
+        Err(fault) => Ok(Err(fault)),
+    }
+}
+
+/// The number that the digits write, if it is at most `most`.
+pub fn table_number(digits: &[u8], most: u8) -> TableNumber
+    ensures { result ≡ table_at_most most digits.now }
+{
+    let mut number: u32 = 0;
+    for digit in digits {
+        number = 10 * number + u32::from(digit.saturating_sub(b'0'));
+        if number > u32::from(most) {
+            return Err(Unread::Table);
+        }
+    }
+    Ok(number as u8)
+}

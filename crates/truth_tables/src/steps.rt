@@ -1,0 +1,214 @@
+ghost use Rattle.std.specs.Prelude.{◌≡◌, IfOk, List, option_map};
+ghost use Rattle.wpds_port.specs.declared.Mark.TheVariants.{Comma, Close};
+ghost use Rattle.truth_tables.specs.Machine.{behind_comma, behind_close, behind_mark, after_operator, behind_name, behind_number, progress, at_last, Wanted};
+ghost use Rattle.truth_tables.specs.Operands.{operand_of, parts};
+ghost use Rattle.truth_tables.specs.Positions.{stack_of, position_of, part_pushed};
+ghost use Rattle.truth_tables.specs.declared.stack.OpenPart.{OpenPart as OpenPartValue};
+
+use crate::Operator;
+use crate::operand::{Operand, bracket, constant, table_number, three, two, variable};
+use crate::stack::{OpenPart, Position, join};
+use std::alloc::Global;
+use wpds_port::{Mark, OutOfMemory, Text, Word};
+
+// A name where an operand is wanted.
+fn at_name(alloc: Global, limit: u32, name: &Text) -> Result<Option<Position>, OutOfMemory>
+    ensures { IfOk result (λ o. (ps : List OpenPartValue) → option_map (λ q. position_of q ps) o ≡ behind_name (parts limit) (stack_of ps) name.now) }
+{
+    let bytes = name.as_bytes();
+    if bytes == b"return".as_slice() {
+        return Ok(None);
+    }
+    if bytes == b"tab2".as_slice() {
+        return Ok(Some(Position::Behind2));
+    }
+    if bytes == b"tab3".as_slice() {
+        return Ok(Some(Position::Behind3));
+    }
+    Ok(Some(Position::Behind(variable(alloc, limit, name)?)))
+}
+
+// A number where an operand is wanted.
+fn at_number(limit: u32, number: &Text) -> Option<Position>
+    ensures { (ps : List OpenPartValue) → option_map (λ q. position_of q ps) result ≡ behind_number (parts limit) (stack_of ps) number.now }
+{
+    let digits = number.as_bytes();
+    if digits == b"0".as_slice() {
+        return Some(Position::Behind(constant(limit, false)));
+    }
+    if digits == b"1".as_slice() {
+        return Some(Position::Behind(constant(limit, true)));
+    }
+    None
+}
+
+// Leaves a part open, behind which an operand is wanted.
+#[tactic(auto, using(crate::proofs::OfStacks::pushed))]
+fn open(stack: &mut Vec<OpenPart>, part: OpenPart) -> Result<Option<Position>, OutOfMemory>
+    ensures { IfOk result (λ o. option_map (λ q. position_of q stack.new.items) o ≡ part_pushed (stack_of stack.old.items) part) }
+{
+    stack.push(part)?;
+    Ok(Some(Position::Wanted))
+}
+
+// A word where an operand is wanted.
+fn at_operand(
+    alloc: Global,
+    limit: u32,
+    stack: &mut Vec<OpenPart>,
+    word: &Word,
+) -> Result<Option<Position>, OutOfMemory>
+    ensures { IfOk result (λ o. option_map (λ q. position_of q stack.new.items) o
+        ≡ progress (parts limit) (Wanted (stack_of stack.old.items)) word.now) }
+{
+    match word {
+        Word::Name(name) => at_name(alloc, limit, name),
+        Word::Number(number) => Ok(at_number(limit, number)),
+        Word::Mark(Mark::Not) => open(stack, OpenPart::Not),
+        Word::Mark(Mark::Open) => open(stack, OpenPart::Bracket),
+        Word::Mark(_) => Ok(None),
+    }
+}
+
+// A comma behind an operand that is joined.
+#[tactic(auto, using(crate::proofs::OfStacks::comma_none, crate::proofs::OfStacks::comma_first2, crate::proofs::OfStacks::comma_first3, crate::proofs::OfStacks::comma_second3, crate::proofs::OfStacks::comma_other))]
+fn at_comma(
+    stack: &mut Vec<OpenPart>,
+    operand: Operand,
+    limit: u32,
+) -> Result<Option<Position>, OutOfMemory>
+    ensures { IfOk result (λ o. option_map (λ q. position_of q stack.new.items) o
+        ≡ behind_comma (parts limit) (stack_of stack.old.items) (operand_of operand)) }
+{
+    let Some(top) = stack.pop() else {
+        return Ok(None);
+    };
+    match top {
+        OpenPart::First2(table) => open(stack, OpenPart::Second2(table, operand)),
+        OpenPart::First3(table) => open(stack, OpenPart::Second3(table, operand)),
+        OpenPart::Second3(table, a) => open(stack, OpenPart::Third3(table, a, operand)),
+        _ => Ok(None),
+    }
+}
+
+// A closing bracket behind an operand that is joined.
+#[tactic(auto, using(crate::proofs::OfStacks::close_none, crate::proofs::OfStacks::close_bracket, crate::proofs::OfStacks::close_second2, crate::proofs::OfStacks::close_third3, crate::proofs::OfStacks::close_other))]
+fn at_close(
+    alloc: Global,
+    limit: u32,
+    stack: &mut Vec<OpenPart>,
+    operand: Operand,
+) -> Result<Option<Position>, OutOfMemory>
+    ensures { IfOk result (λ o. option_map (λ q. position_of q stack.new.items) o
+        ≡ behind_close (parts limit) (stack_of stack.old.items) (operand_of operand)) }
+{
+    let Some(top) = stack.pop() else {
+        return Ok(None);
+    };
+    let made = match top {
+        OpenPart::Bracket => bracket(limit, operand),
+        OpenPart::Second2(table, a) => two(alloc, limit, table, a, operand)?,
+        OpenPart::Third3(table, a, b) => three(alloc, limit, table, a, b, operand)?,
+        _ => return Ok(None),
+    };
+    Ok(Some(Position::Behind(made)))
+}
+
+// An operator behind an operand.
+#[tactic(auto, using(crate::proofs::OfStacks::operator_joined))]
+fn at_operator(
+    alloc: Global,
+    limit: u32,
+    stack: &mut Vec<OpenPart>,
+    operand: Operand,
+    operator: Operator,
+) -> Result<Option<Position>, OutOfMemory>
+    ensures { IfOk result (λ o. option_map (λ q. position_of q stack.new.items) o
+        ≡ after_operator (parts limit) operator (stack_of stack.old.items) (operand_of operand)) }
+{
+    let joined = join(alloc, limit, stack, operator.least_left(), operand)?;
+    open(stack, OpenPart::Operator(operator, joined))
+}
+
+// A mark behind an operand.
+#[tactic(auto, using(crate::proofs::OfStacks::mark_operator, crate::proofs::OfStacks::mark_comma, crate::proofs::OfStacks::mark_close, crate::proofs::OfStacks::mark_other))]
+fn behind_operand(
+    alloc: Global,
+    limit: u32,
+    stack: &mut Vec<OpenPart>,
+    operand: Operand,
+    mark: Mark,
+) -> Result<Option<Position>, OutOfMemory>
+    ensures { IfOk result (λ o. option_map (λ q. position_of q stack.new.items) o
+        ≡ behind_mark (parts limit) mark (stack_of stack.old.items) (operand_of operand)) }
+{
+    if let Some(operator) = Operator::of(mark) {
+        return at_operator(alloc, limit, stack, operand, operator);
+    }
+    match mark {
+        Mark::Comma => {
+            let joined = join(alloc, limit, stack, 1, operand)?;
+            at_comma(stack, joined, limit)
+        }
+        Mark::Close => {
+            let joined = join(alloc, limit, stack, 1, operand)?;
+            at_close(alloc, limit, stack, joined)
+        }
+        _ => Ok(None),
+    }
+}
+
+/// One word more of an expression's text. None: with it the text is no expression.
+pub fn step(
+    alloc: Global,
+    limit: u32,
+    stack: &mut Vec<OpenPart>,
+    position: Position,
+    word: &Word,
+) -> Result<Option<Position>, OutOfMemory>
+    ensures { IfOk result (λ o. option_map (λ q. position_of q stack.new.items) o
+        ≡ progress (parts limit) (position_of position stack.old.items) word.now) }
+{
+    match (position, word) {
+        (Position::Wanted, word) => at_operand(alloc, limit, stack, word),
+        (Position::Behind2, Word::Number(digits)) => {
+            let number = table_number(digits.as_bytes(), 15);
+            Ok(Some(Position::Counted2(number)))
+        }
+        (Position::Behind3, Word::Number(digits)) => {
+            let number = table_number(digits.as_bytes(), 255);
+            Ok(Some(Position::Counted3(number)))
+        }
+        (Position::Counted2(number), Word::Mark(Mark::Open)) => {
+            open(stack, OpenPart::First2(number))
+        }
+        (Position::Counted3(number), Word::Mark(Mark::Open)) => {
+            open(stack, OpenPart::First3(number))
+        }
+        (Position::Behind(operand), Word::Mark(mark)) => {
+            behind_operand(alloc, limit, stack, operand, *mark)
+        }
+        _ => Ok(None),
+    }
+}
+
+/// The operand at the text's end, if nothing else is open there.
+#[tactic(auto, using(crate::proofs::OfStacks::alone_empty, crate::proofs::OfStacks::alone_open))]
+pub fn finish(
+    alloc: Global,
+    limit: u32,
+    mut stack: Vec<OpenPart>,
+    position: Position,
+) -> Result<Option<Operand>, OutOfMemory>
+    ensures { IfOk result (λ o. option_map operand_of o ≡ at_last (parts limit) (position_of position stack.items)) }
+{
+    let Position::Behind(operand) = position else {
+        return Ok(None);
+    };
+    let joined = join(alloc, limit, &mut stack, 1, operand)?;
+    if stack.is_empty() {
+        Ok(Some(joined))
+    } else {
+        Ok(None)
+    }
+}

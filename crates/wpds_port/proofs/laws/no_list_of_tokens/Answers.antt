@@ -1,0 +1,5 @@
+use Rattle.wpds_port.proofs.OfStops.{is_stuck}
+use Rattle.wpds_port.proofs.laws.no_list_of_tokens.Goals as goal
+
+pub returns : goal.returns
+returns c = is_stuck

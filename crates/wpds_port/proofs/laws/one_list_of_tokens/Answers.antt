@@ -1,0 +1,5 @@
+use Rattle.wpds_port.proofs.OfTokens.{are_tokens}
+use Rattle.wpds_port.proofs.laws.one_list_of_tokens.Goals as goal
+
+pub returns : goal.returns
+returns c = are_tokens

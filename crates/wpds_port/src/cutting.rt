@@ -1,0 +1,167 @@
+ghost use Rattle.std.specs.Prelude.{◌≡◌, ◌≤◌, IfOk, IfSome, IfNone, option_map, length, take};
+ghost use Rattle.wpds_port.specs.Tokens.{is_blank, mark_at, word_text, word_at, is_digit, begins_name, goes_on_name, bytes_while, tokens as tokens_of, AreTokens, IsStuck};
+
+use crate::{Mark, OutOfMemory, Text, Token, TokenList, Word};
+use std::alloc::Global;
+
+fn blank(b: u8) -> bool
+    ensures { result ≡ is_blank b }
+{
+    b == b' ' || b == b'\t'
+}
+
+fn digit(b: u8) -> bool
+    ensures { result ≡ is_digit b }
+{
+    b.is_ascii_digit()
+}
+
+fn name_begins(b: u8) -> bool
+    ensures { result ≡ begins_name b }
+{
+    b.is_ascii_uppercase() || b.is_ascii_lowercase() || b == b'_'
+}
+
+fn name_goes_on(b: u8) -> bool
+    ensures { result ≡ goes_on_name b }
+{
+    name_begins(b) || digit(b) || b == b'$' || b == b'@'
+}
+
+/// The longest mark that the text begins with.
+fn mark_in(text: &[u8]) -> Option<Mark>
+    ensures { result ≡ mark_at text.now }
+{
+    match text {
+        [b'-', b'>', ..] => Some(Mark::Arrow),
+        [b'=', b'>', ..] => Some(Mark::Implies),
+        [b':', b'=', ..] => Some(Mark::Becomes),
+        [b'!', b'=', ..] => Some(Mark::Differs),
+        [b':', ..] => Some(Mark::Colon),
+        [b';', ..] => Some(Mark::Semicolon),
+        [b',', ..] => Some(Mark::Comma),
+        [b'.', ..] => Some(Mark::Dot),
+        [b'*', ..] => Some(Mark::Star),
+        [b'+', ..] => Some(Mark::Plus),
+        [b'-', ..] => Some(Mark::Minus),
+        [b'=', ..] => Some(Mark::Equal),
+        [b'?', ..] => Some(Mark::Question),
+        [b'!', ..] => Some(Mark::Not),
+        [b'&', ..] => Some(Mark::And),
+        [b'|', ..] => Some(Mark::Or),
+        [b'^', ..] => Some(Mark::Xor),
+        [b'(', ..] => Some(Mark::Open),
+        [b')', ..] => Some(Mark::Close),
+        [b'{', ..] => Some(Mark::OpenBrace),
+        [b'}', ..] => Some(Mark::CloseBrace),
+        _ => None,
+    }
+}
+
+fn name_len(text: &[u8]) -> usize
+    ensures within { result ≤ length text.now }
+    ensures bytes { take result text.now ≡ bytes_while goes_on_name text.now }
+{
+    let mut n = 0;
+    for b in text {
+        if !name_goes_on(*b) {
+            return n;
+        }
+        n += 1;
+    }
+    n
+}
+
+fn digits_len(text: &[u8]) -> usize
+    ensures within { result ≤ length text.now }
+    ensures bytes { take result text.now ≡ bytes_while is_digit text.now }
+{
+    let mut n = 0;
+    for b in text {
+        if !digit(*b) {
+            return n;
+        }
+        n += 1;
+    }
+    n
+}
+
+/// The bytes at the front that may stand in a name.
+fn name_text(alloc: Global, text: &[u8]) -> Result<Text, OutOfMemory>
+    ensures { IfOk result (λ t. t ≡ bytes_while goes_on_name text.now) }
+{
+    Text::of(alloc, &text[..name_len(text)])
+}
+
+fn number_text(alloc: Global, text: &[u8]) -> Result<Text, OutOfMemory>
+    ensures { IfOk result (λ t. t ≡ bytes_while is_digit text.now) }
+{
+    Text::of(alloc, &text[..digits_len(text)])
+}
+
+/// The longest token that the text begins with.
+fn word_in(alloc: Global, text: &[u8]) -> Result<Option<Word>, OutOfMemory>
+    ensures { IfOk result (λ o. o ≡ word_at text.now) }
+{
+    if text.is_empty() {
+        return Ok(None);
+    }
+    if name_begins(text[0]) {
+        return Ok(Some(Word::Name(name_text(alloc, text)?)));
+    }
+    if digit(text[0]) {
+        return Ok(Some(Word::Number(number_text(alloc, text)?)));
+    }
+    match mark_in(text) {
+        Some(mark) => Ok(Some(Word::Mark(mark))),
+        None => Ok(None),
+    }
+}
+
+fn word_len(word: &Word) -> usize
+    ensures { result ≡ length (word_text word.now) }
+{
+    word.text().len()
+}
+
+// The tokens up to the end of the line, or up to a place that begins none.
+fn cut(alloc: Global, line: &[u8]) -> Result<Option<Vec<Token>>, OutOfMemory>
+    ensures { IfOk result (λ o. option_map (λ v. v.items) o ≡ tokens_of line.now) }
+{
+    let mut found = Vec::new(alloc);
+    let mut place = 0;
+    while place < line.len() {
+        if blank(line[place]) {
+            place += 1;
+        } else {
+            match word_in(alloc, &line[place..])? {
+                None => return Ok(None),
+                Some(word) => {
+                    let end = place + word_len(&word);
+                    found.push(Token {
+                        word,
+                        start: place,
+                        end,
+                    })?;
+                    place = end;
+                }
+            }
+        }
+    }
+    Ok(Some(found))
+}
+
+/// Cuts a line into tokens, each as long as it can be, with blanks between them as one likes.
+///
+/// The answer is `None` where the cutting meets a byte that begins no token.
+#[tactic(auto, using(crate::proofs::OfTokens::tokens_given, crate::proofs::OfStops::stuck_given))]
+pub fn tokens(alloc: Global, line: &[u8]) -> Result<Option<TokenList>, OutOfMemory>
+    ensures tokens { IfOk result (λ o. IfSome o (AreTokens 0 line.now)) }
+    ensures stuck { IfOk result (λ o. IfNone o (IsStuck line.now)) }
+    ensures cutting { IfOk result (λ o. o ≡ tokens_of line.now) }
+{
+    match cut(alloc, line)? {
+        Some(found) => Ok(Some(TokenList::from_vec(found))),
+        None => Ok(None),
+    }
+}
