@@ -1,14 +1,11 @@
 -- How a document is cut into lines, and a line into words.
-use Rattle.std.specs.Prelude.{ℕ, Bool, ◌||◌, ◌==◌, List, map}
+use Rattle.std.specs.Prelude.{ℕ, Bool, ◌==◌, List, map}
 use Rattle.std.specs.List.{slice_split}
+pub use Rattle.wpds_port.specs.Tokens.{is_blank}
 use denote.Ref.{Bor}
 
 abbrev pub is_feed : ℕ → Bool
 is_feed b = b == 10
-
--- space or tab
-abbrev pub is_blank : ℕ → Bool
-is_blank b = b == 32 || b == 9
 
 -- The texts between the blanks of a line.
 abbrev pub words : List ℕ → List (List ℕ)

@@ -1,14 +1,7 @@
 -- Names, and what they are the names of.
-use Rattle.std.specs.Prelude.{ℕ, ◌<◌, ◌≤◌, Bool, false, not, ◌||◌, ◌&&◌, ◌==◌, nat_le, List, [], ◌∷◌, length, position, slice_index_or, Option, codes, bytes_eq, IsTrue}
+use Rattle.std.specs.Prelude.{ℕ, ◌<◌, ◌≤◌, Bool, false, not, ◌||◌, ◌&&◌, nat_le, List, [], ◌∷◌, length, position, slice_index_or, Option, codes, bytes_eq, IsTrue}
 use Rattle.std.specs.List.{list_any, list_all}
-
--- a letter or `_`
-abbrev pub begins_name : ℕ → Bool
-begins_name b = (nat_le 65 b && nat_le b 90) || (nat_le 97 b && nat_le b 122) || b == 95
-
--- these, digits, `$` and `@`
-abbrev pub goes_on_name : ℕ → Bool
-goes_on_name b = begins_name b || (nat_le 48 b && nat_le b 57) || b == 36 || b == 64
+pub use Rattle.wpds_port.specs.Tokens.{begins_name, goes_on_name}
 
 abbrev pub is_among : List (List ℕ) → List ℕ → Bool
 is_among xs x = list_any (bytes_eq x) xs
