@@ -1,5 +1,6 @@
 use crate::{Expr, ExprRead, RawExpr, eval, instance2, instance3, read_expr, value2, value3};
 use std::alloc::Global;
+use std::process::Abort;
 use std::test::Fail;
 use wpds_port::{OutOfMemory, tokens};
 
@@ -45,99 +46,113 @@ fn answer(alloc: Global, text: &[u8], at: usize, depth: u32) -> Result<String, O
     })
 }
 
+// How texts group: each operator by its table, and the place of the token behind the text.
+const GROUPS: &str = "\
+a & b ~ 8(a,b) 3
+a ^ b ~ 6(a,b) 3
+a | b ~ 14(a,b) 3
+a = b ~ 9(a,b) 3
+a != b ~ 6(a,b) 3
+a => b ~ 11(a,b) 3
+a & b ^ c ~ 6(8(a,b),c) 5
+a ^ b & c ~ 6(a,8(b,c)) 5
+a ^ b | c ~ 14(6(a,b),c) 5
+a | b ^ c ~ 14(a,6(b,c)) 5
+a | b = c ~ 9(14(a,b),c) 5
+a != b | c ~ 6(a,14(b,c)) 5
+a = b => c ~ 11(9(a,b),c) 5
+a => b != c ~ 11(a,6(b,c)) 5
+a => b => c ~ 11(a,11(b,c)) 5
+a = b != c ~ 6(9(a,b),c) 5
+a & b & c ~ 8(8(a,b),c) 5
+!a & b ~ 8(!a,b) 4
+a & !!b ~ 8(a,!!b) 5
+!(a & b) ~ !8(a,b) 6
+(a => b) => 1 ~ 11(11(a,b),1) 7
+tab2 7 (a, 0 | b) ~ 7(a,14(0,b)) 9
+tab3 202 (a, b, c) ~ 202(a,b,c) 9
+!tab2 15 (0, 1) ~ !15(0,1) 8
+tab3 255 (x, y, (z)) ~ 255(x,y,z) 11
+assume = skip ~ 9(assume,skip) 3";
+
+// Where texts end, and which are refused.
+const ENDS: &str = "\
+a, b ~ a 1
+a; b ~ a 1
+a -> b ~ a 1
+a) b ~ a 1
+a return b ~ a 1
+(a)) b ~ a 3
+tab2 6 (a, b), c ~ 6(a,b) 7
+(a; b) ~ form
+(a return) ~ form
+, a ~ form
+2 ~ form
+00 ~ form
+a b ~ form
+a & ~ form
+& a ~ form
+a ! b ~ form
+(a ~ form
+() ~ form
+tab2 ~ form
+tab2 & a ~ form
+tab2 x (a, b) ~ form
+tab2 06 (a, b) ~ form
+tab2 6 a, b ~ form
+tab2 6 (a) ~ form
+tab2 6 (a, b, c) ~ form
+tab3 6 (a, b) ~ form
+a : b ~ form
+tab2 16 (a, b) ~ table
+tab3 256 (a, b, c) ~ table
+tab2 99999999999999999999 (a, b) ~ table";
+
+// Texts that may be three deep.
+const DEPTHS: &str = "\
+!!a ~ !!a 3
+!!!a ~ deep
+((a)) ~ a 5
+(((a))) ~ deep
+a & (b) ~ 8(a,b) 5
+(a) & (b & c) ~ deep
+tab2 1 (!a, b) ~ 1(!a,b) 8
+tab2 1 (a, !!b) ~ deep
+tab3 1 (a, b, !!c) ~ deep
+tab2 16 (!!!a, b) ~ table
+!!!tab2 16 (a, b) ~ table
+!!!a & tab2 16 (a, b) ~ table
+!!!a & tab2 16 (a) ~ form";
+
+// Whether each line of a table is a text and its answer.
+fn answers_are(rt: &impl Abort, alloc: Global, table: &str, depth: u32) -> Result<(), OutOfMemory> {
+    for line in table.lines() {
+        if let Some((text, want)) = line.split_once(" ~ ") {
+            let got = answer(alloc, text.as_bytes(), 0, depth)?;
+            assert_eq!(rt; got.as_str(), want, "{text}");
+        }
+    }
+    Ok(())
+}
+
 #[test]
 fn expressions_group_by_their_levels(rt: HostRuntime) -> Result<(), Fail> {
-    let alloc = rt.alloc();
-    for (text, want) in [
-        ("a & b", "8(a,b) 3"),
-        ("a ^ b", "6(a,b) 3"),
-        ("a | b", "14(a,b) 3"),
-        ("a = b", "9(a,b) 3"),
-        ("a != b", "6(a,b) 3"),
-        ("a => b", "11(a,b) 3"),
-        ("a & b ^ c", "6(8(a,b),c) 5"),
-        ("a ^ b & c", "6(a,8(b,c)) 5"),
-        ("a ^ b | c", "14(6(a,b),c) 5"),
-        ("a | b ^ c", "14(a,6(b,c)) 5"),
-        ("a | b = c", "9(14(a,b),c) 5"),
-        ("a != b | c", "6(a,14(b,c)) 5"),
-        ("a = b => c", "11(9(a,b),c) 5"),
-        ("a => b != c", "11(a,6(b,c)) 5"),
-        ("a => b => c", "11(a,11(b,c)) 5"),
-        ("a = b != c", "6(9(a,b),c) 5"),
-        ("a & b & c", "8(8(a,b),c) 5"),
-        ("!a & b", "8(!a,b) 4"),
-        ("a & !!b", "8(a,!!b) 5"),
-        ("!(a & b)", "!8(a,b) 6"),
-        ("(a => b) => 1", "11(11(a,b),1) 7"),
-        ("tab2 7 (a, 0 | b)", "7(a,14(0,b)) 9"),
-        ("tab3 202 (a, b, c)", "202(a,b,c) 9"),
-        ("!tab2 15 (0, 1)", "!15(0,1) 8"),
-        ("tab3 255 (x, y, (z))", "255(x,y,z) 11"),
-        ("assume = skip", "9(assume,skip) 3"),
-    ] {
-        assert_eq!(rt;
-            answer(alloc, text.as_bytes(), 0, 64)?.as_str(),
-            want,
-            "{text}"
-        );
-    }
+    answers_are(&rt, rt.alloc(), GROUPS, 64)?;
     Ok(())
 }
 
 #[test]
 fn texts_end_and_are_refused(rt: HostRuntime) -> Result<(), Fail> {
     let alloc = rt.alloc();
+    answers_are(&rt, alloc, ENDS, 64)?;
+    answers_are(&rt, alloc, DEPTHS, 3)?;
     for (text, at, depth, want) in [
-        ("x := a & b", 2, 64, "8(a,b) 5"),
-        ("a, b", 0, 64, "a 1"),
-        ("a; b", 0, 64, "a 1"),
-        ("a -> b", 0, 64, "a 1"),
-        ("a) b", 0, 64, "a 1"),
-        ("a return b", 0, 64, "a 1"),
-        ("(a)) b", 0, 64, "a 3"),
-        ("tab2 6 (a, b), c", 0, 64, "6(a,b) 7"),
-        ("tab2 6 (a, b), c", 3, 64, "a 4"),
-        ("(a; b)", 0, 64, "form"),
-        ("(a return)", 0, 64, "form"),
         ("", 0, 64, "form"),
+        ("x := a & b", 2, 64, "8(a,b) 5"),
+        ("tab2 6 (a, b), c", 3, 64, "a 4"),
         ("a", 1, 64, "form"),
-        (", a", 0, 64, "form"),
-        ("2", 0, 64, "form"),
-        ("00", 0, 64, "form"),
-        ("a b", 0, 64, "form"),
-        ("a &", 0, 64, "form"),
-        ("& a", 0, 64, "form"),
-        ("a ! b", 0, 64, "form"),
-        ("(a", 0, 64, "form"),
-        ("()", 0, 64, "form"),
-        ("tab2", 0, 64, "form"),
-        ("tab2 & a", 0, 64, "form"),
-        ("tab2 x (a, b)", 0, 64, "form"),
-        ("tab2 06 (a, b)", 0, 64, "form"),
-        ("tab2 6 a, b", 0, 64, "form"),
-        ("tab2 6 (a)", 0, 64, "form"),
-        ("tab2 6 (a, b, c)", 0, 64, "form"),
-        ("tab3 6 (a, b)", 0, 64, "form"),
-        ("a : b", 0, 64, "form"),
-        ("tab2 16 (a, b)", 0, 64, "table"),
-        ("tab3 256 (a, b, c)", 0, 64, "table"),
-        ("tab2 99999999999999999999 (a, b)", 0, 64, "table"),
         ("a", 0, 1, "a 1"),
         ("a", 0, 0, "deep"),
-        ("!!a", 0, 3, "!!a 3"),
-        ("!!!a", 0, 3, "deep"),
-        ("((a))", 0, 3, "a 5"),
-        ("(((a)))", 0, 3, "deep"),
-        ("a & (b)", 0, 3, "8(a,b) 5"),
-        ("(a) & (b & c)", 0, 3, "deep"),
-        ("tab2 1 (!a, b)", 0, 3, "1(!a,b) 8"),
-        ("tab2 1 (a, !!b)", 0, 3, "deep"),
-        ("tab3 1 (a, b, !!c)", 0, 3, "deep"),
-        ("tab2 16 (!!!a, b)", 0, 3, "table"),
-        ("!!!tab2 16 (a, b)", 0, 3, "table"),
-        ("!!!a & tab2 16 (a, b)", 0, 3, "table"),
-        ("!!!a & tab2 16 (a)", 0, 3, "form"),
     ] {
         assert_eq!(rt;
             answer(alloc, text.as_bytes(), at, depth)?.as_str(),
