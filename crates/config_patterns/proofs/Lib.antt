@@ -1,0 +1,3 @@
+pub mod OfTests
+pub mod OfMembers
+pub mod OfPaths
