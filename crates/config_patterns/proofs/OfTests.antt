@@ -1,5 +1,5 @@
 -- Equations of tests, each by all its cases.
-use Rattle.std.proofs.Common.{◌≡◌, Bool, true, false, refl}
+use Rattle.std.proofs.Common.{◌≡◌, Bool, true, false, refl, sym}
 use Rattle.std.specs.Prelude.{◌||◌, ◌&&◌, not, if◌then◌else◌}
 use Rattle.std.proofs.lemmas.Bool.{false≢true}
 
@@ -11,6 +11,23 @@ left_of false b h = absurd (false≢true h)
 pub right_of : (a b : Bool) → (a && b) ≡ true → b ≡ true
 right_of true b h = h
 right_of false b h = absurd (false≢true h)
+
+-- Tests that were decided by their first part.
+pub or_then : (a b c : Bool) → a ≡ true → c ≡ true → c ≡ (a || b)
+or_then true b c h is = is
+or_then false b c h is = absurd (false≢true h)
+
+pub or_else : (a b c : Bool) → a ≡ false → c ≡ b → c ≡ (a || b)
+or_else true b c h is = absurd (false≢true (sym h))
+or_else false b c h is = is
+
+pub and_then : (a b c : Bool) → a ≡ true → c ≡ b → c ≡ (a && b)
+and_then true b c h is = is
+and_then false b c h is = absurd (false≢true h)
+
+pub and_else : (a b c : Bool) → a ≡ false → c ≡ false → c ≡ (a && b)
+and_else true b c h is = absurd (false≢true (sym h))
+and_else false b c h is = is
 
 -- Tests over so many variables that hold in all cases.
 abbrev all₁ : (Bool → Bool) → Bool
@@ -56,6 +73,12 @@ at₆ f h a b c d e g = at₅ (f a) (at₁ (λ x. all₅ (f x)) h a) b c d e g
 at₇ : (f : Bool → Bool → Bool → Bool → Bool → Bool → Bool → Bool) → all₇ f ≡ true → (a b c d e g i : Bool) → f a b c d e g i ≡ true
 at₇ f h a b c d e g i = at₆ (f a) (at₁ (λ x. all₆ (f x)) h a) b c d e g i
 
+abbrev all₈ : (Bool → Bool → Bool → Bool → Bool → Bool → Bool → Bool → Bool) → Bool
+all₈ f = all₁ (λ a. all₇ (f a))
+
+at₈ : (f : Bool → Bool → Bool → Bool → Bool → Bool → Bool → Bool → Bool) → all₈ f ≡ true → (a b c d e g i j : Bool) → f a b c d e g i j ≡ true
+at₈ f h a b c d e g i j = at₇ (f a) (at₁ (λ x. all₇ (f x)) h a) b c d e g i j
+
 abbrev same : Bool → Bool → Bool
 same a b = if a then b else not b
 
@@ -79,10 +102,29 @@ one_more a b c d = same_is _ _ (at₄ (λ at here among on. same ((at && (here &
 pub skip_or_take : (at takes rest : Bool) → ((at && takes) || (at && rest)) ≡ (at && (rest || takes))
 skip_or_take a b c = same_is _ _ (at₃ (λ at takes rest. same ((at && takes) || (at && rest)) (at && (rest || takes))) refl a b c)
 
--- a place before a starred item: it was entered, or is one and takes a symbol; those after it are reached where it was one
-pub starred_place : (entered skipped here among stays goes later : Bool)
-    → (((entered || (((here || skipped) && among) && true)) && stays) || (((((here || skipped) && among) && false) && false) || ((((here || skipped) && true) && goes) || later)))
-    ≡ (((entered && stays) || (skipped && (goes || (among && stays)))) || ((here && (goes || (among && stays))) || later))
-starred_place a b c d e f g = same_is _ _ (at₇ (λ entered skipped here among stays goes later. same
-    (((entered || (((here || skipped) && among) && true)) && stays) || (((((here || skipped) && among) && false) && false) || ((((here || skipped) && true) && goes) || later)))
-    (((entered && stays) || (skipped && (goes || (among && stays)))) || ((here && (goes || (among && stays))) || later))) refl a b c d e f g)
+-- no symbol is left to take
+pub last_place : (ended skipped here : Bool) → ended ≡ ((ended || (skipped && false)) || (here && false))
+last_place a b c = same_is _ _ (at₃ (λ ended skipped here. same ended ((ended || (skipped && false)) || (here && false))) refl a b c)
+
+-- One place of a walk over a symbol: `entered` and `skipped` say how it was reached, `here` that it was one before the symbol.
+pub place_step : (star entered skipped here among stays one next goes later : Bool)
+    → (((entered || (((here || skipped) && among) && star)) && (if star then stays else one))
+    || ((((((here || skipped) && among) && not star) && next) || (((here || skipped) && star) && goes)) || later))
+    ≡ (((entered && (if star then stays else one)) || (skipped && (if star then goes || (among && stays) else among && next)))
+    || ((here && (if star then goes || (among && stays) else among && next)) || later))
+place_step true a b c d e o f g h = same_is _ _ (at₈ (λ entered skipped here among stays next goes later. same
+    (((entered || (((here || skipped) && among) && true)) && stays) || ((((((here || skipped) && among) && false) && next) || (((here || skipped) && true) && goes)) || later))
+    (((entered && stays) || (skipped && (goes || (among && stays)))) || ((here && (goes || (among && stays))) || later))) refl a b c d e f g h)
+place_step false a b c d e o f g h = same_is _ _ (at₈ (λ entered skipped here among one next goes later. same
+    (((entered || (((here || skipped) && among) && false)) && one) || ((((((here || skipped) && among) && true) && next) || (((here || skipped) && false) && goes)) || later))
+    (((entered && one) || (skipped && (among && next))) || ((here && (among && next)) || later))) refl a b c d o f g h)
+
+-- one place of a walk to the end
+pub end_step : (star reached here ended later : Bool)
+    → ((reached && (if star then ended else false)) || ((here && (if star then ended else false)) || later)) ≡ ((((reached || here) && star) && ended) || later)
+end_step a b c d e = same_is _ _ (at₅ (λ star reached here ended later. same
+    ((reached && (if star then ended else false)) || ((here && (if star then ended else false)) || later))
+    ((((reached || here) && star) && ended) || later)) refl a b c d e)
+
+pub end_place : (reached here : Bool) → ((reached && true) || (here && true)) ≡ (reached || here)
+end_place a b = same_is _ _ (at₂ (λ reached here. same ((reached && true) || (here && true)) (reached || here)) refl a b)

@@ -25,7 +25,7 @@ pub record AreCounts (items : List Item) (edge_count final_count : ℕ) : Type 0
   pub edges : edge_count ≡ length (edges_of items)
   pub finals : final_count ≡ finals_of items
 
--- the number is that of the edges, and there is none where they are too many
-abbrev pub CountsEdges : Option ℕ → List Item → Type 0
-CountsEdges None items = 1000000 < length (edges_of items)
-CountsEdges (Some n) items = (n ≡ length (edges_of items)) × (n ≤ 1000000)
+-- the number, where it is not over the limit of edges
+abbrev pub IsWithin : Option ℕ → ℕ → Type 0
+IsWithin None n = 1000000 < n
+IsWithin (Some k) n = (k ≡ n) × (k ≤ 1000000)

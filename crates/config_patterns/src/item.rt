@@ -1,5 +1,6 @@
 ghost use Rattle.std.specs.Prelude.{◌≡◌, IfOk};
 ghost use Rattle.config_patterns.specs.Membership.{has_symbol};
+ghost use Rattle.config_patterns.specs.Validity.{is_set};
 
 use std::alloc::Global;
 use std::marker::Model;
@@ -41,6 +42,19 @@ impl SymbolSet {
     {
         self.symbols.as_slice().contains(&symbol)
     }
+}
+
+/// Whether no symbol stands twice. Its time is quadratic.
+#[tactic(auto, using(crate::proofs::OfSets::symbol_more))]
+pub fn is_set(symbols: &[u32]) -> bool
+    ensures { result ≡ is_set symbols.now }
+{
+    for (i, symbol) in symbols.iter().enumerate() {
+        if symbols[i + 1..].contains(symbol) {
+            return false;
+        }
+    }
+    true
 }
 
 /// An item of a pattern. It takes one symbol of its set, or with a star any number of them.

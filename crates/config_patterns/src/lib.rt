@@ -7,8 +7,10 @@ mod item;
 mod laws;
 mod matching;
 mod pattern;
+#[cfg(test)]
+mod tests;
 
 pub use edge::{Edge, EdgeList};
-pub use item::{Item, SymbolSet};
+pub use item::{Item, SymbolSet, is_set};
 pub use laws::members_are_read;
 pub use pattern::{Pattern, PatternFault};

@@ -1,5 +1,4 @@
-ghost use Rattle.std.specs.Prelude.{◌≡◌, ◌≤◌, ◌<◌, ◌||◌, ◌&&◌, false, [], ◌∷◌, length, List, ℕ};
-ghost use Rattle.pushdown_rules.specs.Configuration.{Configuration};
+ghost use Rattle.std.specs.Prelude.{◌≡◌, ◌≤◌, ◌<◌, true, false, [], length, slice_set};
 ghost use Rattle.config_patterns.specs.Membership.{items_match};
 ghost use Rattle.config_patterns.specs.Places.{place_matches, advanced};
 
@@ -8,6 +7,14 @@ use pushdown_rules::Config;
 
 /// How many places a walk over the items may have: before each of 1,000 items, and after the last.
 const MAX_PLACES: usize = 1_001;
+
+// Puts the walk before the first item.
+fn begin(places: &mut [bool])
+    requires { 0 < length places.old }
+    ensures { places.new ≡ slice_set places.old 0 true }
+{
+    places[0] = true;
+}
 
 // Takes a symbol: from the places where the walk may stand to those where it may stand after it.
 fn advance(items: &[Item], symbol: u32, places: &mut [bool])
@@ -45,7 +52,7 @@ pub fn match_stack(items: &[Item], config: &Config) -> bool
     ensures { result ≡ items_match items.now config.now.stack }
 {
     let mut places = [false; MAX_PLACES];
-    places[0] = true;
+    begin(&mut places);
     for k in 0..config.depth() {
         advance(items, config.at(k), &mut places);
     }

@@ -1,9 +1,9 @@
-ghost use Rattle.std.specs.Prelude.{◌≡◌, ◌<◌, ◌≤◌, ◌++◌, ◌∷◌, [], length, ℕ, List, IsTrue, IfOk, OnOk, OnErr, All, nat_le, false};
+ghost use Rattle.std.specs.Prelude.{◌≡◌, ◌<◌, ◌≤◌, ◌++◌, ◌∷◌, [], length, ◌+◌, ◌*◌, if◌then◌else◌, IsTrue, IfOk, OnOk, OnErr, All, nat_le, false};
 ghost use Rattle.std.specs.List.{list_any, list_all};
 ghost use Rattle.config_patterns.specs.declared.pattern.PatternFault.TheVariants.{Memory};
 ghost use Rattle.config_patterns.specs.Membership.{has_member};
 ghost use Rattle.config_patterns.specs.Edges.{edges_of, is_final_of, is_starred};
-ghost use Rattle.config_patterns.specs.Validity.{is_set, IsPattern, CountsEdges};
+ghost use Rattle.config_patterns.specs.Validity.{is_set, IsPattern, IsWithin};
 ghost use Rattle.config_patterns.specs.Fault.{item_fault, refusal_of, IsAccepted};
 
 use crate::edge_list::list_edges;
@@ -157,20 +157,26 @@ impl Pattern {
         if self.items.len() >= MAX_ITEMS {
             return Err(PatternFault::TooManyItems);
         }
-        match self.edges_with(set.len() as u64, star) {
+        match edges_with(self.edges, self.finals, set.len() as u64, star) {
             Some(edges) => Ok(edges),
             None => Err(PatternFault::TooManyEdges),
         }
     }
+}
 
-    // How many edges there are with an item of so many symbols, where they are not too many.
-    fn edges_with(&self, symbols: u64, star: bool) -> Option<u64>
-        ensures { (set : List ℕ) → length set ≡ symbols → CountsEdges result (self.now.items ++ record { set = set; star = star } ∷ []) }
-    {
-        let sources = self.finals + u64::from(star);
-        let more = symbols.checked_mul(sources)?;
-        let edges = self.edges.checked_add(more)?;
-        if edges <= MAX_EDGES { Some(edges) } else { None }
+// How many edges there are with an item of so many symbols, where they are not too many. Each of its symbols has an edge
+// from each state that was final, and with a star one from the item itself.
+fn edges_with(edges: u64, finals: u64, symbols: u64, star: bool) -> Option<u64>
+    requires { finals ≤ 1001 }
+    ensures { IsWithin result (edges + symbols * (finals + (if star then 1 else 0))) }
+{
+    let sources = if star { finals + 1 } else { finals };
+    let Some(more) = symbols.checked_mul(sources) else {
+        return None;
+    };
+    match edges.checked_add(more) {
+        Some(all) if all <= MAX_EDGES => Some(all),
+        _ => None,
     }
 }
 
