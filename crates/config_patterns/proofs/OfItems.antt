@@ -1,15 +1,14 @@
 -- Adding an item to a pattern.
 use Rattle.std.proofs.Common.{◌≡◌, ℕ, suc, ◌+◌, ◌*◌, ◌<◌, ◌≤◌, Bool, true, false, List, [], ◌∷◌, ◌++◌, length, refl, sym, ap, ap₂, ◌∙◌, subst, length-append, arith}
-use Rattle.std.specs.Prelude.{if◌then◌else◌, Option, None, Some, IsTrue, All, nat_le, nat_lt}
+use Rattle.std.specs.Prelude.{if◌then◌else◌, None, Some, IsTrue, All, nat_le, nat_lt}
 use Rattle.std.specs.List.{list_any}
 use Rattle.std.proofs.lemmas.Bool.{false≢true, lt-leb, lt-ltb, le-ltb}
 use Rattle.std.proofs.lemmas.List.Elements.{All-push}
 use Rattle.config_patterns.specs.declared.item.Item.{Item}
-use Rattle.config_patterns.specs.declared.pattern.PatternFault.{PatternFault}
-use Rattle.config_patterns.specs.declared.pattern.PatternFault.TheVariants.{NoSymbol, TooManyItems, TooManyEdges, Memory}
+use Rattle.config_patterns.specs.declared.pattern.PatternFault.TheVariants.{NoSymbol, TooManyItems, TooManyEdges}
 use Rattle.config_patterns.specs.Membership.{Described}
 use Rattle.config_patterns.specs.Edges.{edges_of, finals_of}
-use Rattle.config_patterns.specs.Validity.{is_set, IsItem, IsPattern, AreCounts, IsWithin}
+use Rattle.config_patterns.specs.Validity.{is_set, IsItem, IsPattern, AreCounts}
 use Rattle.config_patterns.specs.Fault.{first_fault, item_fault, IsAccepted}
 use Rattle.config_patterns.proofs.OfCounts.{count_push, finals_push, finals_few}
 
@@ -56,8 +55,8 @@ last_fault a b c x y z =
 pub not_refused : (p q : Described) → p ≡ q → (set : List ℕ) (star : Bool) → list_any (λ g. nat_le p.symbols g) set ≡ false → IsAccepted q set star → None ≡ item_fault q set star
 not_refused p q same set star known accepted =
     no_fault (list_any (λ g. nat_le q.symbols g) set) (nat_le 1000 (length q.items)) (nat_lt 1000000 (length (edges_of (with_item q.items set star))))
-      (ap (λ (v : Described). list_any (λ g. nat_le v.symbols g) set) (sym same) ∙ known)
-      (lt-leb 1000 (length q.items) accepted.few_items) (le-ltb 1000000 (length (edges_of (with_item q.items set star))) accepted.few_edges)
+    (ap (λ (v : Described). list_any (λ g. nat_le v.symbols g) set) (sym same) ∙ known)
+    (lt-leb 1000 (length q.items) accepted.few_items) (le-ltb 1000000 (length (edges_of (with_item q.items set star))) accepted.few_edges)
 
 -- one with too many edges has that fault
 pub too_many : (p q : Described) → p ≡ q → (edges finals : ℕ) → AreCounts p.items edges finals → (set : List ℕ) (star : Bool)
@@ -67,7 +66,7 @@ too_many p q same edges finals counts set star known few over =
     let P : Described → Type 0 = λ v. Some TooManyEdges ≡ item_fault v set star in
     let count = counted p p refl edges finals counts set star in
     subst P same (last_fault (list_any (λ g. nat_le p.symbols g) set) (nat_le 1000 (length p.items)) (nat_lt 1000000 (length (edges_of (with_item p.items set star))))
-      known (lt-leb 1000 (length p.items) few) (lt-ltb 1000000 (length (edges_of (with_item p.items set star))) (omega arith)))
+    known (lt-leb 1000 (length p.items) few) (lt-ltb 1000000 (length (edges_of (with_item p.items set star))) (omega arith)))
 
 -- the pattern `p`, seen as `q`, stays valid with one item more that is accepted
 pub added : (p q : Described) → p ≡ q → (edges finals n after : ℕ) (items : List Item) (set : List ℕ) (star : Bool) → IsPattern p → AreCounts p.items edges finals

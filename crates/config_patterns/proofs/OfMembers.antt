@@ -93,9 +93,9 @@ none_below (x ∷ xs) to at g word rest below agree =
     let other : nat_eq to at ≡ false = ne_eqb to at (λ e. omega arith) in
     goes_append (edges_back to x ++ edges_on to (suc to) xs) (edges_from (suc to) xs) at g rest
     ∙ ap₂ ◌||◌
-      (goes_back x.star to x.set xs at g word rest agree.0 (goes_on_is to (suc to) xs at g word rest agree.1)
-      ∙ ap (λ b. b && (if x.star then takes_any x.set (items_match xs) (g ∷ word) else items_match xs (g ∷ word))) other)
-      (none_below xs (suc to) at g word rest (omega arith) agree.1)
+    (goes_back x.star to x.set xs at g word rest agree.0 (goes_on_is to (suc to) xs at g word rest agree.1)
+    ∙ ap (λ b. b && (if x.star then takes_any x.set (items_match xs) (g ∷ word) else items_match xs (g ∷ word))) other)
+    (none_below xs (suc to) at g word rest (omega arith) agree.1)
 
 goes_from : (xs : List Item) (to k at g : ℕ) (word : List ℕ) (rest : ℕ → Bool) → at ≡ to + k → Agrees rest word to xs
     → goes_on (edges_from to xs) at g rest ≡ item_state xs k (g ∷ word)
@@ -105,16 +105,16 @@ goes_from (x ∷ xs) to zero at g word rest is agree =
     let state : Bool = if x.star then takes_any x.set (items_match xs) (g ∷ word) else items_match xs (g ∷ word) in
     goes_append (edges_back to x ++ edges_on to (suc to) xs) (edges_from (suc to) xs) at g rest
     ∙ ap₂ ◌||◌
-      (goes_back x.star to x.set xs at g word rest agree.0 (goes_on_is to (suc to) xs at g word rest agree.1) ∙ ap (λ b. b && state) here)
-      (none_below xs (suc to) at g word rest (omega arith) agree.1)
+    (goes_back x.star to x.set xs at g word rest agree.0 (goes_on_is to (suc to) xs at g word rest agree.1) ∙ ap (λ b. b && state) here)
+    (none_below xs (suc to) at g word rest (omega arith) agree.1)
     ∙ or_false state
 goes_from (x ∷ xs) to (suc k) at g word rest is agree =
     let other : nat_eq to at ≡ false = ne_eqb to at (λ e. omega arith) in
     goes_append (edges_back to x ++ edges_on to (suc to) xs) (edges_from (suc to) xs) at g rest
     ∙ ap₂ ◌||◌
-      (goes_back x.star to x.set xs at g word rest agree.0 (goes_on_is to (suc to) xs at g word rest agree.1)
-      ∙ ap (λ b. b && (if x.star then takes_any x.set (items_match xs) (g ∷ word) else items_match xs (g ∷ word))) other)
-      (goes_from xs (suc to) k at g word rest (omega arith) agree.1)
+    (goes_back x.star to x.set xs at g word rest agree.0 (goes_on_is to (suc to) xs at g word rest agree.1)
+    ∙ ap (λ b. b && (if x.star then takes_any x.set (items_match xs) (g ∷ word) else items_match xs (g ∷ word))) other)
+    (goes_from xs (suc to) k at g word rest (omega arith) agree.1)
 
 states_agree : (items : List Item) (word : List ℕ) → Agrees (λ k. state_matches items k word) word 1 items
 states_agree items word = agrees (λ k. state_matches items k word) word 1 items (λ k. let one : 1 + k ≡ suc k = omega arith in ap (λ j. state_matches items j word) one)
@@ -135,7 +135,7 @@ state_goes items (suc k) g word =
 bare_items : (xs : List Item) → items_match xs [] ≡ list_all is_starred xs
 bare_items [] = refl
 bare_items (x ∷ xs) = elim x.star as (λ b. (if b then items_match xs [] else false) ≡ (b && list_all is_starred xs)) [ true ↦ bare_items xs | false ↦ refl ]
-    
+
 below_suc : (a b : ℕ) → nat_le (suc a) (suc b) ≡ nat_le a b
 below_suc a b = elim (nat_le a b) as (λ r. nat_le a b ≡ r → nat_le (suc a) (suc b) ≡ r) [
   | true ↦ λ e. le-leb (suc a) (suc b) (omega (arith, leb-true a b e))

@@ -1,5 +1,5 @@
 -- Paths to a final state read what the items match.
-use Rattle.std.proofs.Common.{◌≡◌, ◌⊎◌, inl, inr, ℕ, Bool, true, false, List, [], ◌∷◌, refl, sym, ap, ap₂, ◌∙◌, subst}
+use Rattle.std.proofs.Common.{◌≡◌, inl, inr, ℕ, Bool, true, false, List, [], ◌∷◌, refl, sym, ap, ap₂, ◌∙◌, subst}
 use Rattle.std.specs.Prelude.{◌↔◌, ◌||◌, ◌&&◌, nat_eq, IsTrue}
 use Rattle.std.specs.List.{list_any}
 use Rattle.std.proofs.lemmas.Bool.{eq-eqb, eqb-true, false≢true}
@@ -9,7 +9,7 @@ use Rattle.config_patterns.specs.Membership.{items_match}
 use Rattle.config_patterns.specs.Edges.{edges_of, is_final_of}
 use Rattle.config_patterns.specs.Paths.{IsIn, Reads, IsRead}
 use Rattle.config_patterns.proofs.OfTests.{left_of, right_of}
-use Rattle.config_patterns.proofs.OfMembers.{state_matches, goes_on, state_goes, state_ends}
+use Rattle.config_patterns.proofs.OfMembers.{state_matches, state_goes, state_ends}
 
 -- An edge that passes a test.
 record Passing (test : Edge → Bool) (edges : List Edge) : Type 0 where

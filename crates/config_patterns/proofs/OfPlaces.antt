@@ -1,11 +1,11 @@
 -- The places where a walk over the items may stand, kept in an array.
-use Rattle.std.proofs.Common.{◌≡◌, ℕ, zero, suc, ◌+◌, ◌<◌, ◌≤◌, Bool, true, false, List, [], ◌∷◌, ◌++◌, length, get_or, take, drop, set, refl, sym, ap, ap₂, ◌∙◌, append_assoc, add-one, arith}
+use Rattle.std.proofs.Common.{◌≡◌, ℕ, zero, suc, ◌+◌, ◌<◌, ◌≤◌, Bool, true, false, List, [], ◌∷◌, ◌++◌, length, get_or, take, drop, set, refl, sym, ap, ap₂, ◌∙◌, add-one, arith}
 use Rattle.std.specs.Prelude.{◌||◌, ◌&&◌, not, replicate}
-use Rattle.std.proofs.lemmas.List.{at_drop_more, take_more_set, drop-set-lt, set_split, drop_all}
+use Rattle.std.proofs.lemmas.List.{at_drop_more, set_split, drop_all}
 use Rattle.config_patterns.specs.declared.item.Item.{Item}
 use Rattle.config_patterns.specs.Membership.{has_symbol, takes_any, takes_one, items_match, is_bare}
 use Rattle.config_patterns.specs.Places.{place_matches, advanced}
-use Rattle.config_patterns.proofs.OfTests.{or_false, last_place, place_step, end_step, end_place}
+use Rattle.config_patterns.proofs.OfTests.{or_false, last_place, place_step, end_step}
 
 -- the places after a symbol match what those before it match with the symbol
 pub advanced_matches : (items : List Item) (places : List Bool) (g : ℕ) (skipped entered : Bool) (word : List ℕ) → length items < length places
@@ -19,7 +19,7 @@ advanced_matches (x ∷ xs) (b ∷ bs) g skipped entered word less =
     let on = advanced_matches xs bs g (here && x.star) (takes && not x.star) word (omega arith) in
     ap (λ z. ((entered || (takes && x.star)) && items_match (x ∷ xs) word) || z) on
     ∙ place_step x.star entered skipped b (has_symbol g x.set) (takes_any x.set (items_match xs) word) (takes_one x.set (items_match xs) word)
-      (items_match xs word) (items_match xs (g ∷ word)) (place_matches xs bs (g ∷ word))
+    (items_match xs word) (items_match xs (g ∷ word)) (place_matches xs bs (g ∷ word))
 
 none_set : (items : List Item) (n : ℕ) (word : List ℕ) → place_matches items (replicate n false) word ≡ false
 none_set [] zero word = refl
@@ -35,27 +35,14 @@ first_place (x ∷ xs) n word = ap (λ b. items_match (x ∷ xs) word || b) (non
 at_place : {X : Type 0} (xs : List X) (i : ℕ) (x : X) → i < length xs → x ≡ get_or xs i x → drop i xs ≡ x ∷ drop (i + 1) xs
 at_place {X} xs i x less read = let f : List X → List X = λ ys. ys in at_drop_more f xs i x less ∙ ap (λ y. y ∷ drop (i + 1) xs) (sym read)
 
--- one turn of the walk over a symbol
-pub advance_more : (g : ℕ) (skipped entered : Bool) (items : List Item) (places : List Bool) (i : ℕ) (x : Item) (b : Bool) → i < length items → i < length places
-    → x ≡ get_or items i x → b ≡ get_or places i b
-    → take i places ++ advanced g skipped entered (drop i items) (drop i places)
-    ≡ take (i + 1) (set places i (entered || (((b || skipped) && has_symbol g x.set) && x.star)))
-    ++ advanced g ((b || skipped) && x.star) (((b || skipped) && has_symbol g x.set) && not x.star) (drop (i + 1) items)
-    (drop (i + 1) (set places i (entered || (((b || skipped) && has_symbol g x.set) && x.star))))
-advance_more g skipped entered items places i x b less within read place =
-    let here = b || skipped in
-    let takes = here && has_symbol g x.set in
-    let v = entered || (takes && x.star) in
-    let rest = λ (bs : List Bool). advanced g (here && x.star) (takes && not x.star) (drop (i + 1) items) bs in
-    ap₂ (λ xs bs. take i places ++ advanced g skipped entered xs bs) (at_place items i x less read) (at_place places i b within place)
-    ∙ sym (append_assoc (take i places) (v ∷ []) (rest (drop (i + 1) places)))
-    ∙ sym (ap₂ (λ front bs. front ++ rest bs) (take_more_set places i v within) (drop-set-lt (i + 1) places i v (omega arith)))
+place_at : (places : List Bool) (i : ℕ) (b : Bool) → i < length places → b ≡ get_or places i false → drop i places ≡ b ∷ drop (i + 1) places
+place_at places i b less read = let f : List Bool → List Bool = λ ys. ys in at_drop_more f places i false less ∙ ap (λ y. y ∷ drop (i + 1) places) (sym read)
 
 -- the end of the walk over a symbol
 pub advance_end : (g : ℕ) (skipped entered : Bool) (items : List Item) (places : List Bool) (i : ℕ) → length items ≡ i → i < length places
     → take i places ++ advanced g skipped entered (drop i items) (drop i places) ≡ set places i entered
 advance_end g skipped entered items places i is less =
-    ap₂ (λ xs bs. take i places ++ advanced g skipped entered xs bs) (drop_all i items (omega arith)) (let f : List Bool → List Bool = λ ys. ys in at_drop_more f places i false less)
+    ap₂ (λ xs bs. take i places ++ advanced g skipped entered xs bs) (drop_all i items (omega arith)) (place_at places i (get_or places i false) less refl)
     ∙ ap (λ n. take i places ++ entered ∷ drop n places) (add-one i)
     ∙ sym (set_split places i entered less)
 
@@ -81,23 +68,16 @@ pub stack_end : (items : List Item) (places : List Bool) (stack : List ℕ) (k :
 stack_end items places stack k past = ap (place_matches items places) (drop_all k stack past)
 
 -- one turn of the walk to the end
-pub end_more : (reached : Bool) (items : List Item) (places : List Bool) (i : ℕ) (x : Item) (b : Bool) → i < length items → i < length places
-    → x ≡ get_or items i x → b ≡ get_or places i b
+end_more : (reached : Bool) (items : List Item) (places : List Bool) (i : ℕ) (x : Item) (b : Bool) → i < length items → i < length places
+    → x ≡ get_or items i x → b ≡ get_or places i false
     → ((reached && items_match (drop i items) []) || place_matches (drop i items) (drop i places) [])
     ≡ ((((reached || b) && x.star) && items_match (drop (i + 1) items) []) || place_matches (drop (i + 1) items) (drop (i + 1) places) [])
 end_more reached items places i x b less within read place =
-    ap₂ (λ xs bs. (reached && items_match xs []) || place_matches xs bs []) (at_place items i x less read) (at_place places i b within place)
+    ap₂ (λ xs bs. (reached && items_match xs []) || place_matches xs bs []) (at_place items i x less read) (place_at places i b within place)
     ∙ end_step x.star reached b (items_match (drop (i + 1) items) []) (place_matches (drop (i + 1) items) (drop (i + 1) places) [])
 
--- the end of the walk to the end
-pub end_last : (reached : Bool) (items : List Item) (places : List Bool) (i : ℕ) (b : Bool) → length items ≡ i → i < length places → b ≡ get_or places i b
-    → ((reached && items_match (drop i items) []) || place_matches (drop i items) (drop i places) []) ≡ (reached || b)
-end_last reached items places i b is less place =
-    ap₂ (λ xs bs. (reached && items_match xs []) || place_matches xs bs []) (drop_all i items (omega arith)) (at_place places i b less place)
-    ∙ end_place reached b
-
 pub end_turn : (reached after : Bool) (items : List Item) (places : List Bool) (i : ℕ) (x : Item) (b value all : Bool) → i < length items → i < length places
-    → x ≡ get_or items i x → b ≡ get_or places i b → value ≡ (reached || b) → after ≡ (value && x.star)
+    → x ≡ get_or items i x → b ≡ get_or places i false → value ≡ (reached || b) → after ≡ (value && x.star)
     → ((reached && items_match (drop i items) []) || place_matches (drop i items) (drop i places) []) ≡ all
     → ((after && items_match (drop (i + 1) items) []) || place_matches (drop (i + 1) items) (drop (i + 1) places) []) ≡ all
 end_turn reached after items places i x b value all less within read place value_is after_is so =

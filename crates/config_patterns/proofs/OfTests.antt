@@ -125,6 +125,3 @@ pub end_step : (star reached here ended later : Bool)
 end_step a b c d e = same_is _ _ (at₅ (λ star reached here ended later. same
     ((reached && (if star then ended else false)) || ((here && (if star then ended else false)) || later))
     ((((reached || here) && star) && ended) || later)) refl a b c d e)
-
-pub end_place : (reached here : Bool) → ((reached && true) || (here && true)) ≡ (reached || here)
-end_place a b = same_is _ _ (at₂ (λ reached here. same ((reached && true) || (here && true)) (reached || here)) refl a b)

@@ -1,7 +1,6 @@
 -- Which items are refused.
 use Rattle.std.specs.Prelude.{ℕ, Bool, nat_le, nat_lt, List, [], ◌∷◌, ◌++◌, length, Option, None, Some, Result, Ok, Err, if◌then◌else◌, ◌<◌, ◌≤◌, All}
 use Rattle.std.specs.List.{list_any}
-use Rattle.config_patterns.specs.declared.item.Item.{Item}
 use Rattle.config_patterns.specs.declared.pattern.PatternFault.{PatternFault}
 use Rattle.config_patterns.specs.declared.pattern.PatternFault.TheVariants.{NoSymbol, TooManyItems, TooManyEdges, Memory}
 use Rattle.config_patterns.specs.Membership.{Described}

@@ -1,4 +1,4 @@
-use Rattle.std.proofs.Common.{◌≡◌, ◌<◌, length, arith}
+use Rattle.std.proofs.Common.{arith}
 use Rattle.config_patterns.proofs.OfPlaces.{advance_done}
 use Rattle.config_patterns.proofs.matching.advance.Goals as goal
 

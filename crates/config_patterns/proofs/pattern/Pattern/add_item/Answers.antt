@@ -1,4 +1,4 @@
-use Rattle.std.proofs.Common.{◌≡◌, ◌+◌, ◌∙◌, ap, sym, refl, arith}
+use Rattle.std.proofs.Common.{◌≡◌, ◌+◌, arith}
 use Rattle.std.specs.Prelude.{if◌then◌else◌}
 use Rattle.config_patterns.proofs.OfItems.{few_finals, added, if_then, if_else}
 use Rattle.config_patterns.proofs.pattern.Pattern.add_item.Goals as goal
@@ -16,4 +16,4 @@ invariant_of-self-2 c =
       | else-star w ↦ if_else star (finals + 1) 1 c.if-star.self w.if-star.false w.self-is
     ] in
     added _ _ c.self.view_is _ finals c.in_ok-edges.edges c.if-star.self _ c.args.set.now star c.self.invariant.0 c.self.invariant.1
-      c.requires c.in_ok-edges.ensures.accepted c.in_ok-edges.ensures.count after (rw c.in_ok-set.ensures at c.in_ok-push.ensures.items)
+    c.requires c.in_ok-edges.ensures.accepted c.in_ok-edges.ensures.count after (rw c.in_ok-set.ensures at c.in_ok-push.ensures.items)

@@ -1,4 +1,4 @@
-use Rattle.std.proofs.Common.{◌∙◌, ap, sym, refl, subst, arith}
+use Rattle.std.proofs.Common.{◌∙◌, sym, refl, arith}
 use Rattle.config_patterns.proofs.OfItems.{few_finals, counted, is_accepted, not_refused, too_many}
 use Rattle.config_patterns.proofs.pattern.Pattern.admit.Goals as goal
 
