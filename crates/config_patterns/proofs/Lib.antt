@@ -5,3 +5,4 @@ pub mod OfPlaces
 pub mod OfCounts
 pub mod OfItems
 pub mod OfSets
+pub mod OfSkips

@@ -1,8 +1,9 @@
 -- The edges that read a pattern. State 0 is the control, and state i is the i-th item.
-use Rattle.std.specs.Prelude.{ℕ, suc, Bool, ◌&&◌, nat_le, List, [], ◌∷◌, ◌++◌, map, drop, length, if◌then◌else◌}
+use Rattle.std.specs.Prelude.{ℕ, zero, suc, Bool, false, ◌&&◌, nat_le, List, [], ◌∷◌, ◌++◌, map, drop, length, if◌then◌else◌}
 use Rattle.std.specs.List.{list_all}
 use Rattle.config_patterns.specs.declared.item.Item.{Item}
 use Rattle.config_patterns.specs.declared.edge.Edge.{Edge}
+use Rattle.config_patterns.specs.Membership.{has_symbol}
 
 -- one edge for each symbol of a set
 abbrev pub edges_into : ℕ → ℕ → List ℕ → List Edge
@@ -37,3 +38,15 @@ is_final_of items i = nat_le i (length items) && list_all is_starred (drop i ite
 abbrev pub finals_of : List Item → ℕ
 finals_of [] = 1
 finals_of (x ∷ xs) = if list_all is_starred (x ∷ xs) then suc (finals_of xs) else finals_of xs
+
+-- the item so many above is reached over starred items alone, and has the symbol
+abbrev pub leads_to : List Item → ℕ → ℕ → Bool
+leads_to [] k g = false
+leads_to (x ∷ xs) zero g = has_symbol g x.set
+leads_to (x ∷ xs) (suc k) g = x.star && leads_to xs k g
+
+-- the item of a number, counted from 0, is starred and has the symbol
+abbrev pub stays_on : List Item → ℕ → ℕ → Bool
+stays_on [] k g = false
+stays_on (x ∷ xs) zero g = x.star && has_symbol g x.set
+stays_on (x ∷ xs) (suc k) g = stays_on xs k g
