@@ -1,0 +1,34 @@
+-- Which items are refused.
+use Rattle.std.specs.Prelude.{ℕ, Bool, nat_le, nat_lt, List, [], ◌∷◌, ◌++◌, length, Option, None, Some, Result, Ok, Err, if◌then◌else◌, ◌<◌, ◌≤◌, All}
+use Rattle.std.specs.List.{list_any}
+use Rattle.config_patterns.specs.declared.pattern.PatternFault.{PatternFault}
+use Rattle.config_patterns.specs.declared.pattern.PatternFault.TheVariants.{NoSymbol, TooManyItems, TooManyEdges, Memory}
+use Rattle.config_patterns.specs.Membership.{Described}
+use Rattle.config_patterns.specs.Edges.{edges_of}
+
+-- the first fault whose test holds
+abbrev pub first_fault : List (Bool × PatternFault) → Option PatternFault
+first_fault [] = None
+first_fault (c ∷ cs) = if c.0 then Some c.1 else first_fault cs
+
+-- The refusals of an item, in the order in which they count.
+abbrev pub item_fault : Described → List ℕ → Bool → Option PatternFault
+item_fault p set star = first_fault (
+    (list_any (λ g. nat_le p.symbols g) set, NoSymbol)
+    ∷ (nat_le 1000 (length p.items), TooManyItems)
+    ∷ (nat_lt 1000000 (length (edges_of (p.items ++ record { set = set; star = star } ∷ []))), TooManyEdges)
+    ∷ [])
+
+-- The refusal that an answer is, if it is one. Want of memory is none.
+abbrev pub refusal_of : {X : Type 0} → Result X PatternFault → Option PatternFault
+refusal_of (Ok x) = None
+refusal_of (Err Memory) = None
+refusal_of (Err NoSymbol) = Some NoSymbol
+refusal_of (Err TooManyItems) = Some TooManyItems
+refusal_of (Err TooManyEdges) = Some TooManyEdges
+
+-- what holds of an item that is not refused
+pub record IsAccepted (p : Described) (symbols_of : List ℕ) (starred : Bool) : Type 0 where
+  pub below : All (λ g. g < p.symbols) symbols_of
+  pub few_items : length p.items < 1000
+  pub few_edges : length (edges_of (p.items ++ record { set = symbols_of; star = starred } ∷ [])) ≤ 1000000

@@ -1,0 +1,16 @@
+//! Patterns of configurations: which configurations a pattern has, and the edges of the automaton that reads their stacks.
+#![tactic(auto)]
+
+mod edge;
+mod edge_list;
+mod item;
+mod laws;
+mod matching;
+mod pattern;
+#[cfg(test)]
+mod tests;
+
+pub use edge::{Edge, EdgeList};
+pub use item::{Item, SymbolSet, is_set};
+pub use laws::{edges_skip_starred_items, members_are_read};
+pub use pattern::{Pattern, PatternFault};
