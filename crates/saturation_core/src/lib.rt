@@ -1,0 +1,17 @@
+//! The core of a saturation: a book of what was found, and the events that change it. Workers take transitions, work
+//! out what these give, and settle it; whatever the order of their events, the same holds of the book.
+#![tactic(auto)]
+
+mod direction;
+mod event;
+mod hand;
+mod job;
+mod laws;
+mod opening;
+
+pub use direction::Direction;
+pub use event::Event;
+pub use hand::{Hand, Holding, SeatSet, Taken};
+pub use job::{Input, Job, JobKind, JobList};
+pub use laws::{closed_is_applied, every_order_keeps, takes_are_bounded};
+pub use opening::{Opening, PlaceList, StateList};
