@@ -8,3 +8,6 @@ pub mod Opened
 pub mod OfOpenings
 pub mod Working
 pub mod Kept
+pub mod QueueFacts
+pub mod Made
+pub mod OfHands

@@ -26,6 +26,11 @@ pub record BookValue (S W Map D : Type 0) : Type 0 where
   pub journal : List Event
 
 module _ {S W Map : Type 0} where
+  -- how many hands are out
+  abbrev pub hands_out : List (Option (Holding S W Map)) → ℕ
+  hands_out [] = 0
+  hands_out (h ∷ hs) = (if is_some h then 1 else 0) + hands_out hs
+
   -- the number whose bits are the seats with hands, the lowest bit seat 0
   abbrev pub seat_bits : List (Option (Holding S W Map)) → ℕ
   seat_bits [] = 0

@@ -7,3 +7,4 @@ pub mod Bound
 pub mod Openings
 pub mod Paths
 pub mod Books
+pub mod Seen

@@ -2,13 +2,17 @@
 //! out what these give, and settle it; whatever the order of their events, the same holds of the book.
 #![tactic(auto)]
 
+mod book;
 mod direction;
 mod event;
 mod hand;
+mod hands;
 mod job;
 mod laws;
 mod opening;
+mod queue;
 
+pub use book::Book;
 pub use direction::Direction;
 pub use event::Event;
 pub use hand::{Hand, Holding, SeatSet, Taken};
