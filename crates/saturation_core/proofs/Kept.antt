@@ -1,8 +1,8 @@
 -- What holds of every book.
 use Rattle.std.specs.Prelude.{All}
-use Rattle.std.proofs.Common.{◌≡◌, inl, inr, ℕ, ◌+◌, ◌*◌, Bool, List, [], ◌∷◌, ◌++◌, length, sym, ap, ◌∙◌, subst, arith}
+use Rattle.std.proofs.Common.{◌≡◌, inl, inr, ℕ, ◌+◌, ◌*◌, ◌<◌, set, Bool, List, [], ◌∷◌, ◌++◌, length, sym, ap, ◌∙◌, subst, arith}
 use Rattle.std.proofs.lemmas.List.{length-map}
-use Rattle.std.specs.Prelude.{None, Some, IsTrue, option_and_then}
+use Rattle.std.specs.Prelude.{Option, None, Some, IsTrue, option_and_then}
 use Rattle.semiring_laws.specs.Semiring.{Operations, IsSemiring, Fits}
 use Rattle.weighted_automata.specs.declared.place.Place.{Place}
 use Rattle.pushdown_rules.specs.Pushdown.{Pushdown, IsSystem}
@@ -10,14 +10,18 @@ use Rattle.pushdown_rules.specs.Values.{value_of}
 use Rattle.saturation_core.specs.declared.event.Event.{Event}
 use Rattle.saturation_core.specs.declared.opening.Opening.{Opening}
 use Rattle.saturation_core.specs.Jobs.{Tables, place_of}
-use Rattle.saturation_core.specs.States.{CoreState, step, replay}
+use Rattle.saturation_core.specs.States.{CoreState, hand_at, step, replay}
 use Rattle.saturation_core.specs.Directions.{IsDirection, IsConsequence}
 use Rattle.saturation_core.specs.Invariants.{IsApplied}
 use Rattle.saturation_core.specs.Lists.{IsIn}
 use Rattle.saturation_core.specs.declared.job.Job.{Job}
-use Rattle.saturation_core.specs.Books.{BookValue, IsClosed, opened_by, replayed, Makes, IsBook, TakesAreBounded, NodesAreBounded}
+use Rattle.saturation_core.specs.Books.{BookValue, IsClosed, opened_by, replayed, Makes, IsBook, CanWork, TakesAreBounded, NodesAreBounded}
 use Rattle.pushdown_rules.proofs.OfSystems.{value_fits}
-use Rattle.saturation_core.proofs.Working.{transitions_fit}
+use Rattle.saturation_core.proofs.Working.{transitions_fit, hand_works}
+use Rattle.saturation_core.proofs.Made.{after}
+use Rattle.std.proofs.lemmas.List.{get_or-set_same}
+use Rattle.saturation_core.specs.declared.hand.Holding.{Holding}
+use Rattle.saturation_core.specs.declared.event.Event.TheVariants.{Take}
 use Rattle.saturation_core.proofs.Events.{replay_keeps}
 use Rattle.saturation_core.proofs.Bounding.{replay_counts, takes_bounded, nodes_bounded}
 use Rattle.saturation_core.proofs.OfOpenings.{opening_queues}
@@ -109,3 +113,21 @@ module _ {S W Map D : Type 0} (operations : S → Operations W Map) (laws : (x :
       let old = opened_by operations tables b in
       let fit = opening_fits (laws b.system.semiring) value (runs b.direction b.system b.opening) dir in
       nodes_bounded (laws b.system.semiring) value (runs b.direction b.system b.opening) dir old.transitions fit b.journal old b.state is.bound
+
+  -- the jobs of a hand that is out can be worked out
+  pub book_works : (b : BookValue S W Map D) → IsBook operations tables fits_opening places runs b → (seat : ℕ) (h : Holding S W Map) → hand_at seat b.state.hands ≡ Some h → CanWork operations tables b h.jobs
+  book_works b is seat h out =
+      let works = hand_works (laws b.system.semiring) (value_of (operations b.system.semiring) b.system) (value_fits is.system (laws b.system.semiring)) (runs b.direction b.system b.opening) (tables b.direction b.system)
+      (opened_by operations tables b).transitions b.state is.lock seat h out in
+      record { rows = works.0; inputs = works.1 }
+
+  -- and so can those of a hand that was just taken
+  pub taken_works : (b : BookValue S W Map D) → IsBook operations tables fits_opening places runs b → (seat : ℕ) (x : Place) (queue : List Place) (hands : List (Option (Holding S W Map))) (journal : List Event)
+      → Makes operations tables b (Take seat x) (after b queue hands journal) → seat < length b.state.hands → (js ks : List (Job S W Map)) → hands ≡ set b.state.hands seat (Some (record { place = x; jobs = js })) → ks ≡ js
+      → CanWork operations tables b ks
+  taken_works b is seat x queue hands journal made within js ks put same =
+      let h : Holding S W Map = record { place = x; jobs = js } in
+      let out : hand_at seat hands ≡ Some h = ap (hand_at seat) put ∙ get_or-set_same b.state.hands seat (Some h) None within in
+      let works = book_works (after b queue hands journal) (event_keeps b is (Take seat x) (after b queue hands journal) made) seat h out in
+      let P : List (Job S W Map) → Type 0 = CanWork operations tables b in
+      subst P (sym same) (record { rows = works.rows; inputs = works.inputs })

@@ -6,8 +6,8 @@ pub mod Events
 pub mod Bounding
 pub mod Opened
 pub mod OfOpenings
-pub mod Working
-pub mod Kept
-pub mod QueueFacts
-pub mod Made
 pub mod OfHands
+pub mod QueueFacts
+pub mod Working
+pub mod Made
+pub mod Kept

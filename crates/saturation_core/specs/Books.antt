@@ -1,5 +1,5 @@
 -- A book, as contracts see it.
-use Rattle.std.specs.Prelude.{◌≡◌, ℕ, ◌≤◌, Bool, List, length, [], ◌∷◌, ◌++◌, Option, None, Some, is_some, ◌+◌, ◌*◌, if◌then◌else◌, IsTrue}
+use Rattle.std.specs.Prelude.{◌≡◌, ℕ, ◌≤◌, Bool, List, length, [], ◌∷◌, ◌++◌, Option, None, Some, is_some, ◌+◌, ◌*◌, if◌then◌else◌, IsTrue, All}
 use Rattle.semiring_laws.specs.Semiring.{Operations}
 use Rattle.weighted_automata.specs.declared.place.Place.{Place}
 use Rattle.pushdown_rules.specs.Pushdown.{Pushdown, IsSystem}
@@ -11,7 +11,8 @@ use Rattle.saturation_core.specs.declared.hand.Taken.{Taken}
 use Rattle.saturation_core.specs.declared.hand.Taken.TheVariants.{Idle, Closed}
 use Rattle.saturation_core.specs.declared.hand.Taken.TheVariants.{Hand as InHand}
 use Rattle.saturation_core.specs.declared.opening.Opening.{Opening}
-use Rattle.saturation_core.specs.Jobs.{Tables}
+use Rattle.saturation_core.specs.Jobs.{Tables, row_of, InputsFit}
+use Rattle.saturation_core.specs.declared.job.Job.{Job}
 use Rattle.saturation_core.specs.States.{CoreState, hand_at, step, replay, jobs_at}
 use Rattle.saturation_core.specs.Openings.{opening_state}
 use Rattle.saturation_core.specs.Invariants.{LockInvariant}
@@ -64,6 +65,17 @@ module _ {S W Map D : Type 0} (operations : S → Operations W Map) (tables : D 
       × (h ≡ record { seat = seat; jobs = jobs_at (operations old.system.semiring) (tables old.direction old.system) (entry_at x old.state.transitions) old.state.transitions })
   AnswersTake old seat (Idle seats) new = (old.state.queue ≡ []) × (NoHand old → ⊥) × (seats.bits ≡ seat_bits old.state.hands) × (new ≡ old)
   AnswersTake old seat Closed new = IsClosed old × (new ≡ old)
+
+  -- jobs that a worker can work out over the book's system: rows, whose inputs have weights
+  pub record CanWork (b : BookValue S W Map D) (jobs : List (Job S W Map)) : Type 0 where
+    pub rows : All (λ j. IsTrue ((tables b.direction b.system).rows (row_of j))) jobs
+    pub inputs : All (InputsFit (operations b.system.semiring)) jobs
+
+  -- a hand that is answered can be worked on
+  abbrev pub HandWorks : BookValue S W Map D → Taken S W Map → Type 0
+  HandWorks b (InHand h) = CanWork b h.jobs
+  HandWorks b (Idle seats) = Unit {0}
+  HandWorks b Closed = Unit {0}
 
   -- the bound on how often transitions were taken
   abbrev pub TakesAreBounded : (D → Pushdown S W Map → Opening → List Place) → BookValue S W Map D → Type 0

@@ -2,9 +2,10 @@ ghost use Rattle.std.specs.Prelude.{◌≡◌, ◌↔◌, ◌<◌, [], ◌∷◌
 ghost use Rattle.saturation_core.specs.declared.event.Event.TheVariants.{Take, Settle, GiveBack};
 ghost use Rattle.saturation_core.specs.States.{hand_at};
 ghost use Rattle.saturation_core.specs.Bound.{takes, takes_of};
-ghost use Rattle.saturation_core.specs.Books.{IsBook, Makes, IsClosed, AnswersTake};
+ghost use Rattle.saturation_core.specs.Books.{IsBook, Makes, IsClosed, AnswersTake, HandWorks};
 
 use crate::hands::{none_out, place_out, put, seats_out};
+use crate::journal::{count_takes, count_takes_of};
 use crate::queue::{enqueue, front, list_jobs};
 use crate::{Direction, Event, Hand, Holding, JobList, Opening, Taken};
 use pushdown_rules::System;
@@ -95,6 +96,21 @@ impl<'s, S: Semiring, D: Direction<S>> Book<'s, S, D> {
         place_out(&self.out, seat as usize).is_some()
     }
 
+    /// How often a transition was taken.
+    pub fn takes(&self) -> u128
+        ensures { result ≡ takes self.now.journal }
+    {
+        count_takes(&self.journal)
+    }
+
+    /// How often this seat has taken one.
+    pub fn takes_of(&self, seat: u32) -> u128
+        requires { seat < 64 }
+        ensures { result ≡ takes_of seat self.now.journal }
+    {
+        count_takes_of(&self.journal, seat)
+    }
+
     /// Puts the transition of a hand back into the queue, and takes the hand away.
     pub fn give_back(&mut self, seat: u32)
         requires out { IsSome (hand_at seat self.old.state.hands) }
@@ -113,6 +129,7 @@ impl<'s, S: Semiring, D: Direction<S>> Book<'s, S, D> {
         requires seat { seat < 64 }
         requires free { hand_at seat self.old.state.hands ≡ None }
         ensures taken { IfOk result (λ t. AnswersTake S.operations D.tables self.old seat t self.new) }
+        ensures works { IfOk result (λ t. HandWorks S.operations D.tables self.old t) }
         ensures err { OnErr result (self.new ≡ self.old) }
     {
         match front(&self.waiting) {

@@ -8,14 +8,16 @@ mod event;
 mod hand;
 mod hands;
 mod job;
+mod journal;
 mod laws;
 mod opening;
 mod queue;
+mod work;
 
 pub use book::Book;
 pub use direction::Direction;
 pub use event::Event;
-pub use hand::{Hand, Holding, SeatSet, Taken};
+pub use hand::{Done, Hand, Holding, SeatSet, Taken, WeightList, WorkFault};
 pub use job::{Input, Job, JobKind, JobList};
 pub use laws::{closed_is_applied, every_order_keeps, takes_are_bounded};
 pub use opening::{Opening, PlaceList, StateList};

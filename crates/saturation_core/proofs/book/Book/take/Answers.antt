@@ -6,9 +6,9 @@ use Rattle.saturation_core.specs.declared.event.Event.TheVariants.{Take}
 use Rattle.saturation_core.specs.declared.job.Job.{Job}
 use Rattle.saturation_core.specs.declared.hand.Hand.{Hand}
 use Rattle.saturation_core.specs.States.{hand_at, jobs_at}
-use Rattle.saturation_core.specs.Books.{BookValue, Makes}
+use Rattle.saturation_core.specs.Books.{BookValue, Makes, CanWork}
 use Rattle.saturation_core.specs.Seen.{seen}
-use Rattle.saturation_core.proofs.Kept.{book_fits, event_keeps}
+use Rattle.saturation_core.proofs.Kept.{book_fits, event_keeps, taken_works}
 use Rattle.saturation_core.proofs.Made.{after, taken}
 use Rattle.saturation_core.proofs.OfHands.{hands_out-seats, hands_out-set, popped}
 use Rattle.saturation_core.proofs.book.Book.take.Goals as goal
@@ -65,3 +65,13 @@ pub list_jobs-requires-in-Some-clause-weights : goal.list_jobs-requires-in-Some-
 list_jobs-requires-in-Some-clause-weights g c =
     book_fits g.S.Semiring.operations g.S.Semiring.laws g.D.Direction.tables g.D.Direction.fits_opening g.D.Direction.places g.D.Direction.runs g.met.D.Direction.laws
     (seen c.self.inside) c.self.invariant.0
+
+pub returns-in_ok-reserve-in-Some-clause-works : goal.returns-in_ok-reserve-in-Some-clause-works
+returns-in_ok-reserve-in-Some-clause-works g c =
+    let seats : length c.self.inside.out.items ≡ 64 = c.self.invariant.0.lock.shape.seats in
+    let seat : c.args.seat < 64 = c.requires.seat in
+    subst (λ b. CanWork g.S.Semiring.operations g.D.Direction.tables b c.in_ok-jobs-in-Some.jobs) c.self.view_is
+    (taken_works g.S.Semiring.operations g.S.Semiring.laws g.D.Direction.tables g.D.Direction.fits_opening g.D.Direction.places g.D.Direction.runs g.met.D.Direction.laws
+    (seen c.self.inside) c.self.invariant.0 c.args.seat c.in-Some.place c.pop_front.new.self.items c.put.new.out.items c.push_reserved.new.self.items
+    (made g c) (omega (arith, seats, seat)) c.in_ok-kept-in-Some.kept c.in_ok-jobs-in-Some.jobs c.put.ensures
+    (c.in_ok-jobs-in-Some.ensures ∙ sym c.in_ok-kept-in-Some.ensures))
