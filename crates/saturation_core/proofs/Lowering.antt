@@ -13,7 +13,7 @@ use Rattle.weighted_automata.proofs.OfEntries.{entry_at-place, entry_at-lowered_
 use Rattle.witness_graph.specs.declared.node.Node.{Node}
 use Rattle.witness_graph.specs.declared.node.Node.TheVariants.{Start, Lower}
 use Rattle.witness_graph.specs.declared.node.Side.{Side}
-use Rattle.witness_graph.specs.Nodes.{AreNodes, IsNodeAt, is_orderly}
+use Rattle.witness_graph.specs.Nodes.{IsNodeAt, is_orderly}
 use Rattle.witness_graph.specs.Runs.{runs_of, earlier_runs, parts_runs, part_runs, rule_runs}
 use Rattle.witness_graph.specs.Tight.{IsTightNode}
 use Rattle.witness_graph.proofs.OfNodes.{each_earlier, orderly_from, nodes_push}

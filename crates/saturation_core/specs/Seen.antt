@@ -1,5 +1,5 @@
 -- What a book is seen as, and the room that it keeps.
-use Rattle.std.specs.Prelude.{ℕ, ◌+◌, ◌≤◌, vec_len, vec_capacity}
+use Rattle.std.specs.Prelude.{◌+◌, ◌≤◌, vec_len, vec_capacity}
 use Rattle.std.specs.VecDeque.{deque_len, deque_capacity}
 use Rattle.saturation_core.specs.declared.book.Book.TheInside.{Inside}
 use Rattle.saturation_core.specs.Books.{BookValue, hands_out}

@@ -1,4 +1,4 @@
-use Rattle.std.proofs.Common.{sym, ap, ◌∙◌, arith}
+use Rattle.std.proofs.Common.{sym, ap, arith}
 use Rattle.std.proofs.Math.Seq.{drop-length}
 use Rattle.saturation_core.specs.Books.{seat_bits}
 use Rattle.saturation_core.proofs.OfHands.{bits_below, bits_step, bit_small}

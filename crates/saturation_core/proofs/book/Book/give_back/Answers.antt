@@ -1,5 +1,5 @@
-use Rattle.std.proofs.Common.{◌≡◌, ◌<◌, ◌≤◌, sym, ap, ◌∙◌, subst, ◌++◌, ◌∷◌, [], length, arith}
-use Rattle.std.specs.Prelude.{option_map, Some}
+use Rattle.std.proofs.Common.{sym, ap, ◌∙◌, subst, arith}
+use Rattle.std.specs.Prelude.{option_map}
 use Rattle.saturation_core.specs.declared.event.Event.TheVariants.{GiveBack}
 use Rattle.saturation_core.specs.States.{hand_at}
 use Rattle.saturation_core.specs.Books.{Makes, hands_out}

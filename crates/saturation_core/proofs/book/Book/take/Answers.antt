@@ -1,5 +1,4 @@
-use Rattle.std.proofs.Common.{◌≡◌, ◌<◌, ◌≤◌, ◌+◌, sym, ap, ◌∙◌, subst, length, List, ◌++◌, ◌∷◌, [], arith}
-use Rattle.std.proofs.lemmas.List.{length-set}
+use Rattle.std.proofs.Common.{◌≡◌, ◌<◌, sym, ap, ◌∙◌, subst, length, List, ◌++◌, ◌∷◌, [], arith}
 use Rattle.std.specs.VecDeque.{deque_len}
 use Rattle.weighted_automata.specs.Entries.{entry_at}
 use Rattle.saturation_core.specs.declared.event.Event.TheVariants.{Take}
