@@ -1,0 +1,13 @@
+pub mod OfLists
+pub mod OfValues
+pub mod Lowering
+pub mod Settling
+pub mod Events
+pub mod Bounding
+pub mod Opened
+pub mod OfOpenings
+pub mod OfHands
+pub mod QueueFacts
+pub mod Working
+pub mod Made
+pub mod Kept

@@ -1,0 +1,90 @@
+-- Counting hands, and the bits of their seats.
+use Rattle.std.proofs.Common.{◌≡◌, ℕ, suc, zero, ◌+◌, ◌-◌, ◌*◌, ◌^◌, ◌<◌, ◌≤◌, List, [], ◌∷◌, ◌++◌, length, get_or, drop, set, refl, sym, ap, ◌∙◌, arith}
+use Rattle.std.specs.Prelude.{Option, None, Some, is_some, cond, option_map, option_to_list}
+use Rattle.std.proofs.lemmas.List.{at_drop_more, length-drop, length-set}
+use Rattle.std.proofs.Math.Nat.{pow-succ'}
+use Rattle.std.proofs.Math.Pow.{pow_mono}
+use Rattle.weighted_automata.specs.declared.place.Place.{Place}
+use Rattle.saturation_core.specs.declared.hand.Holding.{Holding}
+use Rattle.saturation_core.specs.States.{hand_at}
+use Rattle.saturation_core.specs.Books.{hands_out, seat_bits}
+
+module _ {S W Map : Type 0} where
+  pub hands_out_le : (hs : List (Option (Holding S W Map))) → hands_out hs ≤ length hs
+  hands_out_le [] = omega arith
+  hands_out_le (None ∷ hs) = omega (arith, hands_out_le hs)
+  hands_out_le (Some h ∷ hs) = omega (arith, hands_out_le hs)
+
+  -- one fewer, where a hand goes
+  pub hands_out-freed : (hs : List (Option (Holding S W Map))) (k : ℕ) (h : Holding S W Map) → hand_at k hs ≡ Some h → hands_out hs ≡ 1 + hands_out (set hs k None)
+  hands_out-freed [] k h e = cc
+  hands_out-freed (None ∷ hs) zero h e = cc
+  hands_out-freed (Some g ∷ hs) zero h e = omega arith
+  hands_out-freed (g ∷ hs) (suc k) h e = omega (arith, hands_out-freed hs k h e)
+
+  -- at most one more, whatever a seat gets
+  set_le : (hs : List (Option (Holding S W Map))) (k : ℕ) (o : Option (Holding S W Map)) → hands_out (set hs k o) ≤ 1 + hands_out hs
+  set_le [] k o = omega arith
+  set_le (g ∷ hs) zero None = omega arith
+  set_le (g ∷ hs) zero (Some h) = omega arith
+  set_le (g ∷ hs) (suc k) o = omega (arith, set_le hs k o)
+
+  pub hands_out-set : (hs new : List (Option (Holding S W Map))) (k : ℕ) (o : Option (Holding S W Map)) → new ≡ set hs k o → hands_out new ≤ 1 + hands_out hs
+  hands_out-set hs new k o is = let e = ap hands_out is in omega (arith, e, set_le hs k o)
+
+  pub hands_out-seats : (hs new : List (Option (Holding S W Map))) (k : ℕ) (o : Option (Holding S W Map)) → new ≡ set hs k o → hands_out new ≤ length hs
+  hands_out-seats hs new k o is = let e = ap length is in omega (arith, e, length-set hs k o, hands_out_le new)
+
+  pub seat_bits_below : (hs : List (Option (Holding S W Map))) → seat_bits hs < 2 ^ length hs
+  seat_bits_below [] = omega arith
+  seat_bits_below (None ∷ hs) = let e : 2 ^ suc (length hs) ≡ 2 * 2 ^ length hs = pow-succ' 2 (length hs) in omega (arith, seat_bits_below hs, e)
+  seat_bits_below (Some h ∷ hs) = let e : 2 ^ suc (length hs) ≡ 2 * 2 ^ length hs = pow-succ' 2 (length hs) in omega (arith, seat_bits_below hs, e)
+
+  -- the bits of up to 64 seats fit 64 bits
+  pub seat_bits_fit : (hs : List (Option (Holding S W Map))) (n : ℕ) → length hs ≤ n → seat_bits hs < 2 ^ n
+  seat_bits_fit hs n short = let m : 2 ^ length hs ≤ 2 ^ n = pow_mono short in omega (arith, seat_bits_below hs)
+
+  pub bits_below : (hs : List (Option (Holding S W Map))) (i bits : ℕ) → length hs ≤ 64 → 0 < i → bits ≡ seat_bits (drop i hs) → bits < 2 ^ 63
+  bits_below hs i bits short some is =
+      let few = seat_bits_fit (drop i hs) 63 (omega (arith, length-drop i hs)) in omega (arith, few)
+
+  pub bit_small : (d : Option (Holding S W Map)) (b : ℕ) → b ≡ cond (is_some d) 1 0 → b ≤ 1
+  bit_small None b e = omega (arith, e)
+  bit_small (Some h) b e = omega (arith, e)
+
+  -- one seat more, from the last to the first
+  pub seat_bits_more : (hs : List (Option (Holding S W Map))) (i : ℕ) (d : Option (Holding S W Map)) → i < length hs
+      → cond (is_some (get_or hs i d)) 1 0 + 2 * seat_bits (drop (i + 1) hs) ≡ seat_bits (drop i hs)
+  seat_bits_more hs i d within = sym (at_drop_more seat_bits hs i d within)
+
+  pub bits_step : (hs : List (Option (Holding S W Map))) (i bits b : ℕ) (d : Option (Holding S W Map)) → 0 < i → i ≤ length hs → bits ≡ seat_bits (drop i hs)
+      → d ≡ get_or hs (i - 1) d → b ≡ cond (is_some d) 1 0 → 2 * bits + b ≡ seat_bits (drop (i - 1) hs)
+  bits_step hs zero bits b d some within is read bit = absurd (omega (arith, some))
+  bits_step hs (suc k) bits b d some within is read bit =
+      let at : suc k - 1 ≡ k = omega arith in
+      let here : d ≡ get_or hs k d = read ∙ ap (λ n. get_or hs n d) at in
+      let next : k + 1 ≡ suc k = omega arith in
+      let one : cond (is_some (get_or hs k d)) 1 0 + 2 * seat_bits (drop (k + 1) hs) ≡ seat_bits (drop k hs) = seat_bits_more hs k d (omega (arith, within)) in
+      let bit' : b ≡ cond (is_some (get_or hs k d)) 1 0 = bit ∙ ap (λ o. cond (is_some o) 1 0) here in
+      let is' : bits ≡ seat_bits (drop (k + 1) hs) = is ∙ ap (λ n. seat_bits (drop n hs)) (sym next) in
+      let all : 2 * bits + b ≡ seat_bits (drop k hs) = omega (arith, one, bit', is') in
+      all ∙ ap (λ n. seat_bits (drop n hs)) (sym at)
+
+  -- the hand whose place was read
+  pub hand_of : (o : Option (Holding S W Map)) (x : Place) → option_map (λ h. h.place) o ≡ Some x → (h : Holding S W Map) × (o ≡ Some h)
+  hand_of None x e = cc
+  hand_of (Some h) x e = (h, refl)
+
+  -- one fewer, where a hand goes whose place was read
+  pub hands_out-read : (hs : List (Option (Holding S W Map))) (k : ℕ) (x : Place) → option_map (λ h. h.place) (hand_at k hs) ≡ Some x → hands_out hs ≡ 1 + hands_out (set hs k None)
+  hands_out-read hs k x e = let h = hand_of (hand_at k hs) x e in hands_out-freed hs k h.0 h.1
+
+-- a queue with a front is one shorter without it
+pub popped : {X : Type 0} (o : Option X) (old new : List X) (x : X) (n m : ℕ) → old ≡ option_to_list o ++ new → new ≡ drop 1 old → old ≡ x ∷ drop 1 old
+    → m + length (option_to_list o) ≡ n → m + 1 ≡ n
+popped None old new x n m items rest front len =
+    let a : length old ≡ length new = ap length items in
+    let b : length new ≡ length (drop 1 old) = ap length rest in
+    let c : length old ≡ suc (length (drop 1 old)) = ap length front in
+    absurd (omega (arith, a, b, c))
+popped (Some y) old new x n m items rest front len = let e : m + 1 ≡ n = len in e

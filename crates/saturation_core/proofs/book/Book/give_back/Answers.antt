@@ -1,0 +1,42 @@
+use Rattle.std.proofs.Common.{sym, ap, ◌∙◌, subst, arith}
+use Rattle.std.specs.Prelude.{option_map}
+use Rattle.saturation_core.specs.declared.event.Event.TheVariants.{GiveBack}
+use Rattle.saturation_core.specs.States.{hand_at}
+use Rattle.saturation_core.specs.Books.{Makes, hands_out}
+use Rattle.saturation_core.specs.Seen.{seen}
+use Rattle.saturation_core.proofs.Kept.{event_keeps}
+use Rattle.saturation_core.proofs.Made.{after, given}
+use Rattle.saturation_core.proofs.OfHands.{hands_out-read}
+use Rattle.saturation_core.proofs.book.Book.give_back.Goals as goal
+
+pub enqueue-requires : goal.enqueue-requires
+enqueue-requires g c = omega (arith, hands_out-read c.self.inside.out.items c.args.seat c.in-Some.place (ap (λ hands. option_map (λ h. h.place) (hand_at c.args.seat hands)) (sym c.deref.ensures.value) ∙ sym c.place_out.ensures ∙ c.in-Some.is), c.self.invariant.1.queue)
+
+pub push_reserved-requires : goal.push_reserved-requires
+push_reserved-requires g c = omega (arith, hands_out-read c.self.inside.out.items c.args.seat c.in-Some.place (ap (λ hands. option_map (λ h. h.place) (hand_at c.args.seat hands)) (sym c.deref.ensures.value) ∙ sym c.place_out.ensures ∙ c.in-Some.is), c.self.invariant.1.journal)
+
+made : (g : _) (c : goal.After-put g) → Makes g.S.Semiring.operations g.D.Direction.tables (seen c.self.inside) (GiveBack c.args.seat)
+    (after (seen c.self.inside) c.enqueue.new.queue.items c.put.new.out.items c.push_reserved.new.self.items)
+made g c = given g.S.Semiring.operations g.D.Direction.tables (seen c.self.inside) c.args.seat c.in-Some.place
+    c.enqueue.new.queue.items c.put.new.out.items c.push_reserved.new.self.items
+    (ap (λ hands. option_map (λ h. h.place) (hand_at c.args.seat hands)) (sym c.deref.ensures.value) ∙ sym c.place_out.ensures ∙ c.in-Some.is)
+    c.enqueue.ensures.items
+    c.put.ensures
+    c.push_reserved.ensures.items
+
+pub invariant_of-self : goal.invariant_of-self
+invariant_of-self g c = (
+  event_keeps g.S.Semiring.operations g.S.Semiring.laws g.D.Direction.tables g.D.Direction.fits_opening g.D.Direction.places g.D.Direction.runs g.met.D.Direction.laws
+      (seen c.self.inside) c.self.invariant.0 (GiveBack c.args.seat) _ (made g c),
+  let one = hands_out-read c.self.inside.out.items c.args.seat c.in-Some.place (ap (λ hands. option_map (λ h. h.place) (hand_at c.args.seat hands)) (sym c.deref.ensures.value) ∙ sym c.place_out.ensures ∙ c.in-Some.is) in
+      let now = ap hands_out c.put.ensures in
+      record {
+        journal = omega (arith, one, now, c.self.invariant.1.journal, c.push_reserved.ensures.len, c.push_reserved.ensures.capacity);
+        queue = omega (arith, one, now, c.self.invariant.1.queue, c.enqueue.ensures.len, c.enqueue.ensures.capacity);
+      },
+)
+
+pub returns-in-Some : goal.returns-in-Some
+returns-in-Some g c =
+    subst (λ b. Makes g.S.Semiring.operations g.D.Direction.tables b (GiveBack c.args.seat)
+    (after (seen c.self.inside) c.enqueue.new.queue.items c.put.new.out.items c.push_reserved.new.self.items)) c.self.view_is (made g c)

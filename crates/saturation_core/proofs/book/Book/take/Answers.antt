@@ -1,0 +1,76 @@
+use Rattle.std.proofs.Common.{◌≡◌, ◌<◌, sym, ap, ◌∙◌, subst, length, List, ◌++◌, ◌∷◌, [], arith}
+use Rattle.std.specs.VecDeque.{deque_len}
+use Rattle.weighted_automata.specs.Entries.{entry_at}
+use Rattle.saturation_core.specs.declared.event.Event.TheVariants.{Take}
+use Rattle.saturation_core.specs.declared.job.Job.{Job}
+use Rattle.saturation_core.specs.declared.hand.Hand.{Hand}
+use Rattle.saturation_core.specs.States.{hand_at, jobs_at}
+use Rattle.saturation_core.specs.Books.{BookValue, Makes, CanWork}
+use Rattle.saturation_core.specs.Seen.{seen}
+use Rattle.saturation_core.proofs.Kept.{book_fits, event_keeps, taken_works}
+use Rattle.saturation_core.proofs.Made.{after, taken}
+use Rattle.saturation_core.proofs.OfHands.{hands_out-seats, hands_out-set, popped}
+use Rattle.saturation_core.proofs.book.Book.take.Goals as goal
+
+made : (g : _) (c : goal.After-put g) → Makes g.S.Semiring.operations g.D.Direction.tables (seen c.self.inside) (Take c.args.seat c.in-Some.place)
+    (after (seen c.self.inside) c.pop_front.new.self.items c.put.new.out.items c.push_reserved.new.self.items)
+made g c =
+    let seats : length c.self.inside.out.items ≡ 64 = c.self.invariant.0.lock.shape.seats in
+    let seat : c.args.seat < 64 = c.requires.seat in
+    let within : c.args.seat < length c.self.inside.out.items = omega arith in
+    taken g.S.Semiring.operations g.D.Direction.tables (seen c.self.inside) c.args.seat c.in-Some.place
+    c.pop_front.new.self.items c.put.new.out.items c.push_reserved.new.self.items
+    within
+    (ap (λ b. hand_at c.args.seat b.state.hands) c.self.view_is ∙ c.requires.free)
+    (c.in-Some.ensures ∙ ap (λ q. c.in-Some.place ∷ q) (sym c.pop_front.ensures.rest))
+    c.in_ok-kept-in-Some.kept
+    c.in_ok-kept-in-Some.ensures
+    c.put.ensures
+    (c.push_reserved.ensures.items ∙ ap (λ es. es ++ Take c.args.seat c.in-Some.place ∷ []) c.in_ok-reserve-in-Some.ensures.items)
+
+pub invariant_of-self-in-Some : goal.invariant_of-self-in-Some
+invariant_of-self-in-Some g c =
+    let seats : length c.self.inside.out.items ≡ 64 = c.self.invariant.0.lock.shape.seats in
+    let seat : c.args.seat < 64 = c.requires.seat in
+    let more = hands_out-set c.self.inside.out.items c.put.new.out.items c.args.seat _ c.put.ensures in
+    let few = hands_out-seats c.self.inside.out.items c.put.new.out.items c.args.seat _ c.put.ensures in
+    let one = popped c.pop_front.result c.self.inside.waiting.items c.pop_front.new.self.items c.in-Some.place (deque_len c.self.inside.waiting) (deque_len c.pop_front.new.self) c.pop_front.ensures.items c.pop_front.ensures.rest c.in-Some.ensures c.pop_front.ensures.len in (
+      event_keeps g.S.Semiring.operations g.S.Semiring.laws g.D.Direction.tables g.D.Direction.fits_opening g.D.Direction.places g.D.Direction.runs
+          g.met.D.Direction.laws
+          (seen c.self.inside) c.self.invariant.0 (Take c.args.seat c.in-Some.place) _ (made g c),
+      record {
+        journal = omega (arith, more, few, seats, c.in_ok-reserve-in-Some.ensures.ok, c.push_reserved.ensures.len, c.push_reserved.ensures.capacity);
+        queue = omega (arith, more, one, c.self.invariant.1.queue, c.pop_front.ensures.capacity);
+      },
+    )
+
+pub returns-in_ok-reserve-in-Some-clause-taken : goal.returns-in_ok-reserve-in-Some-clause-taken
+returns-in_ok-reserve-in-Some-clause-taken g c =
+    let new = after (seen c.self.inside) c.pop_front.new.self.items c.put.new.out.items c.push_reserved.new.self.items in
+    let hand : List (Job g.row.S.Denot g.row.S-W.Denot g.row.S-Ret.Denot) → Hand g.row.S.Denot g.row.S-W.Denot g.row.S-Ret.Denot = λ js. record { seat = c.args.seat; jobs = js } in
+    let jobs : BookValue g.row.S.Denot g.row.S-W.Denot g.row.S-Ret.Denot g.row.D.Denot → List (Job g.row.S.Denot g.row.S-W.Denot g.row.S-Ret.Denot) =
+    λ b. jobs_at (g.S.Semiring.operations b.system.semiring) (g.D.Direction.tables b.direction b.system) (entry_at c.in-Some.place b.state.transitions) b.state.transitions in (
+      c.in-Some.place,
+      subst (λ b. Makes g.S.Semiring.operations g.D.Direction.tables b (Take c.args.seat c.in-Some.place) new) c.self.view_is (made g c),
+      ap hand (c.in_ok-jobs-in-Some.ensures ∙ ap jobs c.self.view_is),
+    )
+
+pub list_jobs-requires-clause-weights : goal.list_jobs-requires-clause-weights
+list_jobs-requires-clause-weights g c =
+    book_fits g.S.Semiring.operations g.S.Semiring.laws g.D.Direction.tables g.D.Direction.fits_opening g.D.Direction.places g.D.Direction.runs g.met.D.Direction.laws
+    (seen c.self.inside) c.self.invariant.0
+
+pub list_jobs-requires-in-Some-clause-weights : goal.list_jobs-requires-in-Some-clause-weights
+list_jobs-requires-in-Some-clause-weights g c =
+    book_fits g.S.Semiring.operations g.S.Semiring.laws g.D.Direction.tables g.D.Direction.fits_opening g.D.Direction.places g.D.Direction.runs g.met.D.Direction.laws
+    (seen c.self.inside) c.self.invariant.0
+
+pub returns-in_ok-reserve-in-Some-clause-works : goal.returns-in_ok-reserve-in-Some-clause-works
+returns-in_ok-reserve-in-Some-clause-works g c =
+    let seats : length c.self.inside.out.items ≡ 64 = c.self.invariant.0.lock.shape.seats in
+    let seat : c.args.seat < 64 = c.requires.seat in
+    subst (λ b. CanWork g.S.Semiring.operations g.D.Direction.tables b c.in_ok-jobs-in-Some.jobs) c.self.view_is
+    (taken_works g.S.Semiring.operations g.S.Semiring.laws g.D.Direction.tables g.D.Direction.fits_opening g.D.Direction.places g.D.Direction.runs g.met.D.Direction.laws
+    (seen c.self.inside) c.self.invariant.0 c.args.seat c.in-Some.place c.pop_front.new.self.items c.put.new.out.items c.push_reserved.new.self.items
+    (made g c) (omega (arith, seats, seat)) c.in_ok-kept-in-Some.kept c.in_ok-jobs-in-Some.jobs c.put.ensures
+    (c.in_ok-jobs-in-Some.ensures ∙ sym c.in_ok-kept-in-Some.ensures))

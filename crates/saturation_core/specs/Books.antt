@@ -1,0 +1,98 @@
+-- A book, as contracts see it.
+use Rattle.std.specs.Prelude.{◌≡◌, ℕ, ◌≤◌, Bool, List, length, [], ◌∷◌, ◌++◌, Option, None, Some, is_some, ◌+◌, ◌*◌, if◌then◌else◌, IsTrue, All}
+use Rattle.semiring_laws.specs.Semiring.{Operations}
+use Rattle.weighted_automata.specs.declared.place.Place.{Place}
+use Rattle.pushdown_rules.specs.Pushdown.{Pushdown, IsSystem}
+use Rattle.pushdown_rules.specs.Values.{value_of}
+use Rattle.saturation_core.specs.declared.event.Event.{Event}
+use Rattle.saturation_core.specs.declared.event.Event.TheVariants.{Take}
+use Rattle.saturation_core.specs.declared.hand.Holding.{Holding}
+use Rattle.saturation_core.specs.declared.hand.Taken.{Taken}
+use Rattle.saturation_core.specs.declared.hand.Taken.TheVariants.{Idle, Closed}
+use Rattle.saturation_core.specs.declared.hand.Taken.TheVariants.{Hand as InHand}
+use Rattle.saturation_core.specs.declared.opening.Opening.{Opening}
+use Rattle.saturation_core.specs.Jobs.{Tables, row_of, InputsFit}
+use Rattle.saturation_core.specs.declared.job.Job.{Job}
+use Rattle.saturation_core.specs.States.{CoreState, hand_at, step, replay, jobs_at}
+use Rattle.saturation_core.specs.Openings.{opening_state}
+use Rattle.saturation_core.specs.Invariants.{LockInvariant}
+use Rattle.saturation_core.specs.Bound.{takes, gives, WithinRankBound}
+use Rattle.weighted_automata.specs.Entries.{entry_at}
+
+pub record BookValue (S W Map D : Type 0) : Type 0 where
+  pub system : Pushdown S W Map
+  pub direction : D
+  pub opening : Opening
+  pub state : CoreState S W Map
+  pub journal : List Event
+
+module _ {S W Map : Type 0} where
+  -- how many hands are out
+  abbrev pub hands_out : List (Option (Holding S W Map)) → ℕ
+  hands_out [] = 0
+  hands_out (h ∷ hs) = (if is_some h then 1 else 0) + hands_out hs
+
+  -- the number whose bits are the seats with hands, the lowest bit seat 0
+  abbrev pub seat_bits : List (Option (Holding S W Map)) → ℕ
+  seat_bits [] = 0
+  seat_bits (h ∷ hs) = (if is_some h then 1 else 0) + 2 * seat_bits hs
+
+module _ {S W Map D : Type 0} where
+  -- no hand is out
+  abbrev pub NoHand : BookValue S W Map D → Type 0
+  NoHand b = (seat : ℕ) → hand_at seat b.state.hands ≡ None
+
+  -- the queue is empty and no hand is out
+  abbrev pub IsClosed : BookValue S W Map D → Type 0
+  IsClosed b = (b.state.queue ≡ []) × NoHand b
+
+module _ {S W Map D : Type 0} (operations : S → Operations W Map) (tables : D → Pushdown S W Map → Tables S W Map) where
+  abbrev pub opened_by : BookValue S W Map D → CoreState S W Map
+  opened_by b = opening_state (operations b.system.semiring) (tables b.direction b.system).side b.system b.opening.edges
+
+  abbrev pub replayed : BookValue S W Map D → Option (CoreState S W Map)
+  replayed b = replay (operations b.system.semiring) (tables b.direction b.system) (opened_by b) b.journal
+
+  -- the event makes the one book of the other, and joins the journal
+  abbrev pub Makes : BookValue S W Map D → Event → BookValue S W Map D → Type 0
+  Makes old e new = (st : CoreState S W Map) × (step (operations old.system.semiring) (tables old.direction old.system) old.state e ≡ Some st)
+      × (new ≡ record old { state = st; journal = old.journal ++ e ∷ [] })
+
+  -- what a seat may be answered
+  abbrev pub AnswersTake : BookValue S W Map D → ℕ → Taken S W Map → BookValue S W Map D → Type 0
+  AnswersTake old seat (InHand h) new =
+      (x : Place) × Makes old (Take seat x) new
+      × (h ≡ record { seat = seat; jobs = jobs_at (operations old.system.semiring) (tables old.direction old.system) (entry_at x old.state.transitions) old.state.transitions })
+  AnswersTake old seat (Idle seats) new = (old.state.queue ≡ []) × (NoHand old → ⊥) × (seats.bits ≡ seat_bits old.state.hands) × (new ≡ old)
+  AnswersTake old seat Closed new = IsClosed old × (new ≡ old)
+
+  -- jobs that a worker can work out over the book's system: rows, whose inputs have weights
+  pub record CanWork (b : BookValue S W Map D) (jobs : List (Job S W Map)) : Type 0 where
+    pub rows : All (λ j. IsTrue ((tables b.direction b.system).rows (row_of j))) jobs
+    pub inputs : All (InputsFit (operations b.system.semiring)) jobs
+
+  -- a hand that is answered can be worked on
+  abbrev pub HandWorks : BookValue S W Map D → Taken S W Map → Type 0
+  HandWorks b (InHand h) = CanWork b h.jobs
+  HandWorks b (Idle seats) = Unit {0}
+  HandWorks b Closed = Unit {0}
+
+  -- the bound on how often transitions were taken
+  abbrev pub TakesAreBounded : (D → Pushdown S W Map → Opening → List Place) → BookValue S W Map D → Type 0
+  TakesAreBounded places b = takes b.journal
+      ≤ length (opened_by b).transitions + length (places b.direction b.system b.opening) * ((operations b.system.semiring).top_rank + 1) + gives b.journal
+
+  -- and on how many nodes there are
+  abbrev pub NodesAreBounded : (D → Pushdown S W Map → Opening → List Place) → BookValue S W Map D → Type 0
+  NodesAreBounded places b = length b.state.nodes
+      ≤ length (opened_by b).nodes + length (places b.direction b.system b.opening) * (operations b.system.semiring).top_rank
+
+  -- The book is the replay of its journal from its opening, and so it meets the lock invariant and the bound.
+  pub record IsBook (fits_opening : D → Pushdown S W Map → Opening → Bool) (places : D → Pushdown S W Map → Opening → List Place)
+      (runs : D → Pushdown S W Map → Opening → Place → List ℕ → Type 0) (b : BookValue S W Map D) : Type 0 where
+    pub system : IsSystem operations b.system
+    pub fits : IsTrue (fits_opening b.direction b.system b.opening)
+    pub replays : replayed b ≡ Some b.state
+    pub lock : LockInvariant (operations b.system.semiring) (value_of (operations b.system.semiring) b.system) (runs b.direction b.system b.opening)
+        (tables b.direction b.system) (opened_by b).transitions b.state
+    pub bound : WithinRankBound (operations b.system.semiring) (places b.direction b.system b.opening) (opened_by b) b.journal b.state

@@ -1,0 +1,10 @@
+pub mod Jobs
+pub mod Lists
+pub mod States
+pub mod Directions
+pub mod Invariants
+pub mod Bound
+pub mod Openings
+pub mod Paths
+pub mod Books
+pub mod Seen

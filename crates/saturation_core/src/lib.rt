@@ -1,0 +1,23 @@
+//! The core of a saturation: a book of what was found, and the events that change it. Workers take transitions, work
+//! out what these give, and settle it; whatever the order of their events, the same holds of the book.
+#![tactic(auto)]
+
+mod book;
+mod direction;
+mod event;
+mod hand;
+mod hands;
+mod job;
+mod journal;
+mod laws;
+mod opening;
+mod queue;
+mod work;
+
+pub use book::Book;
+pub use direction::Direction;
+pub use event::Event;
+pub use hand::{Done, Hand, Holding, SeatSet, Taken, WeightList, WorkFault};
+pub use job::{Input, Job, JobKind, JobList};
+pub use laws::{closed_is_applied, every_order_keeps, takes_are_bounded};
+pub use opening::{Opening, PlaceList, StateList};

@@ -1,0 +1,72 @@
+ghost use Rattle.std.specs.Prelude.{◌≡◌, ◌<◌, ◌≤◌, ◌+◌, All, IfOk, drop, MatchOption, ◌∷◌, [], IsTrue};
+ghost use Rattle.std.specs.VecDeque.{deque_len, deque_capacity};
+ghost use Rattle.semiring_laws.specs.Semiring.{Fits};
+ghost use Rattle.weighted_automata.specs.Places.{has_place};
+ghost use Rattle.weighted_automata.specs.Entries.{entry_at};
+ghost use Rattle.saturation_core.specs.declared.opening.Opening.{Opening as OpeningValue};
+ghost use Rattle.saturation_core.specs.Lists.{queued};
+ghost use Rattle.saturation_core.specs.States.{jobs_at};
+
+use crate::{Direction, JobList};
+use pushdown_rules::System;
+use semiring_laws::Semiring;
+use std::alloc::Global;
+use std::collections::VecDeque;
+use weighted_automata::{Place, Transitions};
+use wpds_port::OutOfMemory;
+
+// Whether a place waits.
+fn waits(queue: &VecDeque<Place>, x: Place) -> bool
+    ensures { result ≡ has_place x queue.now.items }
+{
+    let (upper, lower) = queue.as_slices();
+    stands_in(upper, x) || stands_in(lower, x)
+}
+
+fn stands_in(places: &[Place], x: Place) -> bool
+    ensures { result ≡ has_place x places.now }
+{
+    for y in places {
+        if y.is(x) {
+            return true;
+        }
+    }
+    false
+}
+
+// Puts a place last, unless it waits.
+pub fn enqueue(queue: &mut VecDeque<Place>, x: Place)
+    requires { deque_len queue.old < deque_capacity queue.old }
+    ensures items { queue.new.items ≡ queued x queue.old.items }
+    ensures len { deque_len queue.new ≤ deque_len queue.old + 1 }
+    ensures capacity { deque_capacity queue.new ≡ deque_capacity queue.old }
+{
+    if !waits(queue, x) {
+        queue.push_back_reserved(x);
+    }
+}
+
+// The place that waits longest.
+pub fn front(queue: &VecDeque<Place>) -> Option<Place>
+    ensures { MatchOption result (queue.now.items ≡ []) (λ x. queue.now.items ≡ x ∷ drop 1 queue.now.items) }
+{
+    queue.front().copied()
+}
+
+// The jobs of the transition at a place.
+pub fn list_jobs<S: Semiring, D: Direction<S>>(
+    direction: &D,
+    alloc: Global,
+    system: &System<S>,
+    transitions: &Transitions<S>,
+    place: Place,
+) -> Result<JobList<S>, OutOfMemory>
+    requires fits { (o : OpeningValue) × IsTrue (D.fits_opening direction.now system.now o) }
+    requires weights { All (λ t. Fits (S.operations system.now.semiring) t.weight) transitions.now.transitions }
+    ensures { IfOk result (λ js. js ≡ jobs_at (S.operations system.now.semiring) (D.tables direction.now system.now) (entry_at place transitions.now.transitions) transitions.now.transitions) }
+{
+    match transitions.find(place) {
+        Some(k) => direction.jobs(alloc, system, transitions, k),
+        None => Ok(JobList::new(Vec::new(alloc))),
+    }
+}
