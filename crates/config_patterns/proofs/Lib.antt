@@ -6,3 +6,4 @@ pub mod OfCounts
 pub mod OfItems
 pub mod OfSets
 pub mod OfSkips
+pub mod OfOnce

@@ -21,7 +21,7 @@ in_right : (e : Edge) (ds es : List Edge) → IsIn e es → IsIn e (ds ++ es)
 in_right e [] es h = h
 in_right e (d ∷ ds) es h = inr (in_right e ds es h)
 
-in_either : (e : Edge) (ds es : List Edge) → IsIn e (ds ++ es) → IsIn e ds ⊎ IsIn e es
+pub in_either : (e : Edge) (ds es : List Edge) → IsIn e (ds ++ es) → IsIn e ds ⊎ IsIn e es
 in_either e [] es h = inr h
 in_either e (d ∷ ds) es (inl is) = inl (inl is)
 in_either e (d ∷ ds) es (inr h) = elim (in_either e ds es h) [ inl a ↦ inl (inr a) | inr b ↦ inr b ]
@@ -31,10 +31,10 @@ both true b h k = k
 both false b h k = absurd (false≢true h)
 
 -- An edge on a symbol of a set.
-record IsInto (from to : ℕ) (set : List ℕ) (e : Edge) : Type 0 where
-  source : e.from ≡ from
-  target : e.to ≡ to
-  symbol : has_symbol e.symbol set ≡ true
+pub record IsInto (from to : ℕ) (set : List ℕ) (e : Edge) : Type 0 where
+  pub source : e.from ≡ from
+  pub target : e.to ≡ to
+  pub symbol : has_symbol e.symbol set ≡ true
 
 or_right : (a b : Bool) → b ≡ true → (a || b) ≡ true
 or_right true b h = refl
@@ -44,7 +44,7 @@ or_left : (a b : Bool) → a ≡ true → (a || b) ≡ true
 or_left true b h = refl
 or_left false b h = absurd (false≢true h)
 
-is_into : (from to : ℕ) (set : List ℕ) (e : Edge) → IsIn e (edges_into from to set) → IsInto from to set e
+pub is_into : (from to : ℕ) (set : List ℕ) (e : Edge) → IsIn e (edges_into from to set) → IsInto from to set e
 is_into from to [] e h = elim h [ ]
 is_into from to (g ∷ set) e (inl is) = record {
   source = sym (ap (λ (d : Edge). d.from) is);

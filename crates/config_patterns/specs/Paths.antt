@@ -8,6 +8,11 @@ abbrev pub IsIn : Edge → List Edge → Type 0
 IsIn e [] = ⊥
 IsIn e (d ∷ ds) = (d ≡ e) ⊎ IsIn e ds
 
+-- no edge stands twice
+abbrev pub IsOnce : List Edge → Type 0
+IsOnce [] = Unit {0}
+IsOnce (e ∷ es) = (IsIn e es → ⊥) × IsOnce es
+
 -- a path of edges leads from a state over the symbols to a state
 abbrev pub Reads : List Edge → ℕ → List ℕ → ℕ → Type 0
 Reads edges from [] to = from ≡ to

@@ -1,9 +1,10 @@
-ghost use Rattle.std.specs.Prelude.{◌↔◌, ℕ, List, IsTrue};
+ghost use Rattle.std.specs.Prelude.{◌↔◌, ℕ, List, IsTrue, All};
 ghost use Rattle.config_patterns.specs.declared.item.Item.{Item as ItemValue};
 ghost use Rattle.config_patterns.specs.Membership.{items_match};
 ghost use Rattle.config_patterns.specs.declared.edge.Edge.{Edge as EdgeValue};
 ghost use Rattle.config_patterns.specs.Edges.{edges_of};
-ghost use Rattle.config_patterns.specs.Paths.{IsEdge, IsIn, IsRead};
+ghost use Rattle.config_patterns.specs.Validity.{is_set};
+ghost use Rattle.config_patterns.specs.Paths.{IsEdge, IsIn, IsOnce, IsRead};
 
 /// A law on patterns: a path of the edges leads from state 0 to a final state over a list of symbols exactly where the
 /// items match it.
@@ -15,4 +16,9 @@ pub fn members_are_read()
 /// its symbols, and those from each starred item to itself. So no edge goes to state 0.
 pub fn edges_skip_starred_items()
     ensures { (items : List ItemValue) (e : EdgeValue) → IsIn e (edges_of items) ↔ IsEdge items e }
+{}
+
+/// A law on patterns: each edge stands once, where no item's set has a symbol twice, as in each pattern.
+pub fn edges_stand_once()
+    ensures { (items : List ItemValue) → All (λ x. IsTrue (is_set x.set)) items → IsOnce (edges_of items) }
 {}

@@ -12,5 +12,5 @@ mod tests;
 
 pub use edge::{Edge, EdgeList};
 pub use item::{Item, SymbolSet, is_set};
-pub use laws::{edges_skip_starred_items, members_are_read};
+pub use laws::{edges_skip_starred_items, edges_stand_once, members_are_read};
 pub use pattern::{Pattern, PatternFault};

@@ -1,0 +1,5 @@
+use Rattle.config_patterns.proofs.OfOnce.{edges_once}
+use Rattle.config_patterns.proofs.laws.edges_stand_once.Goals as goal
+
+pub returns : goal.returns
+returns c = edges_once
