@@ -1,9 +1,8 @@
 //! The program `wpds`: hands its words, standard input and standard output to the top call.
 #![tactic(auto)]
 
-use std::env;
-use std::io;
 use std::process::ExitCode;
+use std::{env, io};
 use wpds_app::{Status, run};
 use wpds_port::{OutOfMemory, StdSink, StdSource};
 

@@ -50,7 +50,8 @@ reads_fewer ts t a [] q none h = h
 reads_fewer ts t a (g ∷ w) q none (m, here, rest) =
     let there : IsIn (place a g m) ts = elim (in_either (place a g m) ts (t ∷ []) here) [
       | inl h ↦ h
-      | inr h ↦ elim h [ inl e ↦ absurd (none (inl (sym (ap (λ (x : Place). x.symbol) e)))) | inr nowhere ↦ absurd nowhere ] ] in
+      | inr h ↦ elim h [ inl e ↦ absurd (none (inl (sym (ap (λ (x : Place). x.symbol) e)))) | inr nowhere ↦ absurd nowhere ]
+    ] in
     (m, there, reads_fewer ts t m w q (λ h. none (inr h)) rest)
 
 -- a search for an element
@@ -86,36 +87,44 @@ pub behind_more : (states old new : List ℕ) (symbol : ℕ) (ts : List Place) (
     → ((q : ℕ) → IsIn q old ↔ IsBehind states symbol ts q) → ((q : ℕ) → IsIn q new ↔ (IsIn q old ⊎ (t.to ≡ q)))
     → (q : ℕ) → IsIn q new ↔ IsBehind states symbol (ts ++ t ∷ []) q
 behind_more states old new symbol ts t same from known added q = (
-    λ h. elim ((added q).0 h) [
-      | inl was ↦ let b = (known q).0 was in (b.0, b.1, in_front _ ts _ b.2)
-      | inr e ↦ (t.from, from, in_back _ ts _ (inl (ap₂ (λ g (k : ℕ). place t.from g k) same e))) ],
-    λ b. (added q).1 (elim (in_either (place b.0 symbol q) ts (t ∷ []) b.2) [
-      | inl was ↦ inl ((known q).1 (b.0, b.1, was))
-      | inr last ↦ elim last [ inl e ↦ inr (ap (λ (x : Place). x.to) e) | inr nowhere ↦ absurd nowhere ] ]))
+  λ h. elim ((added q).0 h) [
+    | inl was ↦ let b = (known q).0 was in (b.0, b.1, in_front _ ts _ b.2)
+    | inr e ↦ (t.from, from, in_back _ ts _ (inl (ap₂ (λ g (k : ℕ). place t.from g k) same e)))
+  ],
+  λ b. (added q).1 (elim (in_either (place b.0 symbol q) ts (t ∷ []) b.2) [
+    | inl was ↦ inl ((known q).1 (b.0, b.1, was))
+    | inr last ↦ elim last [ inl e ↦ inr (ap (λ (x : Place). x.to) e) | inr nowhere ↦ absurd nowhere ]
+  ]),
+)
 
 -- and one that does not
 pub behind_same : (states old : List ℕ) (symbol : ℕ) (ts : List Place) (t : Place) → ((t.symbol ≡ symbol) × IsIn t.from states → ⊥)
     → ((q : ℕ) → IsIn q old ↔ IsBehind states symbol ts q) → (q : ℕ) → IsIn q old ↔ IsBehind states symbol (ts ++ t ∷ []) q
 behind_same states old symbol ts t other known q = (
-    λ h. let b = (known q).0 h in (b.0, b.1, in_front _ ts _ b.2),
-    λ b. elim (in_either (place b.0 symbol q) ts (t ∷ []) b.2) [
-      | inl was ↦ (known q).1 (b.0, b.1, was)
-      | inr last ↦ elim last [
-        | inl e ↦ absurd (other (ap (λ (x : Place). x.symbol) e, subst (λ n. IsIn n states) (sym (ap (λ (x : Place). x.from) e)) b.1))
-        | inr nowhere ↦ absurd nowhere ] ])
+  λ h. let b = (known q).0 h in (b.0, b.1, in_front _ ts _ b.2),
+  λ b. elim (in_either (place b.0 symbol q) ts (t ∷ []) b.2) [
+    | inl was ↦ (known q).1 (b.0, b.1, was)
+    | inr last ↦ elim last [
+      | inl e ↦ absurd (other (ap (λ (x : Place). x.symbol) e, subst (λ n. IsIn n states) (sym (ap (λ (x : Place). x.from) e)) b.1))
+      | inr nowhere ↦ absurd nowhere
+    ]
+  ],
+)
 
 -- one symbol more of a word
 pub reads_one_more : (ts : List Place) (a : ℕ) (w : List ℕ) (symbol : ℕ) (old new : List ℕ) → ((q : ℕ) → IsIn q old ↔ Reads ts a w q)
     → ((q : ℕ) → IsIn q new ↔ IsBehind old symbol ts q) → (q : ℕ) → IsIn q new ↔ Reads ts a (w ++ symbol ∷ []) q
 reads_one_more ts a w symbol old new known next q = (
-    λ h. let b = (next q).0 h in reads_joined ts a w (symbol ∷ []) b.0 q ((known b.0).0 b.1) (q, b.2, refl),
-    λ r. let parts = reads_parts ts a w (symbol ∷ []) q r in
-         (next q).1 (parts.0, (known parts.0).1 parts.1, subst (λ n. IsIn (place parts.0 symbol n) ts) parts.2.2 parts.2.1))
+  λ h. let b = (next q).0 h in reads_joined ts a w (symbol ∷ []) b.0 q ((known b.0).0 b.1) (q, b.2, refl),
+  λ r. let parts = reads_parts ts a w (symbol ∷ []) q r in
+      (next q).1 (parts.0, (known parts.0).1 parts.1, subst (λ n. IsIn (place parts.0 symbol n) ts) parts.2.2 parts.2.1),
+)
 
 pub in_push : {X : Type 0} (xs ys : List X) (x : X) → ys ≡ xs ++ x ∷ [] → (q : X) → IsIn q ys ↔ (IsIn q xs ⊎ (x ≡ q))
 in_push xs ys x same q = (
-    λ h. elim (in_either q xs (x ∷ []) (subst (IsIn q) same h)) [ inl was ↦ inl was | inr last ↦ elim last [ inl e ↦ inr e | inr nowhere ↦ absurd nowhere ] ],
-    λ h. subst (IsIn q) (sym same) (elim h [ inl was ↦ in_front q xs _ was | inr e ↦ in_back q xs _ (inl e) ]))
+  λ h. elim (in_either q xs (x ∷ []) (subst (IsIn q) same h)) [ inl was ↦ inl was | inr last ↦ elim last [ inl e ↦ inr e | inr nowhere ↦ absurd nowhere ] ],
+  λ h. subst (IsIn q) (sym same) (elim h [ inl was ↦ in_front q xs _ was | inr e ↦ in_back q xs _ (inl e) ]),
+)
 
 -- the same at a step of a loop over the places
 pub behind_found : (states old new now : List ℕ) (symbol : ℕ) (ts : List Place) (i : ℕ) (d : Place) → i < length ts → (get_or ts i d).symbol ≡ symbol → IsIn (get_or ts i d).from states
@@ -145,20 +154,24 @@ extends_more a b c (m, e) (n, f) = (m ++ n, f ∙ ap (λ xs. xs ++ n) e ∙ appe
 
 to_push : (states : List ℕ) (state a g : ℕ) (x : Place) → IsTo (states ++ state ∷ []) a g x ↔ (IsTo states a g x ⊎ (place a g state ≡ x))
 to_push states state a g x = (
-    λ h. elim ((in_push states _ state refl h.0).0 h.1) [ inl was ↦ inl (h.0, was, h.2) | inr e ↦ inr (ap (place a g) e ∙ h.2) ],
-    λ h. elim h [ inl t ↦ (t.0, in_front t.0 states _ t.1, t.2) | inr e ↦ (state, in_back state states _ (inl refl), e) ])
+  λ h. elim ((in_push states _ state refl h.0).0 h.1) [ inl was ↦ inl (h.0, was, h.2) | inr e ↦ inr (ap (place a g) e ∙ h.2) ],
+  λ h. elim h [ inl t ↦ (t.0, in_front t.0 states _ t.1, t.2) | inr e ↦ (state, in_back state states _ (inl refl), e) ],
+)
 
 -- one state more to which places were added
 pub to_more : (states : List ℕ) (i a g : ℕ) (old mid new : List Place) → i < length states → ((x : Place) → IsIn x mid ↔ (IsIn x old ⊎ IsTo (take i states) a g x))
     → ((x : Place) → IsIn x new ↔ (IsIn x mid ⊎ (place a g (get_or states i 0) ≡ x))) → (x : Place) → IsIn x new ↔ (IsIn x old ⊎ IsTo (take (i + 1) states) a g x)
 to_more states i a g old mid new lt before added x =
     subst (λ ns. IsIn x new ↔ (IsIn x old ⊎ IsTo ns a g x)) (sym (take_more states i 0 lt)) (
-    λ h. elim ((added x).0 h) [
-      | inl was ↦ elim ((before x).0 was) [ inl first ↦ inl first | inr t ↦ inr ((to_push (take i states) (get_or states i 0) a g x).1 (inl t)) ]
-      | inr e ↦ inr ((to_push (take i states) (get_or states i 0) a g x).1 (inr e)) ],
-    λ h. (added x).1 (elim h [
-      | inl first ↦ inl ((before x).1 (inl first))
-      | inr t ↦ elim ((to_push (take i states) (get_or states i 0) a g x).0 t) [ inl was ↦ inl ((before x).1 (inr was)) | inr e ↦ inr e ] ]))
+      λ h. elim ((added x).0 h) [
+        | inl was ↦ elim ((before x).0 was) [ inl first ↦ inl first | inr t ↦ inr ((to_push (take i states) (get_or states i 0) a g x).1 (inl t)) ]
+        | inr e ↦ inr ((to_push (take i states) (get_or states i 0) a g x).1 (inr e))
+      ],
+      λ h. (added x).1 (elim h [
+        | inl first ↦ inl ((before x).1 (inl first))
+        | inr t ↦ elim ((to_push (take i states) (get_or states i 0) a g x).0 t) [ inl was ↦ inl ((before x).1 (inr was)) | inr e ↦ inr e ]
+      ]),
+    )
 
 pub to_all : (states : List ℕ) (i a g : ℕ) (old new : List Place) → length states ≤ i → ((x : Place) → IsIn x new ↔ (IsIn x old ⊎ IsTo (take i states) a g x))
     → (x : Place) → IsIn x new ↔ (IsIn x old ⊎ IsTo states a g x)

@@ -65,8 +65,8 @@ module _ {S W Map : Type 0} (p : Pushdown S W Map) (goal : Configuration) where
   edges_sound j a (g ∷ gs) is accepted x (inl e) =
       let number : (p.controls + j) + 1 - p.controls ≡ j + 1 = omega arith in
       subst (IsSound p goal) e (λ w h.
-        let same : w ≡ gs = accepts_other (p.controls + j) w (omega arith) h ∙ ap (λ n. drop n goal.stack) number ∙ sym (rest_of j g gs is) in
-        subst (λ v. Accepts p goal a (g ∷ v)) (sym same) accepted)
+      let same : w ≡ gs = accepts_other (p.controls + j) w (omega arith) h ∙ ap (λ n. drop n goal.stack) number ∙ sym (rest_of j g gs is) in
+      subst (λ v. Accepts p goal a (g ∷ v)) (sym same) accepted)
   edges_sound j a (g ∷ gs) is accepted x (inr h) =
       let rest = rest_of j g gs is in
       let next : (p.controls + j) + 1 ≡ p.controls + (j + 1) = omega arith in
@@ -100,7 +100,8 @@ module _ {S W Map : Type 0} (p : Pushdown S W Map) (goal : Configuration) where
       record {
         sound = λ x h. elim (draws.only x h) [
           | inl was ↦ before.sound x was
-          | inr by_rule ↦ subst (IsSound p goal) by_rule.2 (rule_sound k r there from to old before.sound by_rule.0 by_rule.1) ];
+          | inr by_rule ↦ subst (IsSound p goal) by_rule.2 (rule_sound k r there from to old before.sound by_rule.0 by_rule.1)
+        ];
         opened = reads_more old new grown goal.control goal.stack _ before.opened;
         drawn = λ i q less is state reads. grown _ (before.drawn i q less is state reads);
       }
@@ -112,7 +113,8 @@ module _ {S W Map : Type 0} (p : Pushdown S W Map) (goal : Configuration) where
     opened = before.opened;
     drawn = λ i other less is. elim (below_or_at i k less) [
       | inl lower ↦ before.drawn i other lower is
-      | inr same ↦ let equal : r ≡ other = cc in subst (λ o. IsDrawn p goal o some ts) equal drawn ];
+      | inr same ↦ let equal : r ≡ other = cc in subst (λ o. IsDrawn p goal o some ts) equal drawn
+    ];
   }
 
   -- a rule that has drawn from all places has drawn from some of them
@@ -187,8 +189,8 @@ module _ {S W Map : Type 0} (p : Pushdown S W Map) (goal : Configuration) where
     kept = extends_more first old new before.kept draws.kept;
     before = saturating_kept k r there from to old new (take taken first) (length p.rules) draws before.before;
     now = one_more k r new (take (taken + 1) first) there (saturating_kept k r there from to old new (take (taken + 1) first) k draws before.now)
-      (drawn_from_all r old new (take (taken + 1) first)
-      (λ x h. subst (IsIn x) (sym before.kept.1) (in_front x first before.kept.0 (in_take x (taken + 1) first h))) draws);
+        (drawn_from_all r old new (take (taken + 1) first)
+        (λ x h. subst (IsIn x) (sym before.kept.1) (in_front x first before.kept.0 (in_take x (taken + 1) first h))) draws);
   }
 
   pub taking_passed : (k : ℕ) (r : Rule S W Map) → slice_get p.rules k ≡ Some r → k < length p.rules
@@ -199,7 +201,7 @@ module _ {S W Map : Type 0} (p : Pushdown S W Map) (goal : Configuration) where
         kept = before.kept;
         before = before.before;
         now = one_more k r ts (take (taken + 1) first) there before.now
-          (subst (λ us. IsDrawn p goal r us ts) (sym some) (drawn_without k r t ts (take taken first) there less before.before lacks));
+            (subst (λ us. IsDrawn p goal r us ts) (sym some) (drawn_without k r t ts (take taken first) there less before.before lacks));
       }
 
   pub taking_ends : (first ts : List Place) (taken : ℕ) → taken < length first → IsTaking first ts taken (length p.rules) → IsSaturating p goal ts (take (taken + 1) ts) (length p.rules)

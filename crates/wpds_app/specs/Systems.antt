@@ -24,7 +24,7 @@ rule_of r = record {
 
 abbrev pub system_of : Document → Pushdown Reach Bool NoMap
 system_of d = record {
-  semiring = record { };
+  semiring = record {};
   controls = length d.controls;
   symbols = length d.symbols;
   rules = map rule_of d.rules;

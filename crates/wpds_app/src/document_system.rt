@@ -10,35 +10,20 @@ use system_text::{ConfigText, Document, RuleLine};
 use wpds_port::OutOfMemory;
 
 // Adds the rule of a line, which breaks no condition of a rule, so that only memory can be wanting.
-fn add_line(
-    alloc: Global,
-    system: &mut System<Reach>,
-    line: &RuleLine,
-) -> Result<(), OutOfMemory>
+fn add_line(alloc: Global, system: &mut System<Reach>, line: &RuleLine) -> Result<(), OutOfMemory>
     requires valid { IsRuleLine system.old.controls system.old.symbols line.now }
     requires few { length system.old.rules < 130000 }
     ensures { OnOk result (system.new ≡ record system.old { rules = system.old.rules ++ rule_of line.now ∷ [] }) }
 {
     let right = line.right.as_slice();
-    match system.add_rule(
-        alloc,
-        line.control,
-        line.symbol,
-        line.to,
-        right,
-        true,
-        None,
-    ) {
+    match system.add_rule(alloc, line.control, line.symbol, line.to, right, true, None) {
         Ok(_) => Ok(()),
         Err(_) => Err(OutOfMemory),
     }
 }
 
 /// The system of a document's rules, over the weights of reachability.
-pub(crate) fn system_from(
-    alloc: Global,
-    document: &Document,
-) -> Result<System<Reach>, OutOfMemory>
+pub(crate) fn system_from(alloc: Global, document: &Document) -> Result<System<Reach>, OutOfMemory>
     requires { HasSystem document.now }
     ensures { IfOk result (λ s. s ≡ system_of document.now) }
 {

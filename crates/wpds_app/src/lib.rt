@@ -1,10 +1,10 @@
 //! The top call: from the bytes that are read to the bytes that are written.
 #![tactic(auto)]
 
-mod place;
 mod document_system;
-mod reply;
+mod place;
 mod program;
+mod reply;
 mod saturation;
 mod status;
 mod words;

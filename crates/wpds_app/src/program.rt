@@ -11,7 +11,8 @@ use crate::words::is_check;
 use std::alloc::Global;
 use wpds_port::{Failed, InputFault, Sink, Source, write_all};
 
-const USAGE: &str = "usage: wpds check [--workers N] [--by pre|post] [--brief] [--traces]\nusage: wpds gen N [--workers N] [--by pre|post]\n";
+const USAGE: &str =
+    "usage: wpds check [--workers N] [--by pre|post] [--brief] [--traces]\nusage: wpds gen N [--workers N] [--by pre|post]\n";
 
 // Writes a text and flushes it.
 fn send<W: Sink>(sink: &mut W, text: &[u8]) -> Result<(), Failed>

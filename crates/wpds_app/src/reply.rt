@@ -67,10 +67,7 @@ fn reply_to(alloc: Global, input: &[u8]) -> Result<Reply, OutOfMemory>
 }
 
 /// Reads an input, and answers it.
-pub(crate) fn read_and_reply<R: Source>(
-    alloc: Global,
-    source: &mut R,
-) -> Result<Reply, InputFault>
+pub(crate) fn read_and_reply<R: Source>(alloc: Global, source: &mut R) -> Result<Reply, InputFault>
     ensures reply { IfOk result (λ r. HasReply (R.left source.old) (R.left source.new) r.status (string_bytes r.text)) }
     ensures fault { IsErrOf result InputFault.Read → Rose (R.faults source.old) (R.faults source.new) }
 {

@@ -3,9 +3,11 @@ use std::alloc::Global;
 use std::test::Fail;
 use wpds_port::{MemSink, MemSource, OutOfMemory};
 
-const CALL: &str = "wpds 1\nweights reach\ncontrols p q\nsymbols a b\nrule p a -> p b a\nrule p b -> q\nquery p: a => q: a\n";
+const CALL: &str =
+    "wpds 1\nweights reach\ncontrols p q\nsymbols a b\nrule p a -> p b a\nrule p b -> q\nquery p: a => q: a\n";
 
-const USAGE: &str = "usage: wpds check [--workers N] [--by pre|post] [--brief] [--traces]\nusage: wpds gen N [--workers N] [--by pre|post]\n";
+const USAGE: &str =
+    "usage: wpds check [--workers N] [--by pre|post] [--brief] [--traces]\nusage: wpds gen N [--workers N] [--by pre|post]\n";
 
 // How a run ends that reads 16 bytes at a time and writes 4, and what it writes.
 fn outcome(
@@ -41,9 +43,17 @@ fn answers_documents(rt: HostRuntime) -> Result<(), Fail> {
             Status::Answered,
             reachable,
         ),
-        ("rule p b -> q\nquery p: a => q: a\n", Status::Answered, unreachable),
+        (
+            "rule p b -> q\nquery p: a => q: a\n",
+            Status::Answered,
+            unreachable,
+        ),
         // the empty run
-        ("rule p b -> q\nquery p: => p:\n", Status::Answered, reachable),
+        (
+            "rule p b -> q\nquery p: => p:\n",
+            Status::Answered,
+            reachable,
+        ),
         // two queries
         (
             "rule p b -> q\nquery p: a => q: a\nquery p: a => q: a\n",
@@ -51,14 +61,42 @@ fn answers_documents(rt: HostRuntime) -> Result<(), Fail> {
             not_built,
         ),
         // a step, a pop, and a symbol that a pop uncovers
-        ("rule p a -> p b\nrule p b -> q\nquery p: a a => q: a\n", Status::Answered, reachable),
-        ("rule p a -> p b\nrule p b -> q\nquery p: a a => q:\n", Status::Answered, unreachable),
+        (
+            "rule p a -> p b\nrule p b -> q\nquery p: a a => q: a\n",
+            Status::Answered,
+            reachable,
+        ),
+        (
+            "rule p a -> p b\nrule p b -> q\nquery p: a a => q:\n",
+            Status::Answered,
+            unreachable,
+        ),
         // a recursion that never returns, and one that does
-        ("rule p a -> p a b\nrule p b -> q\nquery p: a => q:\n", Status::Answered, unreachable),
-        ("rule p a -> p a a\nrule p a -> p\nquery p: a => p:\n", Status::Answered, reachable),
-        ("rule p a -> p a a\nrule p a -> p\nquery p: a => p: a a a\n", Status::Answered, reachable),
-        ("rule p a -> p b a\nquery p: a => p: b a\n", Status::Answered, reachable),
-        ("rule p a -> p b a\nquery p: a => p: a b\n", Status::Answered, unreachable),
+        (
+            "rule p a -> p a b\nrule p b -> q\nquery p: a => q:\n",
+            Status::Answered,
+            unreachable,
+        ),
+        (
+            "rule p a -> p a a\nrule p a -> p\nquery p: a => p:\n",
+            Status::Answered,
+            reachable,
+        ),
+        (
+            "rule p a -> p a a\nrule p a -> p\nquery p: a => p: a a a\n",
+            Status::Answered,
+            reachable,
+        ),
+        (
+            "rule p a -> p b a\nquery p: a => p: b a\n",
+            Status::Answered,
+            reachable,
+        ),
+        (
+            "rule p a -> p b a\nquery p: a => p: a b\n",
+            Status::Answered,
+            unreachable,
+        ),
         ("", Status::DocumentRefused, not_built),
         ("query p: a => r: a\n", Status::DocumentRefused, not_built),
     ] {
@@ -113,7 +151,14 @@ fn stops_at_each_fault(rt: HostRuntime) -> Result<(), Fail> {
         assert_eq!(rt; ended, Status::WriteFault, "with room for {room}");
         assert!(rt; written.len() <= room && text.starts_with(&written));
     }
-    let (ended, written) = outcome(rt.alloc(), &["check"], CALL.as_bytes(), &[], text.len(), &[])?;
+    let (ended, written) = outcome(
+        rt.alloc(),
+        &["check"],
+        CALL.as_bytes(),
+        &[],
+        text.len(),
+        &[],
+    )?;
     assert_eq!(rt; ended, Status::Answered);
     assert_eq!(rt; written.as_slice(), text);
     Ok(())

@@ -11,4 +11,4 @@ pub returns-in-None : goal.returns-in-None
 returns-in-None c =
     let refused = c.refused-in-None.ensures in
     refused_replies c.args.input.now (record { line = 0; kind = NotBuilt }) c.refused-in-None.result refused.status refused.text
-      (inr (omega (arith, c.if-input-gt-MOST_BYTES.false), (λ d form. let some = c.in_ok-read_first_form.ensures.only d form in cc (some, c.in-None.is)), refl))
+    (inr (omega (arith, c.if-input-gt-MOST_BYTES.false), (λ d form. let some = c.in_ok-read_first_form.ensures.only d form in cc (some, c.in-None.is)), refl))

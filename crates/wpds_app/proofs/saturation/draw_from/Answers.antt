@@ -11,10 +11,11 @@ loop-k-preserved g c =
     let rule = c.rule-rule.ensures in
     elim c.if-has_symbol.branch [
       | then-has_symbol+in_ok-draw w ↦
-        rw w.places-is (taking_drawn c.args.system.now g.goal c.loop-k.k c.rule-rule.result.now rule.rule rule.valid.control rule.valid.to _ _ _ c.args.taken w.in_ok-draw.ensures c.loop-k.invariant)
+          rw w.places-is (taking_drawn c.args.system.now g.goal c.loop-k.k c.rule-rule.result.now rule.rule rule.valid.control rule.valid.to _ _ _ c.args.taken w.in_ok-draw.ensures c.loop-k.invariant)
       | else-has_symbol w ↦
-        rw w.places-is (taking_passed c.args.system.now g.goal c.loop-k.k c.rule-rule.result.now rule.rule (rw c.rules-k-end.ensures.value at c.loop-k-test.true) _ _ c.args.taken c.index.result.now c.requires.0 c.index.ensures
-          (λ h. let yes = c.has_symbol.ensures.1 h in cc (yes, w.if-has_symbol.false)) c.loop-k.invariant) ]
+          rw w.places-is (taking_passed c.args.system.now g.goal c.loop-k.k c.rule-rule.result.now rule.rule (rw c.rules-k-end.ensures.value at c.loop-k-test.true) _ _ c.args.taken c.index.result.now c.requires.0 c.index.ensures
+          (λ h. let yes = c.has_symbol.ensures.1 h in cc (yes, w.if-has_symbol.false)) c.loop-k.invariant)
+    ]
 
 pub returns : goal.returns
 returns g c =

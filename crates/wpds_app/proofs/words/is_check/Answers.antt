@@ -11,6 +11,7 @@ returns-in-len1 c =
     let one : length c.args.words.now ≡ 1 = omega arith in
     let only = map-only string_bytes c.args.words.now c.word-item.result one c.word-item.is in
     let same = bytes_eq-Decides text (codes "check") in
-    let test = rw c.as_str.ensures.value at c.eq.ensures in
-    (λ yes. only ∙ ap (λ t. t ∷ []) (same.0 (sym test ∙ yes)),
-    λ words. let word : text ≡ codes "check" = cc (only, words) in test ∙ same.1 word)
+    let test = rw c.as_str.ensures.value at c.eq.ensures in (
+      λ yes. only ∙ ap (λ t. t ∷ []) (same.0 (sym test ∙ yes)),
+      λ words. let word : text ≡ codes "check" = cc (only, words) in test ∙ same.1 word,
+    )
