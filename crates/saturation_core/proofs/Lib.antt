@@ -11,3 +11,4 @@ pub mod QueueFacts
 pub mod Working
 pub mod Made
 pub mod Kept
+pub mod OfChanges

@@ -3,6 +3,7 @@
 #![tactic(auto)]
 
 mod book;
+mod change;
 mod direction;
 mod event;
 mod hand;
