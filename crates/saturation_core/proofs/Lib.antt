@@ -12,3 +12,4 @@ pub mod Working
 pub mod Made
 pub mod Kept
 pub mod OfChanges
+pub mod OfStarts

@@ -13,6 +13,7 @@ mod journal;
 mod laws;
 mod opening;
 mod queue;
+mod start;
 mod work;
 
 pub use book::Book;
