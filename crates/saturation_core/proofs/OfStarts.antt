@@ -7,7 +7,11 @@ use Rattle.semiring_laws.specs.Semiring.{Operations}
 use Rattle.weighted_automata.specs.declared.place.Place.{Place}
 use Rattle.pushdown_rules.specs.declared.rule.Rule.{Rule}
 use Rattle.saturation_core.specs.States.{CoreState, Change, apply, apply_all}
-use Rattle.saturation_core.specs.Openings.{pop_change, pops_of, pops_from, with_edge, with_edges}
+use Rattle.saturation_core.specs.Openings.{pop_change, pops_of, pops_from, with_edge, with_edges, found_so_far}
+use Rattle.saturation_core.specs.Lists.{queued}
+use Rattle.weighted_automata.specs.Entries.{lowered}
+use Rattle.weighted_automata.specs.declared.transitions.Entry.{Entry}
+use Rattle.witness_graph.specs.declared.node.Node.{Node}
 
 pub replicate-push : {X : Type 0} (n : ℕ) (x : X) → replicate n x ++ x ∷ [] ≡ replicate (n + 1) x
 replicate-push zero x = refl
@@ -19,9 +23,14 @@ drop_at (y ∷ xs) zero x e = ap (λ z. z ∷ xs) (same_Some y x e)
 drop_at (y ∷ xs) (suc k) x e = let h : suc (k + 1) ≡ suc k + 1 = omega arith in drop_at xs k x e ∙ ap (λ m. x ∷ drop m (y ∷ xs)) h
 
 module _ {S W Map : Type 0} (s : Operations W Map) where
-  pub edge_more : (es : List Place) (i : ℕ) (x : Place) (now all : CoreState S W Map) → i < length es → x ≡ get_or es i x → with_edges s (drop i es) now ≡ all → with_edges s (drop (i + 1) es) (with_edge s x now) ≡ all
-  edge_more es i x now all within read was =
-      ap (λ y. with_edges s (drop (i + 1) es) (with_edge s y now)) read ∙ sym (at_drop_more (λ xs. with_edges s xs now) es i x within) ∙ was
+  pub edge_more : (es : List Place) (i : ℕ) (d : Place) (ts us : List (Entry S W Map)) (nodes : List Node) (q r : List Place) (w : W) (all : CoreState S W Map)
+      → i < length es → with_edges s (drop i es) (found_so_far ts nodes q) ≡ all → w ≡ s.one → us ≡ lowered (get_or es i d) w 0 ts → r ≡ queued (get_or es i d) q
+      → with_edges s (drop (i + 1) es) (found_so_far us nodes r) ≡ all
+  edge_more es i d ts us nodes q r w all within was one new last =
+      let x = get_or es i d in
+      ap (λ vs. with_edges s (drop (i + 1) es) (found_so_far vs nodes r)) (new ∙ ap (λ v. lowered x v 0 ts) one)
+      ∙ ap (λ p. with_edges s (drop (i + 1) es) (found_so_far (lowered x s.one 0 ts) nodes p)) last
+      ∙ sym (at_drop_more (λ xs. with_edges s xs (found_so_far ts nodes q)) es i d within) ∙ was
 
   module _ (rs : List (Rule S W Map)) (k : ℕ) (r : Rule S W Map) (there : slice_get rs k ≡ Some r) (now all : CoreState S W Map) (was : apply_all s (pops_from k (drop k rs)) now ≡ all) where
     from_here : apply_all s (pops_of k r ++ pops_from (k + 1) (drop (k + 1) rs)) now ≡ all
