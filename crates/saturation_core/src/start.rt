@@ -1,7 +1,7 @@
-ghost use Rattle.std.specs.Prelude.{◌≡◌, OnOk, length, [], IfOk, replicate, None};
+ghost use Rattle.std.specs.Prelude.{◌≡◌, ◌<◌, OnOk, length, [], IfOk, replicate, None};
 ghost use Rattle.weighted_automata.specs.declared.place.Place.{Place as PlaceValue};
 ghost use Rattle.saturation_core.specs.States.{apply_all};
-ghost use Rattle.saturation_core.specs.Openings.{AreKept, found_so_far, with_edges, pops_from};
+ghost use Rattle.saturation_core.specs.Openings.{AreKept, found_so_far, with_edges, pops_at, pops_from};
 
 use crate::Holding;
 use crate::change::{apply_rule, queue_up};
@@ -47,6 +47,36 @@ pub fn add_edges<S: Semiring>(
     Ok(())
 }
 
+// Adds the place of a rule, where it is a pop rule. After want of memory the parts are of no use.
+fn add_pop<S: Semiring>(
+    system: &System<S>,
+    alloc: Global,
+    k: u32,
+    transitions: &mut Transitions<S>,
+    graph: &mut Graph,
+    waiting: &mut VecDeque<Place>,
+) -> Result<(), OutOfMemory>
+    requires number { k < length system.now.rules }
+    requires kept { AreKept (S.operations system.now.semiring) transitions.old.transitions (length graph.old.nodes) }
+    ensures state { OnOk result (found_so_far transitions.new.transitions graph.new.nodes waiting.new.items
+        ≡ apply_all (S.operations system.now.semiring) (pops_at k system.now.rules) (found_so_far transitions.old.transitions graph.old.nodes waiting.old.items)) }
+    ensures kept { OnOk result (AreKept (S.operations system.now.semiring) transitions.new.transitions (length graph.new.nodes)) }
+{
+    let rule = system.rule(k);
+    if !rule.right.symbols().is_empty() {
+        return Ok(());
+    }
+    let place = Place {
+        from: rule.control,
+        label: Label::Symbol(rule.symbol),
+        to: rule.to,
+    };
+    let semiring = system.semiring();
+    let weight = &rule.weight;
+    apply_rule(semiring, alloc, transitions, graph, waiting, place, weight, k)?;
+    Ok(())
+}
+
 // Adds the place of each pop rule, with the rule's weight. After want of memory the parts are of no use.
 pub fn add_pops<S: Semiring>(
     system: &System<S>,
@@ -60,24 +90,7 @@ pub fn add_pops<S: Semiring>(
         ≡ apply_all (S.operations system.now.semiring) (pops_from 0 system.now.rules) (found_so_far transitions.old.transitions graph.old.nodes waiting.old.items)) }
 {
     for k in 0..system.rules() {
-        let rule = system.rule(k);
-        if rule.right.symbols().is_empty() {
-            let place = Place {
-                from: rule.control,
-                label: Label::Symbol(rule.symbol),
-                to: rule.to,
-            };
-            apply_rule(
-                system.semiring(),
-                alloc,
-                transitions,
-                graph,
-                waiting,
-                place,
-                &rule.weight,
-                k,
-            )?;
-        }
+        add_pop(system, alloc, k, transitions, graph, waiting)?;
     }
     Ok(())
 }
