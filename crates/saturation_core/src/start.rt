@@ -1,7 +1,7 @@
 ghost use Rattle.std.specs.Prelude.{◌≡◌, ◌<◌, OnOk, length, [], IfOk, replicate, None};
 ghost use Rattle.weighted_automata.specs.declared.place.Place.{Place as PlaceValue};
 ghost use Rattle.saturation_core.specs.States.{apply_all};
-ghost use Rattle.saturation_core.specs.Openings.{AreKept, found_so_far, with_edges, pops_at, pops_from};
+ghost use Rattle.saturation_core.specs.Openings.{AreKept, found_so_far, with_edges, pops_at, pops_from, pops};
 
 use crate::Holding;
 use crate::change::{apply_rule, queue_up};
@@ -10,7 +10,7 @@ use semiring_laws::Semiring;
 use std::alloc::Global;
 use std::collections::VecDeque;
 use weighted_automata::{Label, Place, Transitions};
-use witness_graph::Graph;
+use witness_graph::{Graph, Side};
 use wpds_port::OutOfMemory;
 
 // A seat for each of 64 workers, without hands.
@@ -93,4 +93,23 @@ pub fn add_pops<S: Semiring>(
         add_pop(system, alloc, k, transitions, graph, waiting)?;
     }
     Ok(())
+}
+
+// Adds what the side adds to the edges. After want of memory the parts are of no use.
+pub fn add_pops_of<S: Semiring>(
+    side: Side,
+    system: &System<S>,
+    alloc: Global,
+    transitions: &mut Transitions<S>,
+    graph: &mut Graph,
+    waiting: &mut VecDeque<Place>,
+) -> Result<(), OutOfMemory>
+    requires kept { AreKept (S.operations system.now.semiring) transitions.old.transitions (length graph.old.nodes) }
+    ensures state { OnOk result (found_so_far transitions.new.transitions graph.new.nodes waiting.new.items
+        ≡ apply_all (S.operations system.now.semiring) (pops side system.now.rules) (found_so_far transitions.old.transitions graph.old.nodes waiting.old.items)) }
+{
+    match side {
+        Side::Pre => add_pops(system, alloc, transitions, graph, waiting),
+        Side::Post => Ok(()),
+    }
 }
