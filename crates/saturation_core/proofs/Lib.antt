@@ -13,3 +13,4 @@ pub mod Made
 pub mod Kept
 pub mod OfChanges
 pub mod OfStarts
+pub mod Begun

@@ -1,4 +1,5 @@
-ghost use Rattle.std.specs.Prelude.{◌≡◌, ◌<◌, OnOk, length, [], IfOk, replicate, None};
+ghost use Rattle.std.specs.Prelude.{◌≡◌, ◌<◌, OnOk, length, [], ◌∷◌, IfOk, replicate, None};
+ghost use Rattle.witness_graph.specs.declared.node.Node.TheVariants.{Start};
 ghost use Rattle.weighted_automata.specs.declared.place.Place.{Place as PlaceValue};
 ghost use Rattle.saturation_core.specs.States.{apply_all};
 ghost use Rattle.saturation_core.specs.Openings.{AreKept, found_so_far, with_edges, pops_at, pops_from, pops};
@@ -10,7 +11,7 @@ use semiring_laws::Semiring;
 use std::alloc::Global;
 use std::collections::VecDeque;
 use weighted_automata::{Label, Place, Transitions};
-use witness_graph::{Graph, Side};
+use witness_graph::{Graph, Node, Side};
 use wpds_port::OutOfMemory;
 
 // A seat for each of 64 workers, without hands.
@@ -22,6 +23,16 @@ pub fn no_hands<S: Semiring>(alloc: Global) -> Result<Vec<Option<Holding<S>>>, O
         out.push(None)?;
     }
     Ok(out)
+}
+
+// The empty run alone.
+pub fn empty_run(alloc: Global, side: Side) -> Result<Graph, OutOfMemory>
+    ensures nodes { IfOk result (λ g. g.nodes ≡ Start ∷ []) }
+    ensures side { IfOk result (λ g. g.side ≡ side) }
+{
+    let mut graph = Graph::new(alloc, side);
+    graph.push_node(alloc, Node::Start)?;
+    Ok(graph)
 }
 
 // Adds the edges, each with weight one and the node of the empty run. After want of memory the parts are of no use.
