@@ -54,11 +54,11 @@ impl<'s, S: Semiring, D: Direction<S>> Book<'s, S, D> {
     ) -> Result<Book<'s, S, D>, OutOfMemory>
         requires { IsTrue (D.fits_opening direction system.now opening) }
         ensures { IfOk result (λ b. b ≡ record {
-            system = system.now;
-            direction = direction;
-            opening = opening;
-            state = opening_state (S.operations system.now.semiring) (D.tables direction system.now).side system.now opening.edges;
-            journal = [];
+          system = system.now;
+          direction = direction;
+          opening = opening;
+          state = opening_state (S.operations system.now.semiring) (D.tables direction system.now).side system.now opening.edges;
+          journal = [];
         }) }
     {
         let side = direction.side();
@@ -67,8 +67,22 @@ impl<'s, S: Semiring, D: Direction<S>> Book<'s, S, D> {
         let mut waiting = VecDeque::new(alloc);
         let edges = opening.edges.as_slice();
         let semiring = system.semiring();
-        add_edges(semiring, alloc, edges, &mut transitions, &graph, &mut waiting)?;
-        add_pops_of(side, system, alloc, &mut transitions, &mut graph, &mut waiting)?;
+        add_edges(
+            semiring,
+            alloc,
+            edges,
+            &mut transitions,
+            &graph,
+            &mut waiting,
+        )?;
+        add_pops_of(
+            side,
+            system,
+            alloc,
+            &mut transitions,
+            &mut graph,
+            &mut waiting,
+        )?;
         Ok(Book {
             system,
             direction,

@@ -84,7 +84,16 @@ fn add_pop<S: Semiring>(
     };
     let semiring = system.semiring();
     let weight = &rule.weight;
-    apply_rule(semiring, alloc, transitions, graph, waiting, place, weight, k)?;
+    apply_rule(
+        semiring,
+        alloc,
+        transitions,
+        graph,
+        waiting,
+        place,
+        weight,
+        k,
+    )?;
     Ok(())
 }
 
