@@ -11,3 +11,6 @@ pub mod QueueFacts
 pub mod Working
 pub mod Made
 pub mod Kept
+pub mod OfChanges
+pub mod OfStarts
+pub mod Begun

@@ -1,12 +1,14 @@
 ghost use Rattle.std.specs.Prelude.{◌≡◌, ◌↔◌, ◌<◌, [], ◌∷◌, ◌++◌, IsTrue, IfOk, OnOk, OnErr, IsSome, is_some};
 ghost use Rattle.saturation_core.specs.declared.event.Event.TheVariants.{Take, Settle, GiveBack};
 ghost use Rattle.saturation_core.specs.States.{hand_at};
+ghost use Rattle.saturation_core.specs.Openings.{opening_state};
 ghost use Rattle.saturation_core.specs.Bound.{takes, takes_of};
 ghost use Rattle.saturation_core.specs.Books.{IsBook, Makes, IsClosed, AnswersTake, HandWorks};
 
 use crate::hands::{none_out, place_out, put, seats_out};
 use crate::journal::{count_takes, count_takes_of};
 use crate::queue::{enqueue, front, list_jobs};
+use crate::start::{add_edges, add_pops_of, empty_run, no_hands};
 use crate::{Direction, Event, Hand, Holding, JobList, Opening, Taken};
 use pushdown_rules::System;
 use semiring_laws::Semiring;
@@ -42,6 +44,57 @@ impl<'s, S: Semiring, D: Direction<S>> Model for Book<'s, S, D> {
 }
 
 impl<'s, S: Semiring, D: Direction<S>> Book<'s, S, D> {
+    /// A saturation that begins with these edges, each of weight one, and backwards with a transition for each pop rule.
+    /// Every transition waits, and no hand is out. It is refused only for want of memory.
+    pub fn open(
+        alloc: Global,
+        system: &'s System<S>,
+        direction: D,
+        opening: Opening,
+    ) -> Result<Book<'s, S, D>, OutOfMemory>
+        requires { IsTrue (D.fits_opening direction system.now opening) }
+        ensures { IfOk result (λ b. b ≡ record {
+          system = system.now;
+          direction = direction;
+          opening = opening;
+          state = opening_state (S.operations system.now.semiring) (D.tables direction system.now).side system.now opening.edges;
+          journal = [];
+        }) }
+    {
+        let side = direction.side();
+        let mut graph = empty_run(alloc, side)?;
+        let mut transitions = Transitions::new(alloc);
+        let mut waiting = VecDeque::new(alloc);
+        let edges = opening.edges.as_slice();
+        let semiring = system.semiring();
+        add_edges(
+            semiring,
+            alloc,
+            edges,
+            &mut transitions,
+            &graph,
+            &mut waiting,
+        )?;
+        add_pops_of(
+            side,
+            system,
+            alloc,
+            &mut transitions,
+            &mut graph,
+            &mut waiting,
+        )?;
+        Ok(Book {
+            system,
+            direction,
+            opening,
+            transitions,
+            graph,
+            waiting,
+            out: no_hands(alloc)?,
+            journal: Vec::new(alloc),
+        })
+    }
+
     /// The system. What holds of every book stands in `book`.
     pub fn system(&self) -> &'s System<S>
         ensures value { result.now ≡ self.now.system }

@@ -3,6 +3,7 @@
 #![tactic(auto)]
 
 mod book;
+mod change;
 mod direction;
 mod event;
 mod hand;
@@ -12,6 +13,7 @@ mod journal;
 mod laws;
 mod opening;
 mod queue;
+mod start;
 mod work;
 
 pub use book::Book;

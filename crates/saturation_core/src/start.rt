@@ -1,0 +1,135 @@
+ghost use Rattle.std.specs.Prelude.{◌≡◌, ◌<◌, OnOk, length, [], ◌∷◌, IfOk, replicate, None};
+ghost use Rattle.witness_graph.specs.declared.node.Node.TheVariants.{Start};
+ghost use Rattle.weighted_automata.specs.declared.place.Place.{Place as PlaceValue};
+ghost use Rattle.saturation_core.specs.States.{apply_all};
+ghost use Rattle.saturation_core.specs.Openings.{AreKept, found_so_far, with_edges, pops_at, pops_from, pops};
+
+use crate::Holding;
+use crate::change::{apply_rule, queue_up};
+use pushdown_rules::System;
+use semiring_laws::Semiring;
+use std::alloc::Global;
+use std::collections::VecDeque;
+use weighted_automata::{Label, Place, Transitions};
+use witness_graph::{Graph, Node, Side};
+use wpds_port::OutOfMemory;
+
+// A seat for each of 64 workers, without hands.
+pub fn no_hands<S: Semiring>(alloc: Global) -> Result<Vec<Option<Holding<S>>>, OutOfMemory>
+    ensures { IfOk result (λ v. v.items ≡ replicate 64 None) }
+{
+    let mut out = Vec::new(alloc);
+    for _seat in 0..64u32 {
+        out.push(None)?;
+    }
+    Ok(out)
+}
+
+// The empty run alone.
+pub fn empty_run(alloc: Global, side: Side) -> Result<Graph, OutOfMemory>
+    ensures nodes { IfOk result (λ g. g.nodes ≡ Start ∷ []) }
+    ensures side { IfOk result (λ g. g.side ≡ side) }
+{
+    let mut graph = Graph::new(alloc, side);
+    graph.push_node(alloc, Node::Start)?;
+    Ok(graph)
+}
+
+// Adds the edges, each with weight one and the node of the empty run. After want of memory the parts are of no use.
+pub fn add_edges<S: Semiring>(
+    semiring: &S,
+    alloc: Global,
+    edges: &[Place],
+    transitions: &mut Transitions<S>,
+    graph: &Graph,
+    waiting: &mut VecDeque<Place>,
+) -> Result<(), OutOfMemory>
+    requires node { length graph.now.nodes ≡ 1 }
+    requires kept { AreKept (S.operations semiring.now) transitions.old.transitions 1 }
+    ensures state { OnOk result (found_so_far transitions.new.transitions graph.now.nodes waiting.new.items
+        ≡ with_edges (S.operations semiring.now) edges.now (found_so_far transitions.old.transitions graph.now.nodes waiting.old.items)) }
+    ensures kept { OnOk result (AreKept (S.operations semiring.now) transitions.new.transitions 1) }
+{
+    for edge in edges {
+        let one = semiring.one(alloc)?;
+        transitions.lower(alloc, *edge, one, 0)?;
+        queue_up(waiting, *edge)?;
+    }
+    Ok(())
+}
+
+// Adds the place of a rule, where it is a pop rule. After want of memory the parts are of no use.
+fn add_pop<S: Semiring>(
+    system: &System<S>,
+    alloc: Global,
+    k: u32,
+    transitions: &mut Transitions<S>,
+    graph: &mut Graph,
+    waiting: &mut VecDeque<Place>,
+) -> Result<(), OutOfMemory>
+    requires number { k < length system.now.rules }
+    requires kept { AreKept (S.operations system.now.semiring) transitions.old.transitions (length graph.old.nodes) }
+    ensures state { OnOk result (found_so_far transitions.new.transitions graph.new.nodes waiting.new.items
+        ≡ apply_all (S.operations system.now.semiring) (pops_at k system.now.rules) (found_so_far transitions.old.transitions graph.old.nodes waiting.old.items)) }
+    ensures kept { OnOk result (AreKept (S.operations system.now.semiring) transitions.new.transitions (length graph.new.nodes)) }
+{
+    let rule = system.rule(k);
+    if !rule.right.symbols().is_empty() {
+        return Ok(());
+    }
+    let place = Place {
+        from: rule.control,
+        label: Label::Symbol(rule.symbol),
+        to: rule.to,
+    };
+    let semiring = system.semiring();
+    let weight = &rule.weight;
+    apply_rule(
+        semiring,
+        alloc,
+        transitions,
+        graph,
+        waiting,
+        place,
+        weight,
+        k,
+    )?;
+    Ok(())
+}
+
+// Adds the place of each pop rule, with the rule's weight. After want of memory the parts are of no use.
+pub fn add_pops<S: Semiring>(
+    system: &System<S>,
+    alloc: Global,
+    transitions: &mut Transitions<S>,
+    graph: &mut Graph,
+    waiting: &mut VecDeque<Place>,
+) -> Result<(), OutOfMemory>
+    requires kept { AreKept (S.operations system.now.semiring) transitions.old.transitions (length graph.old.nodes) }
+    ensures state { OnOk result (found_so_far transitions.new.transitions graph.new.nodes waiting.new.items
+        ≡ apply_all (S.operations system.now.semiring) (pops_from 0 system.now.rules) (found_so_far transitions.old.transitions graph.old.nodes waiting.old.items)) }
+{
+    for k in 0..system.rules() {
+        add_pop(system, alloc, k, transitions, graph, waiting)?;
+    }
+    Ok(())
+}
+
+// Adds what the side adds to the edges. After want of memory the parts are of no use.
+pub fn add_pops_of<S: Semiring>(
+    side: Side,
+    system: &System<S>,
+    alloc: Global,
+    transitions: &mut Transitions<S>,
+    graph: &mut Graph,
+    waiting: &mut VecDeque<Place>,
+) -> Result<(), OutOfMemory>
+    requires kept { AreKept (S.operations system.now.semiring) transitions.old.transitions (length graph.old.nodes) }
+    ensures state { OnOk result (found_so_far transitions.new.transitions graph.new.nodes waiting.new.items
+        ≡ apply_all (S.operations system.now.semiring) (pops side system.now.rules) (found_so_far transitions.old.transitions graph.old.nodes waiting.old.items)) }
+{
+    match side {
+        Side::Pre => add_pops(system, alloc, transitions, graph, waiting),
+        Side::Post => Ok(()),
+    }
+}
