@@ -1,5 +1,5 @@
 -- A book at its opening.
-use Rattle.std.proofs.Common.{◌≡◌, ℕ, suc, zero, ◌+◌, List, [], ◌∷◌, refl, sym, ap, ◌∙◌, arith}
+use Rattle.std.proofs.Common.{◌≡◌, ℕ, suc, zero, List, [], ◌∷◌, refl, sym, ap, ◌∙◌, arith}
 use Rattle.std.specs.Prelude.{Bool, Option, None, Some, IsTrue, replicate}
 use Rattle.semiring_laws.specs.Semiring.{Operations, IsSemiring}
 use Rattle.weighted_automata.specs.declared.place.Place.{Place}

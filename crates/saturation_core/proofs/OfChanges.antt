@@ -1,8 +1,6 @@
 -- What a change of a place keeps.
-use Rattle.std.proofs.Common.{◌≡◌, ◌⊎◌, inl, inr, ℕ, ◌+◌, ◌<◌, ◌≤◌, true, false, List, [], ◌∷◌, ◌++◌, length, refl, sym, ap, ◌∙◌, subst, arith}
-use Rattle.std.specs.Prelude.{Option, None, Some, IfSome, IsTrue, cond, option_map, option_and_then, slice_get}
-use Rattle.std.proofs.lemmas.Bool.{cond-true, cond-false}
-use Rattle.std.proofs.lemmas.List.{length_push}
+use Rattle.std.proofs.Common.{◌≡◌, inl, inr, ℕ, ◌<◌, ◌≤◌, true, false, List, refl, sym, ap, ◌∙◌, subst, arith}
+use Rattle.std.specs.Prelude.{Option, None, Some, IfSome, cond, option_map, option_and_then, slice_get}
 use Rattle.std.proofs.lemmas.Option.{same_Some}
 use Rattle.semiring_laws.specs.Semiring.{Operations, IsSemiring, Fits}
 use Rattle.weighted_automata.specs.declared.place.Place.{Place}
@@ -10,14 +8,12 @@ use Rattle.weighted_automata.specs.declared.transitions.Entry.{Entry}
 use Rattle.weighted_automata.specs.Entries.{entry_at, lowered, Present}
 use Rattle.weighted_automata.proofs.OfPlaces.{cases_place}
 use Rattle.weighted_automata.proofs.OfEntries.{entry_at-place, entry_at-lowered_same, entry_at-lowered_other}
-use Rattle.witness_graph.specs.declared.node.Node.{Node}
 use Rattle.witness_graph.specs.declared.node.Node.TheVariants.{Lower}
 use Rattle.witness_graph.specs.Nodes.{IsNodeAt}
 use Rattle.witness_graph.proofs.OfNodes.{orderly_from}
 use Rattle.saturation_core.specs.Jobs.{node_of}
-use Rattle.saturation_core.specs.Lists.{queued}
 use Rattle.saturation_core.specs.States.{CoreState, Change, weight_of, weight_at, lower_state, apply}
-use Rattle.saturation_core.specs.Openings.{AreKept, changed_weight, found_so_far}
+use Rattle.saturation_core.specs.Openings.{AreKept, changed_weight}
 
 module _ {S W Map : Type 0} {s : Operations W Map} (laws : IsSemiring s) where
   -- the entry that a search found

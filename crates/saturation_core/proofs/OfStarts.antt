@@ -1,13 +1,13 @@
 -- The edges and pop rules of an opening, one after another.
-use Rattle.std.proofs.Common.{◌≡◌, ℕ, suc, zero, ◌+◌, ◌<◌, ◌≤◌, List, [], ◌∷◌, ◌++◌, length, get_or, drop, refl, sym, ap, ◌∙◌, subst, arith}
+use Rattle.std.proofs.Common.{◌≡◌, ℕ, suc, zero, ◌+◌, ◌<◌, List, [], ◌∷◌, ◌++◌, length, get_or, drop, refl, sym, ap, ◌∙◌, arith}
 use Rattle.std.specs.Prelude.{Option, None, Some, slice_get, replicate}
-use Rattle.std.proofs.lemmas.List.{at_drop_more, at_drop_all}
+use Rattle.std.proofs.lemmas.List.{at_drop_more}
 use Rattle.std.proofs.lemmas.Option.{same_Some}
 use Rattle.semiring_laws.specs.Semiring.{Operations}
 use Rattle.weighted_automata.specs.declared.place.Place.{Place}
 use Rattle.pushdown_rules.specs.declared.rule.Rule.{Rule}
 use Rattle.saturation_core.specs.States.{CoreState, Change, apply, apply_all}
-use Rattle.saturation_core.specs.Openings.{pop_change, pops_of, pops_at, pops_from, with_edge, with_edges, found_so_far}
+use Rattle.saturation_core.specs.Openings.{pop_change, pops_of, pops_at, pops_from, with_edges, found_so_far}
 use Rattle.saturation_core.specs.Lists.{queued}
 use Rattle.weighted_automata.specs.Entries.{lowered}
 use Rattle.weighted_automata.specs.declared.transitions.Entry.{Entry}

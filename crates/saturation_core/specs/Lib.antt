@@ -8,3 +8,4 @@ pub mod Openings
 pub mod Paths
 pub mod Books
 pub mod Seen
+pub mod Still

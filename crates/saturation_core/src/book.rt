@@ -20,6 +20,7 @@ use witness_graph::Graph;
 use wpds_port::OutOfMemory;
 
 /// A saturation: what was found, what waits, which hands are out, and the events so far.
+#[derive(Drop)]
 pub struct Book<'s, S: Semiring, D: Direction<S>> {
     system: &'s System<S>,
     direction: D,

@@ -14,6 +14,8 @@ mod laws;
 mod opening;
 mod queue;
 mod start;
+#[cfg(test)]
+mod tests;
 mod work;
 
 pub use book::Book;

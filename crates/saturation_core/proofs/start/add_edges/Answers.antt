@@ -1,6 +1,5 @@
 use Rattle.std.proofs.Common.{sym, subst, arith}
 use Rattle.semiring_laws.specs.Semiring.{Fits}
-use Rattle.weighted_automata.specs.Entries.{lowered}
 use Rattle.saturation_core.proofs.OfChanges.{kept_lowered, kept_more}
 use Rattle.saturation_core.proofs.OfStarts.{edge_more}
 use Rattle.saturation_core.proofs.start.add_edges.Goals as goal

@@ -1,5 +1,4 @@
 use Rattle.std.proofs.Common.{arith}
-use Rattle.saturation_core.specs.Openings.{found_so_far}
 use Rattle.saturation_core.proofs.OfStarts.{pops_more}
 use Rattle.saturation_core.proofs.start.add_pops.Goals as goal
 

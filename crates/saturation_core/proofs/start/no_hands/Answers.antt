@@ -1,4 +1,4 @@
-use Rattle.std.proofs.Common.{sym, ap, ◌∙◌, ◌++◌, ◌∷◌, []}
+use Rattle.std.proofs.Common.{ap, ◌∙◌, ◌++◌, ◌∷◌, []}
 use Rattle.std.specs.Prelude.{None}
 use Rattle.saturation_core.proofs.OfStarts.{replicate-push}
 use Rattle.saturation_core.proofs.start.no_hands.Goals as goal
