@@ -1,4 +1,4 @@
-ghost use Rattle.std.specs.Prelude.{◌≡◌, []};
+ghost use Rattle.std.specs.Prelude.{◌≡◌, [], false, IfOk};
 ghost use Rattle.semiring_laws.specs.Reach.{reach_operations, reach_laws};
 ghost use Rattle.saturation_core.specs.Still.{fits_still, still_runs, still_tables, still_laws, still_sums, still_candidates};
 
@@ -49,7 +49,9 @@ impl Direction<Reach> for Still {
         alloc: Global,
         system: &System<Reach>,
         _job: &Job<Reach>,
-    ) -> Result<bool, OutOfMemory> {
+    ) -> Result<bool, OutOfMemory>
+        ensures { IfOk result (λ w. w ≡ false) }
+    {
         system.semiring().zero(alloc)
     }
 
