@@ -1,15 +1,12 @@
 -- Answers to inputs.
-use Rattle.std.proofs.Common.{◌≡◌, ◌≢◌, ℕ, Bool, true, false, nat_lt, ◌+◌, ◌<◌, ◌≤◌, ◌⊎◌, ◌↔◌, inl, inr, List, [], ◌∷◌, ◌++◌, length, take, refl, sym, ap, ◌∙◌, subst, arith, append-nil}
+use Rattle.std.proofs.Common.{◌≡◌, ◌≢◌, ℕ, Bool, true, false, nat_lt, ◌<◌, ◌≤◌, inl, inr, List, [], ◌∷◌, ◌++◌, length, take, refl, sym, ap, ◌∙◌, subst, arith, append-nil}
 use Rattle.std.proofs.lemmas.Bool.{ltb-true, ltb-false}
 use Rattle.std.proofs.Math.Seq.{take-append_seam}
 use Rattle.std.specs.Prelude.{Result, Ok, Err, IfOk, Option, None, Some}
 use Rattle.std.specs.String.{string_bytes}
-use Rattle.std.specs.Io.KnownBytes.{Consumes, IsAtEnd}
 use Rattle.std.proofs.lemmas.List.{take_all}
 use Rattle.wpds_port.specs.Refusals.{refusal_text}
 use Rattle.wpds_port.specs.declared.refusal.Refusal.{Refusal}
-use Rattle.wpds_port.specs.declared.refusal.Kind.TheVariants.{TooLong, NotBuilt}
-use Rattle.system_text.specs.FirstForm.{IsFirstForm}
 use Rattle.system_text.specs.declared.document.Document.{Document}
 use Rattle.wpds_app.specs.declared.status.Status.{Status}
 use Rattle.wpds_app.specs.declared.status.Status.TheVariants.{Answered, WordsRefused, ReadFault, WriteFault, DocumentRefused, OutOfMemory}

@@ -1,16 +1,16 @@
 -- Saturated places read exactly the stacks from which a run leads to the goal.
-use Rattle.std.proofs.Common.{◌≡◌, ℕ, zero, suc, ◌+◌, ◌-◌, ◌<◌, ◌≤◌, ◌⊎◌, ◌↔◌, inl, inr, List, [], ◌∷◌, ◌++◌, length, take, drop, get_or, refl, sym, ap, ap₂, ◌∙◌, subst, arith, append-nil, append_assoc, nat_lt, true, false, Bool}
-use Rattle.std.specs.Prelude.{Option, Some, slice_get}
+use Rattle.std.proofs.Common.{◌≡◌, ℕ, zero, suc, ◌+◌, ◌-◌, ◌<◌, ◌≤◌, ◌⊎◌, ◌↔◌, inl, inr, List, [], ◌∷◌, ◌++◌, length, take, drop, get_or, refl, sym, ap, ◌∙◌, subst, arith, append-nil, nat_lt, true, false, Bool}
+use Rattle.std.specs.Prelude.{Some, slice_get}
 use Rattle.std.proofs.lemmas.Bool.{lt-ltb, le-ltb, ltb-true, ltb-false}
 use Rattle.std.proofs.lemmas.List.{drop-drop, take_more, take-append-le}
 use Rattle.pushdown_rules.specs.Configuration.{Configuration}
 use Rattle.pushdown_rules.specs.Pushdown.{Pushdown}
 use Rattle.pushdown_rules.specs.Firing.{Run}
 use Rattle.pushdown_rules.specs.declared.rule.Rule.{Rule}
-use Rattle.pushdown_rules.proofs.OfFiring.{Fired, fired, fires}
+use Rattle.pushdown_rules.proofs.OfFiring.{fired, fires}
 use Rattle.wpds_app.specs.declared.place.Place.{Place}
 use Rattle.wpds_app.specs.Saturation.{IsIn, place, Reads, edges_from, last_from, Reaches, Accepts, AcceptsBy, IsSound, IsDrawn, IsSaturating, Draws, Extends}
-use Rattle.wpds_app.proofs.OfPlaces.{in_front, in_back, in_either, in_take, reads_more, reads_parts, reads_joined, reads_edges, reads_fewer, extends_more}
+use Rattle.wpds_app.proofs.OfPlaces.{in_front, in_take, reads_more, reads_parts, reads_edges, reads_fewer, extends_more}
 
 below_or_at_by : (b : Bool) (i k : ℕ) → nat_lt i k ≡ b → i < k + 1 → (i < k) ⊎ (i ≡ k)
 below_or_at_by true i k e less = inl (ltb-true i k e)

@@ -1,5 +1,5 @@
 -- The pushdown system and the configurations that a document means.
-use Rattle.std.specs.Prelude.{ℕ, ◌≤◌, Bool, true, List, length, map, All, Option, None}
+use Rattle.std.specs.Prelude.{ℕ, ◌≤◌, Bool, true, List, length, map, All, None}
 use Rattle.system_text.specs.FirstForm.{IsRuleLine, IsConfigText}
 use Rattle.semiring_laws.specs.Reach.{reach_operations}
 use Rattle.semiring_laws.specs.declared.reach.Reach.{Reach}

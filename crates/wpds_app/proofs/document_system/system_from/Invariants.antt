@@ -1,4 +1,4 @@
-use Rattle.std.proofs.Common.{◌≡◌, take, map, length}
+use Rattle.std.proofs.Common.{◌≡◌, take, map}
 use Rattle.wpds_app.specs.Systems.{system_of, rule_of}
 use Rattle.wpds_app.proofs.document_system.system_from.Given as goal
 

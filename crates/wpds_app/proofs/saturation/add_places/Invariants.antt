@@ -1,4 +1,4 @@
-use Rattle.std.proofs.Common.{ℕ, ◌↔◌, ◌⊎◌, take}
+use Rattle.std.proofs.Common.{◌↔◌, ◌⊎◌, take}
 use Rattle.wpds_app.specs.declared.place.Place.{Place}
 use Rattle.wpds_app.specs.Saturation.{IsIn, Extends, IsTo}
 use Rattle.wpds_app.proofs.saturation.add_places.Given as goal

@@ -1,5 +1,4 @@
-use Rattle.std.proofs.Common.{sym, subst, [], ◌<◌}
-use Rattle.wpds_app.specs.Saturation.{IsSaturating}
+use Rattle.std.proofs.Common.{◌<◌}
 use Rattle.wpds_app.proofs.OfSaturation.{opening_saturates}
 use Rattle.wpds_app.proofs.saturation.saturated.Goals as goal
 

@@ -1,4 +1,4 @@
-use Rattle.std.proofs.Common.{ap, refl}
+use Rattle.std.proofs.Common.{ap}
 use Rattle.wpds_app.proofs.OfPlaces.{behind_found, behind_passed, behind_all}
 use Rattle.wpds_app.proofs.saturation.states_behind.Goals as goal
 use Rattle.wpds_app.proofs.saturation.states_behind.Goals.{then-leads_from+in_ok-add_number, else-leads_from}

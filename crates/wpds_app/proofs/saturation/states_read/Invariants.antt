@@ -1,4 +1,4 @@
-use Rattle.std.proofs.Common.{◌≡◌, ℕ, ◌↔◌, take}
+use Rattle.std.proofs.Common.{ℕ, ◌↔◌, take}
 use Rattle.wpds_app.specs.Saturation.{IsIn, Reads}
 use Rattle.wpds_app.proofs.saturation.states_read.Given as goal
 
