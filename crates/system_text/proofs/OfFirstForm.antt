@@ -11,10 +11,12 @@ use Rattle.system_text.specs.declared.document.Document.{Document}
 use Rattle.system_text.specs.Lines.{line_words, words, texts, is_blank, is_feed}
 use Rattle.system_text.specs.Names.{is_name, has_twice}
 use Rattle.system_text.specs.FirstForm.{header_words, weights_words, rule_words, query_words, IsRuleLine, IsFirstForm}
-use Rattle.system_text.specs.Reading.{each, same_words, names_of, rule_of, query_of, is_framed, document_of}
+use Rattle.system_text.proofs.OfRules.{rule-back, rule-written}
+use Rattle.system_text.proofs.OfWeights.{weights-back, weights-written}
+use Rattle.system_text.specs.Reading.{each, same_words, names_of, weights_of, rule_of, query_of, is_framed, document_of}
 use Rattle.system_text.proofs.Lists.{each-back, each-all, each-written, same_ends}
 use Rattle.system_text.proofs.Options.{guarded-parts, guarded-true, bind-parts, bind-some}
-use Rattle.system_text.proofs.Written.{names-back, names-written, are_names-from, no_name_twice, rule-back, rule-written, query-back, query-written}
+use Rattle.system_text.proofs.Written.{names-back, names-written, are_names-from, no_name_twice, query-back, query-written}
 
 equal_words : (xs ys : List (List ℕ)) → same_words xs ys ≡ true → xs ≡ ys
 equal_words xs ys = (slice_eq-Decides bytes_eq-Decides xs ys (same_words xs ys) refl).0
@@ -43,38 +45,41 @@ module _ (bytes : List ℕ) (h w c s : List (List ℕ)) (rs : List (List (List �
   -- what is read has the form
   pub read_is_written : (d : Document) → document_of h w c s rs q l ≡ Some d → IsFirstForm bytes d
   read_is_written d e =
-      let k = guarded-parts (is_framed h w l (length rs)) _ d e in
-      let f = and_parts (same_words l ([] ∷ []) && nat_le (length rs) 130000) (same_words h header_words && same_words w weights_words) k.0 in
+      let k = guarded-parts (is_framed h l (length rs)) _ d e in
+      let f = and_parts (same_words l ([] ∷ []) && nat_le (length rs) 130000) (same_words h header_words) k.0 in
       let f0 = and_parts (same_words l ([] ∷ [])) (nat_le (length rs) 130000) f.0 in
-      let f1 = and_parts (same_words h header_words) (same_words w weights_words) f.1 in
-      let b1 = bind-parts _ (names_of (codes "controls") 1000 c) d k.1 in
+      let b0 = bind-parts _ (weights_of w) d k.1 in
+      let ww = b0.0 in
+      let n0 = weights-back w ww b0.1 in
+      let b1 = bind-parts _ (names_of (codes "controls") 1000 c) d b0.2 in
       let b2 = bind-parts _ (names_of (codes "symbols") 40000 s) d b1.2 in
       let cs = b1.0 in
       let ss = b2.0 in
-      let b3 = bind-parts _ (each (rule_of cs ss) rs) d b2.2 in
+      let b3 = bind-parts _ (each (rule_of ww cs ss) rs) d b2.2 in
       let b4 = bind-parts _ (query_of cs ss q) d b3.2 in
       let n1 = names-back (codes "controls") 1000 c cs b1.1 in
       let n2 = names-back (codes "symbols") 40000 s ss b2.1 in
-      let made : Document = record { controls = cs; symbols = ss; rules = b3.0; query = b4.0 } in
+      let made : Document = record { weights = ww; controls = cs; symbols = ss; rules = b3.0; query = b4.0 } in
       let same : made ≡ d = cc (b4.2) in
-      let rules : map (rule_words cs ss) b3.0 ≡ rs = each-back (rule_of cs ss) (rule_words cs ss) (λ x y g. (rule-back cs ss x y g).0) rs b3.0 b3.1 in
+      let rules : map (rule_words cs ss) b3.0 ≡ rs = each-back (rule_of ww cs ss) (rule_words cs ss) (λ x y g. (rule-back ww cs ss x y g).0) rs b3.0 b3.1 in
       let query = query-back cs ss q b4.0 b4.1 in
       let number : length b3.0 ≡ length rs = sym (length-map b3.0 (rule_words cs ss)) ∙ ap length rules in
       let form : IsFirstForm bytes made = record {
         written =
             cut
-            ∙ ap (λ x. x ∷ w ∷ c ∷ s ∷ (rs ++ q ∷ l ∷ [])) (equal_words h header_words f1.0)
-            ∙ ap (λ x. header_words ∷ x ∷ c ∷ s ∷ (rs ++ q ∷ l ∷ [])) (equal_words w weights_words f1.1)
-            ∙ ap (λ x. header_words ∷ weights_words ∷ x ∷ s ∷ (rs ++ q ∷ l ∷ [])) n1.0
-            ∙ ap (λ x. header_words ∷ weights_words ∷ (codes "controls" ∷ cs) ∷ x ∷ (rs ++ q ∷ l ∷ [])) n2.0
-            ∙ ap (λ x. header_words ∷ weights_words ∷ (codes "controls" ∷ cs) ∷ (codes "symbols" ∷ ss) ∷ x)
+            ∙ ap (λ x. x ∷ w ∷ c ∷ s ∷ (rs ++ q ∷ l ∷ [])) (equal_words h header_words f.1)
+            ∙ ap (λ x. header_words ∷ x ∷ c ∷ s ∷ (rs ++ q ∷ l ∷ [])) (sym n0.0)
+            ∙ ap (λ x. header_words ∷ weights_words ww ∷ x ∷ s ∷ (rs ++ q ∷ l ∷ [])) n1.0
+            ∙ ap (λ x. header_words ∷ weights_words ww ∷ (codes "controls" ∷ cs) ∷ x ∷ (rs ++ q ∷ l ∷ [])) n2.0
+            ∙ ap (λ x. header_words ∷ weights_words ww ∷ (codes "controls" ∷ cs) ∷ (codes "symbols" ∷ ss) ∷ x)
             (ap (λ x. x ++ q ∷ l ∷ []) (sym rules)
             ∙ ap (λ x. map (rule_words cs ss) b3.0 ++ x ∷ l ∷ []) (sym query.0)
             ∙ ap (λ x. map (rule_words cs ss) b3.0 ++ query_words cs ss b4.0.from b4.0.to ∷ x ∷ []) (equal_words l ([] ∷ []) f0.0)
             ∙ sym (append_assoc (map (rule_words cs ss) b3.0) (query_words cs ss b4.0.from b4.0.to ∷ []) (([] ∷ []) ∷ [])));
+        weights = n0.1;
         controls = n1.1;
         symbols = n2.1;
-        rules = All-from_recursion (IsRuleLine (length cs) (length ss)) b3.0 (each-all (rule_of cs ss) (IsRuleLine (length cs) (length ss)) (λ x y g. (rule-back cs ss x y g).1) rs b3.0 b3.1);
+        rules = All-from_recursion (IsRuleLine ww (length cs) (length ss)) b3.0 (each-all (rule_of ww cs ss) (IsRuleLine ww (length cs) (length ss)) (λ x y g. (rule-back ww cs ss x y g).1) rs b3.0 b3.1);
         few = subst (λ n. n ≤ 130000) (sym number) (leb-true (length rs) 130000 f0.1);
         from = query.1.0;
         to = query.1.1;
@@ -84,12 +89,13 @@ module _ (bytes : List ℕ) (h w c s : List (List ℕ)) (rs : List (List (List �
   -- what has the form is read
   pub written_is_read : (d : Document) → IsFirstForm bytes d → document_of h w c s rs q l ≡ Some d
   written_is_read d form =
+      let ww = d.weights in
       let cs = d.controls in
       let ss = d.symbols in
       let rules = map (rule_words cs ss) d.rules in
       let query = query_words cs ss d.query.from d.query.to in
       let nothing : List (List ℕ) = [] ∷ [] in
-      let e : h ∷ w ∷ c ∷ s ∷ (rs ++ q ∷ l ∷ []) ≡ header_words ∷ weights_words ∷ (codes "controls" ∷ cs) ∷ (codes "symbols" ∷ ss) ∷ ((rules ++ query ∷ []) ++ nothing ∷ []) = sym cut ∙ form.written in
+      let e : h ∷ w ∷ c ∷ s ∷ (rs ++ q ∷ l ∷ []) ≡ header_words ∷ weights_words ww ∷ (codes "controls" ∷ cs) ∷ (codes "symbols" ∷ ss) ∷ ((rules ++ query ∷ []) ++ nothing ∷ []) = sym cut ∙ form.written in
       let heads = same_heads e in
       let ends = same_ends rs rules q l query nothing (heads.4 ∙ append_assoc rules (query ∷ []) (nothing ∷ [])) in
       let t1 = are_names-from 1000 cs form.controls in
@@ -98,18 +104,19 @@ module _ (bytes : List ℕ) (h w c s : List (List ℕ)) (rs : List (List (List �
       let two : (list_all is_name ss ≡ true) × (has_twice ss ≡ false) = (form.symbols.each, no_name_twice 40000 ss form.symbols) in
       ap (λ x. document_of x w c s rs q l) heads.0
       ∙ ap (λ x. document_of header_words x c s rs q l) heads.1
-      ∙ ap (λ x. document_of header_words weights_words x s rs q l) heads.2
-      ∙ ap (λ x. document_of header_words weights_words (codes "controls" ∷ cs) x rs q l) heads.3
-      ∙ ap (λ x. document_of header_words weights_words (codes "controls" ∷ cs) (codes "symbols" ∷ ss) x q l) ends.0
-      ∙ ap (λ x. document_of header_words weights_words (codes "controls" ∷ cs) (codes "symbols" ∷ ss) rules x l) ends.1
-      ∙ ap (λ x. document_of header_words weights_words (codes "controls" ∷ cs) (codes "symbols" ∷ ss) rules query x) ends.2
-      ∙ guarded-true (is_framed header_words weights_words nothing (length rules)) _
+      ∙ ap (λ x. document_of header_words (weights_words ww) x s rs q l) heads.2
+      ∙ ap (λ x. document_of header_words (weights_words ww) (codes "controls" ∷ cs) x rs q l) heads.3
+      ∙ ap (λ x. document_of header_words (weights_words ww) (codes "controls" ∷ cs) (codes "symbols" ∷ ss) x q l) ends.0
+      ∙ ap (λ x. document_of header_words (weights_words ww) (codes "controls" ∷ cs) (codes "symbols" ∷ ss) rules x l) ends.1
+      ∙ ap (λ x. document_of header_words (weights_words ww) (codes "controls" ∷ cs) (codes "symbols" ∷ ss) rules query x) ends.2
+      ∙ guarded-true (is_framed header_words nothing (length rules)) _
       (and_from (nat_le (length rules) 130000) true (le-leb (length rules) 130000 (subst (λ n. n ≤ 130000) (sym (length-map d.rules (rule_words cs ss))) form.few)) refl)
-      ∙ bind-some _ _ cs _ (names-written (codes "controls") 1000 cs form.controls)
+      ∙ bind-some _ _ ww _ (weights-written ww form.weights)
+      (bind-some _ _ cs _ (names-written (codes "controls") 1000 cs form.controls)
       (bind-some _ _ ss _ (names-written (codes "symbols") 40000 ss form.symbols)
       (bind-some _ _ d.rules _
-      (each-written (rule_of cs ss) (rule_words cs ss) (IsRuleLine (length cs) (length ss)) (rule-written cs ss one.1 two.1) d.rules (recursion_from_All (IsRuleLine (length cs) (length ss)) d.rules form.rules))
-      (bind-some _ _ d.query _ (query-written cs ss one two d.query (form.from, form.to)) refl)))
+      (each-written (rule_of ww cs ss) (rule_words cs ss) (IsRuleLine ww (length cs) (length ss)) (rule-written ww cs ss one.1 two.0 two.1) d.rules (recursion_from_All (IsRuleLine ww (length cs) (length ss)) d.rules form.rules))
+      (bind-some _ _ d.query _ (query-written cs ss one two d.query (form.from, form.to)) refl))))
     where
       same_heads : {X : Type 0} {a b c e a' b' c' e' : X} {xs ys : List X} → a ∷ b ∷ c ∷ e ∷ xs ≡ a' ∷ b' ∷ c' ∷ e' ∷ ys → (a ≡ a') × (b ≡ b') × (c ≡ c') × (e ≡ e') × (xs ≡ ys)
       same_heads h = (cc, cc, cc, cc, cc)
@@ -156,8 +163,8 @@ one_form bytes d e f g =
     let ss = d.symbols in
     let rules = map (rule_words cs ss) d.rules in
     let query = query_words cs ss d.query.from d.query.to in
-    let cut : line_words bytes ≡ header_words ∷ weights_words ∷ (codes "controls" ∷ cs) ∷ (codes "symbols" ∷ ss) ∷ (rules ++ query ∷ ([] ∷ []) ∷ []) =
-    f.written ∙ ap (λ x. header_words ∷ weights_words ∷ (codes "controls" ∷ cs) ∷ (codes "symbols" ∷ ss) ∷ x) (append_assoc rules (query ∷ []) (([] ∷ []) ∷ [])) in
-    let read = written_is_read bytes header_words weights_words (codes "controls" ∷ cs) (codes "symbols" ∷ ss) rules query ([] ∷ []) cut in
+    let cut : line_words bytes ≡ header_words ∷ weights_words d.weights ∷ (codes "controls" ∷ cs) ∷ (codes "symbols" ∷ ss) ∷ (rules ++ query ∷ ([] ∷ []) ∷ []) =
+    f.written ∙ ap (λ x. header_words ∷ weights_words d.weights ∷ (codes "controls" ∷ cs) ∷ (codes "symbols" ∷ ss) ∷ x) (append_assoc rules (query ∷ []) (([] ∷ []) ∷ [])) in
+    let read = written_is_read bytes header_words (weights_words d.weights) (codes "controls" ∷ cs) (codes "symbols" ∷ ss) rules query ([] ∷ []) cut in
     let both : Some d ≡ Some e = sym (read d f) ∙ read e g in
     cc (both)

@@ -3,6 +3,8 @@ use Rattle.std.proofs.Common.{◌≡◌, ℕ, true, false, List, [], ◌∷◌, 
 use Rattle.std.specs.Prelude.{codes}
 use Rattle.std.specs.List.{list_all}
 use Rattle.system_text.specs.declared.document.Document.{Document}
+use Rattle.system_text.specs.declared.document.WeightsLine.TheVariants.{Reach, Cost}
+use Rattle.system_text.specs.declared.document.WeightText.TheVariants.{One, Number}
 use Rattle.system_text.specs.Lines.{line_words}
 use Rattle.system_text.specs.Names.{is_name, has_twice}
 use Rattle.system_text.specs.FirstForm.{document_words}
@@ -14,11 +16,12 @@ text =
 
 abbrev read : Document
 read = record {
+  weights = Reach;
   controls = codes "p" ∷ codes "q" ∷ [];
   symbols = codes "a" ∷ codes "b" ∷ [];
   rules =
-      record { control = 0; symbol = 0; to = 0; right = 1 ∷ 0 ∷ [] }
-      ∷ record { control = 0; symbol = 1; to = 1; right = [] } ∷ [];
+      record { control = 0; symbol = 0; to = 0; right = 1 ∷ 0 ∷ []; weight = One }
+      ∷ record { control = 0; symbol = 1; to = 1; right = []; weight = One } ∷ [];
   query = record {
     from = record { control = 0; stack = 0 ∷ [] };
     to = record { control = 1; stack = [] };

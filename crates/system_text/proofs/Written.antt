@@ -8,12 +8,11 @@ use Rattle.std.proofs.lemmas.List.Elements.{All-from_recursion, recursion_from_A
 use Rattle.std.proofs.lemmas.List.Quantifiers.{position-Some}
 use Rattle.std.proofs.lemmas.List.Recursion.{and_at}
 use Rattle.std.proofs.lemmas.Slice.Eq.{bytes_eq-Decides}
-use Rattle.system_text.specs.declared.document.RuleLine.{RuleLine}
 use Rattle.system_text.specs.declared.document.ConfigText.{ConfigText}
 use Rattle.system_text.specs.declared.document.QueryLine.{QueryLine}
 use Rattle.system_text.specs.Names.{is_among, is_name, has_twice, name, number_in, begins_name, goes_on_name, reserved, AreNames}
-use Rattle.system_text.specs.FirstForm.{rule_words, config_words, query_words, IsRuleLine, IsConfigText}
-use Rattle.system_text.specs.Reading.{each, are_names, names_of, number_before_colon, rule_of, config_of, sides_of, query_of}
+use Rattle.system_text.specs.FirstForm.{config_words, query_words, IsConfigText}
+use Rattle.system_text.specs.Reading.{each, are_names, names_of, number_before_colon, config_of, sides_of, query_of}
 use Rattle.system_text.proofs.Lists.{each-back, each-written, each-all}
 use Rattle.system_text.proofs.Options.{guarded-parts, guarded-true, bind-parts, bind-some}
 
@@ -107,36 +106,6 @@ pub no_name_twice : (most : ℕ) (ns : List (List ℕ)) → AreNames most ns →
 no_name_twice most ns h = not-true (has_twice ns) h.once
 
 module _ (controls symbols : List (List ℕ)) where
-  -- ---- rules
-
-  rule-made : (w p g a q : List ℕ) (ws : List (List ℕ)) (r : RuleLine) → rule_of controls symbols (w ∷ p ∷ g ∷ a ∷ q ∷ ws) ≡ Some r → (rule_words controls symbols r ≡ w ∷ p ∷ g ∷ a ∷ q ∷ ws) × IsRuleLine (length controls) (length symbols) r
-  rule-made w p g a q ws r e =
-      let k = guarded-parts _ _ r e in
-      let f = and_parts (bytes_eq w (codes "rule") && bytes_eq a (codes "->")) (nat_le (length ws) 2) k.0 in
-      let f' = and_parts (bytes_eq w (codes "rule")) (bytes_eq a (codes "->")) f.0 in
-      let b1 = bind-parts _ (number_in controls p) r k.1 in
-      let b2 = bind-parts _ (number_in symbols g) r b1.2 in
-      let b3 = bind-parts _ (number_in controls q) r b2.2 in
-      let b4 = bind-parts _ (each (number_in symbols) ws) r b3.2 in
-      let n1 = name-number controls p b1.0 b1.1 in
-      let n2 = name-number symbols g b2.0 b2.1 in
-      let n3 = name-number controls q b3.0 b3.1 in
-      let n4 = numbers-back symbols ws b4.0 b4.1 in
-      let made : RuleLine = record { control = b1.0; symbol = b2.0; to = b3.0; right = b4.0 } in
-      let same : made ≡ r = cc (b4.2) in
-      let l : length b4.0 ≡ length ws = sym (length-map b4.0 (name symbols)) ∙ ap length n4.0 in
-      let fits : IsRuleLine (length controls) (length symbols) made = record { control = n1.1; symbol = n2.1; to = n3.1; right = n4.1; short = subst (λ n. n ≤ 2) (sym l) (leb-true (length ws) 2 f.1) } in
-      let is : rule_words controls symbols made ≡ w ∷ p ∷ g ∷ a ∷ q ∷ ws = cc (equal w (codes "rule") f'.0, equal a (codes "->") f'.1, n1.0, n2.0, n3.0, n4.0) in
-      (ap (rule_words controls symbols) (sym same) ∙ is, subst (IsRuleLine (length controls) (length symbols)) same fits)
-
-  pub rule-back : (ws : List (List ℕ)) (r : RuleLine) → rule_of controls symbols ws ≡ Some r → (rule_words controls symbols r ≡ ws) × IsRuleLine (length controls) (length symbols) r
-  rule-back (w ∷ p ∷ g ∷ a ∷ q ∷ ws) r e = rule-made w p g a q ws r e
-  rule-back [] r e = cc
-  rule-back (a ∷ []) r e = cc
-  rule-back (a ∷ b ∷ []) r e = cc
-  rule-back (a ∷ b ∷ c ∷ []) r e = cc
-  rule-back (a ∷ b ∷ c ∷ d ∷ []) r e = cc
-
   -- ---- configurations
 
   pub config-back : (ws : List (List ℕ)) (c : ConfigText) → config_of controls symbols ws ≡ Some c → (config_words controls symbols c ≡ ws) × IsConfigText (length controls) (length symbols) c
@@ -157,11 +126,6 @@ module _ (controls symbols : List (List ℕ)) where
   -- ---- what is written is read
 
   module _ (one : has_twice controls ≡ false) (two : has_twice symbols ≡ false) where
-    pub rule-written : (r : RuleLine) → IsRuleLine (length controls) (length symbols) r → rule_of controls symbols (rule_words controls symbols r) ≡ Some r
-    rule-written r h =
-        guarded-true _ _ (le-leb (length (map (name symbols) r.right)) 2 (subst (λ n. n ≤ 2) (sym (length-map r.right (name symbols))) h.short))
-        ∙ bind-some _ _ r.control _ (number-name controls r.control one h.control) (bind-some _ _ r.symbol _ (number-name symbols r.symbol two h.symbol) (bind-some _ _ r.to _ (number-name controls r.to one h.to) (bind-some _ _ r.right _ (numbers-written symbols two r.right h.right) refl)))
-
     pub config-written : (c : ConfigText) → IsConfigText (length controls) (length symbols) c → config_of controls symbols (config_words controls symbols c) ≡ Some c
     config-written c h =
         guarded-true _ _ (le-leb (length (map (name symbols) c.stack)) 1000 (subst (λ n. n ≤ 1000) (sym (length-map c.stack (name symbols))) h.short))
@@ -186,7 +150,7 @@ name-no_arrow (b ∷ x) y h =
     begins_otherwise b (x ++ y) (and_parts (begins_name b) (list_all goes_on_name (b ∷ x)) parts.0).0
 
 -- a name that is declared
-declared-name : (names : List (List ℕ)) (k : ℕ) → list_all is_name names ≡ true → k < length names → is_name (name names k) ≡ true
+pub declared-name : (names : List (List ℕ)) (k : ℕ) → list_all is_name names ≡ true → k < length names → is_name (name names k) ≡ true
 declared-name names k n h = and_at (list_all is_name) is_name refl (λ _ _. refl) names k [] h n
 
 names-no_arrow : (names : List (List ℕ)) (ks : List ℕ) → list_all is_name names ≡ true → AllByRecursion (λ k. k < length names) ks → list_any (bytes_eq arrow) (map (name names) ks) ≡ false

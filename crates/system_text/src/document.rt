@@ -33,6 +33,20 @@ impl Symbols {
     }
 }
 
+/// What the weights of a document are: reachability, or the least cost up to a cap.
+#[derive(Clone, Copy, Debug, PartialEq, Eq)]
+pub enum WeightsLine {
+    Reach,
+    Cost { cap: u64 },
+}
+
+/// The weight of a rule as it is written. A rule without one has the weight one.
+#[derive(Clone, Copy, Debug, PartialEq, Eq)]
+pub enum WeightText {
+    One,
+    Number(u64),
+}
+
 /// A rule, with numbers in place of names.
 #[derive(Drop)]
 pub struct RuleLine {
@@ -40,6 +54,7 @@ pub struct RuleLine {
     pub symbol: u32,
     pub to: u32,
     pub right: Symbols,
+    pub weight: WeightText,
 }
 
 /// The rules of a document, in the order of their lines.
@@ -80,16 +95,17 @@ pub struct ConfigText {
     pub stack: Symbols,
 }
 
-/// A query: whether a run leads from one configuration to another.
+/// A query: what the runs from one configuration to another are worth.
 #[derive(Drop)]
 pub struct QueryLine {
     pub from: ConfigText,
     pub to: ConfigText,
 }
 
-/// A document: the names that it declares, its rules and its query.
+/// A document: its weights, the names that it declares, its rules and its query.
 #[derive(Drop)]
 pub struct Document {
+    pub weights: WeightsLine,
     pub controls: Names,
     pub symbols: Names,
     pub rules: RuleLines,

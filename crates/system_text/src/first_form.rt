@@ -10,6 +10,7 @@ ghost use Rattle.system_text.specs.declared.document.Document.{Document as Docum
 use crate::Document;
 use crate::cut::lines_of;
 use crate::reading::{names, query, rules, says};
+use crate::weights::weights;
 use std::alloc::Global;
 use wpds_port::OutOfMemory;
 
@@ -20,8 +21,6 @@ const MOST_SYMBOLS: usize = 40_000;
 const MOST_RULES: usize = 130_000;
 
 const HEADER: [&[u8]; 2] = [b"wpds", b"1"];
-
-const WEIGHTS: [&[u8]; 2] = [b"weights", b"reach"];
 
 const CONTROLS: &[u8] = b"controls";
 
@@ -59,7 +58,7 @@ fn in_order<'t, 'l>(lines: &'l [&'t [u8]]) -> Option<Lines<'t, 'l>>
 
 // Whether the lines whose words are fixed are as they should be, and the rules not too many.
 fn framed(alloc: Global, lines: &Lines) -> Result<bool, OutOfMemory>
-    ensures { IfOk result (λ b. b ≡ is_framed (words lines.now.header.now) (words lines.now.weights.now) (words lines.now.last.now) (length lines.now.rules.now)) }
+    ensures { IfOk result (λ b. b ≡ is_framed (words lines.now.header.now) (words lines.now.last.now) (length lines.now.rules.now)) }
 {
     if !lines.last.is_empty() {
         return Ok(false);
@@ -67,7 +66,7 @@ fn framed(alloc: Global, lines: &Lines) -> Result<bool, OutOfMemory>
     if lines.rules.len() > MOST_RULES {
         return Ok(false);
     }
-    Ok(says(alloc, lines.header, &HEADER)? && says(alloc, lines.weights, &WEIGHTS)?)
+    says(alloc, lines.header, &HEADER)
 }
 
 // The document with these lines.
@@ -77,17 +76,21 @@ fn document(alloc: Global, lines: &Lines) -> Result<Option<Document>, OutOfMemor
     if !framed(alloc, lines)? {
         return Ok(None);
     }
+    let Some(weights) = weights(alloc, lines.weights)? else {
+        return Ok(None);
+    };
     let Some(controls) = names(alloc, CONTROLS, MOST_CONTROLS, lines.controls)? else {
         return Ok(None);
     };
     let Some(symbols) = names(alloc, SYMBOLS, MOST_SYMBOLS, lines.symbols)? else {
         return Ok(None);
     };
-    let Some(rules) = rules(alloc, &controls, &symbols, lines.rules)? else {
+    let Some(rules) = rules(alloc, weights, &controls, &symbols, lines.rules)? else {
         return Ok(None);
     };
     match query(alloc, &controls, &symbols, lines.query)? {
         Some(query) => Ok(Some(Document {
+            weights,
             controls,
             symbols,
             rules,
@@ -97,8 +100,8 @@ fn document(alloc: Global, lines: &Lines) -> Result<Option<Document>, OutOfMemor
     }
 }
 
-/// Reads a document of the first form: a header, the weights `reach`, one line each of controls and symbols, rules without
-/// weights, and one query between two configurations. `None` is any other text.
+/// Reads a document of the first form: a header, the weights `reach` or `cost CAP`, one line each of controls and symbols,
+/// rules, with costs also with a number as weight, and one query between two configurations. `None` is any other text.
 pub fn read_first_form(alloc: Global, bytes: &[u8]) -> Result<Option<Document>, OutOfMemory>
     ensures found { IfOk result (λ o. IfSome o (IsFirstForm bytes.now)) }
     ensures only { IfOk result (λ o. (d : DocumentValue) → IsFirstForm bytes.now d → o ≡ Some d) }

@@ -6,9 +6,12 @@ mod document;
 mod first_form;
 mod names;
 mod reading;
+mod weights;
 mod words;
 
-pub use document::{ConfigText, Document, QueryLine, RuleLine, RuleLines, Symbols};
+pub use document::{
+    ConfigText, Document, QueryLine, RuleLine, RuleLines, Symbols, WeightText, WeightsLine,
+};
 pub use first_form::{one_document, read_first_form};
 pub use names::Names;
 

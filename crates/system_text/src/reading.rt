@@ -3,11 +3,12 @@
 ghost use Rattle.std.specs.Prelude.{◌≡◌, ◌<◌, ◌≤◌, length, map, position, codes, bytes_eq, IfOk, IfSome, option_map, if◌then◌else◌, Some, None};
 ghost use Rattle.system_text.specs.Lines.{words, texts};
 ghost use Rattle.system_text.specs.Names.{number_in};
-ghost use Rattle.system_text.specs.Reading.{each, same_words, are_names, names_of, number_before_colon, rule_of, config_of, sides_of, query_of};
+ghost use Rattle.system_text.specs.Reading.{each, same_words, are_names, names_of, number_before_colon, rule_with as rule_of_parts, rule_of, config_of, sides_of, query_of};
 
 use crate::cut::words_of;
+use crate::weights::right_side;
 use crate::words::may_be_declared;
-use crate::{ConfigText, Names, QueryLine, RuleLine, RuleLines, Symbols};
+use crate::{ConfigText, Names, QueryLine, RuleLine, RuleLines, Symbols, WeightText, WeightsLine};
 use std::alloc::Global;
 use wpds_port::OutOfMemory;
 
@@ -93,54 +94,92 @@ fn control_before_colon(controls: &Names, word: &[u8]) -> Option<u32>
     controls.number_of(word.strip_suffix(b":")?)
 }
 
-// The rule that a line with these words is.
-fn rule_from(
+/// The words of a rule, by what they say, and its weight.
+#[derive(Drop)]
+struct RuleWords<'t, 'a> {
+    control: &'t [u8],
+    symbol: &'t [u8],
+    to: &'t [u8],
+    right: &'a [&'t [u8]],
+    weight: WeightText,
+}
+
+// The rule that these words are.
+fn rule_with(
     alloc: Global,
     controls: &Names,
     symbols: &Names,
-    words: &[&[u8]],
+    words: &RuleWords,
 ) -> Result<Option<RuleLine>, OutOfMemory>
-    ensures { IfOk result (λ o. o ≡ rule_of controls.now symbols.now (texts words.now)) }
+    ensures { let w = words.now in IfOk result (λ o. o ≡ rule_of_parts controls.now symbols.now w.control.now w.symbol.now w.to.now (texts w.right.now) w.weight) }
 {
-    let [first, control, symbol, arrow, to, right @ ..] = words else {
-        return Ok(None);
-    };
-    if *first != RULE || *arrow != ARROW || right.len() > MOST_PUSHED {
+    if words.right.len() > MOST_PUSHED {
         return Ok(None);
     }
-    let Some(control) = controls.number_of(control) else {
+    let Some(control) = controls.number_of(words.control) else {
         return Ok(None);
     };
-    let Some(symbol) = symbols.number_of(symbol) else {
+    let Some(symbol) = symbols.number_of(words.symbol) else {
         return Ok(None);
     };
-    let Some(to) = controls.number_of(to) else {
+    let Some(to) = controls.number_of(words.to) else {
         return Ok(None);
     };
-    match symbols_of(alloc, symbols, right)? {
+    match symbols_of(alloc, symbols, words.right)? {
         Some(right) => Ok(Some(RuleLine {
             control,
             symbol,
             to,
             right,
+            weight: words.weight,
         })),
         None => Ok(None),
     }
 }
 
+// The rule that a line with these words is.
+fn rule_from(
+    alloc: Global,
+    weights: WeightsLine,
+    controls: &Names,
+    symbols: &Names,
+    words: &[&[u8]],
+) -> Result<Option<RuleLine>, OutOfMemory>
+    ensures { IfOk result (λ o. o ≡ rule_of weights controls.now symbols.now (texts words.now)) }
+{
+    let [first, control, symbol, arrow, to, behind @ ..] = words else {
+        return Ok(None);
+    };
+    if *first != RULE || *arrow != ARROW {
+        return Ok(None);
+    }
+    let Some((right, weight)) = right_side(weights, behind) else {
+        return Ok(None);
+    };
+    let words = RuleWords {
+        control,
+        symbol,
+        to,
+        right,
+        weight,
+    };
+    rule_with(alloc, controls, symbols, &words)
+}
+
 /// The rules of these lines, if each is a rule.
 pub(crate) fn rules(
     alloc: Global,
+    weights: WeightsLine,
     controls: &Names,
     symbols: &Names,
     lines: &[&[u8]],
 ) -> Result<Option<RuleLines>, OutOfMemory>
-    ensures { IfOk result (λ o. o ≡ each (rule_of controls.now symbols.now) (map (λ line. words line.now) lines.now)) }
+    ensures { IfOk result (λ o. o ≡ each (rule_of weights controls.now symbols.now) (map (λ line. words line.now) lines.now)) }
 {
     let mut rules = Vec::new(alloc);
     for line in lines {
         let words = words_of(alloc, line)?;
-        match rule_from(alloc, controls, symbols, words.as_slice())? {
+        match rule_from(alloc, weights, controls, symbols, words.as_slice())? {
             Some(rule) => rules.push(rule)?,
             None => return Ok(None),
         }

@@ -1,4 +1,4 @@
-use crate::read_first_form;
+use crate::{WeightText, WeightsLine, read_first_form};
 use std::alloc::{AllocError, Global};
 use std::test::Fail;
 use wpds_port::OutOfMemory;
@@ -6,7 +6,7 @@ use wpds_port::OutOfMemory;
 const SMALLEST: &[u8] = b"wpds 1\nweights reach\ncontrols p\nsymbols a\nquery p: => p:\n";
 
 // Texts, and whether each is a document.
-const ROWS: [(&[u8], bool); 40] = [
+const ROWS: [(&[u8], bool); 39] = [
     (SMALLEST, true),
     (
         b"wpds 1\nweights reach\ncontrols p q\nsymbols a b\nrule p a -> p b a\nrule p b -> q\nquery p: a => q: a\n",
@@ -72,10 +72,6 @@ const ROWS: [(&[u8], bool); 40] = [
     ),
     (
         b"wpds 2\nweights reach\ncontrols p\nsymbols a\nquery p: => p:\n",
-        false,
-    ),
-    (
-        b"wpds 1\nweights cost 5\ncontrols p\nsymbols a\nquery p: => p:\n",
         false,
     ),
     (
@@ -157,6 +153,46 @@ const ROWS: [(&[u8], bool); 40] = [
     ),
 ];
 
+// Weights, whether they are the weights of a document, and of one whose rule has a cost.
+const WEIGHTS: [(&str, bool, bool); 14] = [
+    ("reach", true, false),
+    ("cost 1", true, true),
+    ("cost 100", true, true),
+    ("cost 1000000000000000000", true, true),
+    ("cost 1000000000000000001", false, false),
+    ("cost 18446744073709551616", false, false),
+    ("cost 0", false, false),
+    ("cost 05", false, false),
+    ("cost +5", false, false),
+    ("cost five", false, false),
+    ("cost", false, false),
+    ("cost 5 5", false, false),
+    ("reach 5", false, false),
+    ("relation", false, false),
+];
+
+// What stands behind the control of a rule with costs up to 100, and whether it is a right side with its weight.
+const RIGHT_SIDES: [(&str, bool); 18] = [
+    ("", true),
+    (" a", true),
+    (" a a", true),
+    (" : 2", true),
+    (" a : 2", true),
+    (" a a : 0", true),
+    (" a : 101", true),
+    (" a : 18446744073709551615", true),
+    (" a : 18446744073709551616", false),
+    (" a a a : 2", false),
+    (" a : 02", false),
+    (" a : -2", false),
+    (" a : a", false),
+    (" a :", false),
+    (" a :2", false),
+    (" a: 2", false),
+    (" : 2 a", false),
+    (" a : 2 : 2", false),
+];
+
 fn is_document(alloc: Global, text: &[u8]) -> Result<bool, OutOfMemory> {
     Ok(read_first_form(alloc, text)?.is_some())
 }
@@ -205,6 +241,44 @@ fn documents_and_other_texts(rt: HostRuntime) -> Result<(), Fail> {
 }
 
 #[test]
+fn weights_lines(rt: HostRuntime) -> Result<(), Fail> {
+    for (weights, plain, costly) in WEIGHTS {
+        let text = format!(in rt.alloc();
+            "wpds 1\nweights {weights}\ncontrols p\nsymbols a\nquery p: => p:\n"
+        )?;
+        assert_eq!(rt;
+            is_document(rt.alloc(), text.as_bytes())?,
+            plain,
+            "{weights}"
+        );
+        let text = format!(in rt.alloc();
+            "wpds 1\nweights {weights}\ncontrols p\nsymbols a\nrule p a -> p : 1\nquery p: => p:\n"
+        )?;
+        assert_eq!(rt;
+            is_document(rt.alloc(), text.as_bytes())?,
+            costly,
+            "{weights}, with a rule"
+        );
+    }
+    Ok(())
+}
+
+#[test]
+fn weights_of_rules(rt: HostRuntime) -> Result<(), Fail> {
+    for (right, expected) in RIGHT_SIDES {
+        let text = format!(in rt.alloc();
+            "wpds 1\nweights cost 100\ncontrols p\nsymbols a\nrule p a -> p{right}\nquery p: => p:\n"
+        )?;
+        assert_eq!(rt;
+            is_document(rt.alloc(), text.as_bytes())?,
+            expected,
+            "{right}"
+        );
+    }
+    Ok(())
+}
+
+#[test]
 fn limits(rt: HostRuntime) -> Result<(), Fail> {
     // controls, symbols, rules, stack, accepted
     let rows = [
@@ -242,6 +316,21 @@ fn long_names(rt: HostRuntime) -> Result<(), Fail> {
             "{length}"
         );
     }
+    Ok(())
+}
+
+#[test]
+fn costs_as_written(rt: HostRuntime) -> Result<(), Fail> {
+    let text =
+        b"wpds 1\nweights cost 9\ncontrols p\nsymbols a\nrule p a -> p : 12\nrule p a -> p a\nrule p a -> p a a : 0\nquery p: => p:\n";
+    let document = read_first_form(rt.alloc(), text)?.ok_or("no document")?;
+    assert_eq!(rt; document.weights, WeightsLine::Cost { cap: 9 });
+    let rules = document.rules.as_slice();
+    assert_eq!(rt; rules.len(), 3);
+    assert_eq!(rt; rules[0].weight, WeightText::Number(12));
+    assert_eq!(rt; rules[1].weight, WeightText::One);
+    assert_eq!(rt; rules[2].weight, WeightText::Number(0));
+    assert_eq!(rt; rules[2].right.as_slice(), [0, 0].as_slice());
     Ok(())
 }
 

@@ -4,4 +4,4 @@ use Rattle.system_text.specs.Reading.{each, rule_of}
 use Rattle.system_text.proofs.reading.rules.Given as goal
 
 abbrev pub invariant-loop-line : goal.invariant-loop-line
-invariant-loop-line l = each (rule_of l.controls l.symbols) (map (λ line. words line.now) (take l.line-index l.lines)) ≡ Some l.rules.items
+invariant-loop-line l = each (rule_of l.weights l.controls l.symbols) (map (λ line. words line.now) (take l.line-index l.lines)) ≡ Some l.rules.items
