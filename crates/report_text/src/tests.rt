@@ -43,15 +43,15 @@ fn listings(rt: HostRuntime) -> Result<(), Fail> {
         lower(None, Some(0), Some(0), Some(1)),
     ];
     assert_eq!(rt;
-        text_of(alloc, Side::Pre, &call)?,
+        text_of(alloc, Side::Pre, &call)?.as_str(),
         "  set 0 = rule 2\n  set 1 = empty\n  set 2 = rule 1 then set 0 then set 1\n  answer set 2\n"
     );
     assert_eq!(rt;
-        text_of(alloc, Side::Post, &call)?,
+        text_of(alloc, Side::Post, &call)?.as_str(),
         "  set 0 = rule 2\n  set 1 = empty\n  set 2 = set 0 then set 1 then rule 1\n  answer set 2\n"
     );
     assert_eq!(rt;
-        text_of(alloc, Side::Pre, &[Node::Start])?,
+        text_of(alloc, Side::Pre, &[Node::Start])?.as_str(),
         "  set 0 = empty\n  answer set 0\n"
     );
     let more = [
@@ -60,7 +60,7 @@ fn listings(rt: HostRuntime) -> Result<(), Fail> {
         lower(Some(1), None, None, Some(0)),
     ];
     assert_eq!(rt;
-        text_of(alloc, Side::Pre, &more)?,
+        text_of(alloc, Side::Pre, &more)?.as_str(),
         "  set 0 = empty\n  set 1 = set 0 or rule 10\n  set 2 = set 1 or set 0\n  answer set 2\n"
     );
     Ok(())
@@ -69,7 +69,10 @@ fn listings(rt: HostRuntime) -> Result<(), Fail> {
 #[test]
 fn lines_of_queries(rt: HostRuntime) -> Result<(), Fail> {
     let alloc = rt.alloc();
-    assert_eq!(rt; query_line(alloc, 1, "3")?, "query 1: 3\n");
-    assert_eq!(rt; query_line(alloc, 12, "unreachable")?, "query 12: unreachable\n");
+    assert_eq!(rt; query_line(alloc, 1, "3")?.as_str(), "query 1: 3\n");
+    assert_eq!(rt;
+        query_line(alloc, 12, "unreachable")?.as_str(),
+        "query 12: unreachable\n"
+    );
     Ok(())
 }
