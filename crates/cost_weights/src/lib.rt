@@ -60,6 +60,13 @@ impl Cost {
         Ok(Cost { cap })
     }
 
+    /// The cap.
+    pub fn cap(&self) -> u64
+        ensures { result ≡ self.now }
+    {
+        self.cap
+    }
+
     /// A number as a weight: the smaller of it and the cap.
     pub fn number(&self, n: u64) -> Option<u64>
         ensures value { result ≡ Some (min n self.now) }

@@ -1,0 +1,74 @@
+ghost use Rattle.std.specs.Prelude.{◌≡◌, ◌<◌, ◌≤◌, ◌++◌, ◌∷◌, [], length, map, IfOk, OnOk};
+ghost use Rattle.system_text.specs.FirstForm.{IsRuleLine};
+ghost use Rattle.document_systems.specs.Systems.{rule_of, system_of, one_symbol, pattern_of, HasSystem};
+
+use crate::DocumentWeights;
+use config_patterns::Pattern;
+use pushdown_rules::System;
+use std::alloc::Global;
+use system_text::{ConfigText, Document, RuleLine};
+use wpds_port::OutOfMemory;
+
+// Adds the rule of a line, which breaks no condition of a rule, so that only memory can be wanting.
+fn add_line<S: DocumentWeights>(
+    alloc: Global,
+    system: &mut System<S>,
+    line: &RuleLine,
+) -> Result<(), OutOfMemory>
+    requires few { length system.old.rules < 130000 }
+    ensures { let s = system.old.semiring in OnOk result (system.new ≡ record system.old { rules = system.old.rules ++ rule_of (S.operations s) (S.weight s) line.now ∷ [] }) }
+{
+    let right = line.right.as_slice();
+    let weight = system.semiring().weight_of(alloc, line.weight)?;
+    match system.add_rule(
+        alloc,
+        line.control,
+        line.symbol,
+        line.to,
+        right,
+        weight,
+        None,
+    ) {
+        Ok(_) => Ok(()),
+        Err(_) => Err(OutOfMemory),
+    }
+}
+
+/// The system of a document's rules, over a semiring.
+pub fn system_from<S: DocumentWeights>(
+    alloc: Global,
+    semiring: S,
+    document: &Document,
+) -> Result<System<S>, OutOfMemory>
+    requires { HasSystem document.now }
+    ensures { IfOk result (λ s. s ≡ system_of (S.operations semiring) (S.weight semiring) semiring document.now) }
+{
+    let controls = document.controls.len() as u32;
+    let symbols = document.symbols.len() as u32;
+    let mut system = System::new(alloc, semiring, controls, symbols);
+    for line in document.rules.as_slice() {
+        add_line(alloc, &mut system, line)?;
+    }
+    Ok(system)
+}
+
+// Adds an item of one symbol, which breaks no condition of an item, so that only memory can be wanting.
+fn add_symbol(alloc: Global, pattern: &mut Pattern, symbol: u32) -> Result<(), OutOfMemory>
+    ensures { OnOk result (pattern.new ≡ record pattern.old { items = pattern.old.items ++ one_symbol symbol ∷ [] }) }
+{
+    match pattern.add_item(alloc, &[symbol], false) {
+        Ok(()) => Ok(()),
+        Err(_) => Err(OutOfMemory),
+    }
+}
+
+/// The pattern that a side of a query is: its one member is the configuration that it writes.
+pub fn pattern_from(alloc: Global, symbols: u32, text: &ConfigText) -> Result<Pattern, OutOfMemory>
+    ensures { IfOk result (λ p. p ≡ pattern_of symbols text.now) }
+{
+    let mut pattern = Pattern::new(alloc, text.control, symbols);
+    for symbol in text.stack.as_slice() {
+        add_symbol(alloc, &mut pattern, *symbol)?;
+    }
+    Ok(pattern)
+}

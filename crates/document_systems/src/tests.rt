@@ -1,0 +1,81 @@
+use crate::{DocumentWeights, pattern_from, system_from};
+use cost_weights::Cost;
+use pushdown_rules::Config;
+use semiring_laws::Reach;
+use std::alloc::Global;
+use std::test::Fail;
+use system_text::{WeightText, read_first_form};
+use wpds_port::OutOfMemory;
+
+#[test]
+fn values(rt: HostRuntime) -> Result<(), Fail> {
+    let alloc = rt.alloc();
+    assert_eq!(rt; Reach.text_of(alloc, &true)?.as_str(), "reachable");
+    assert_eq!(rt; Reach.text_of(alloc, &false)?.as_str(), "unreachable");
+    let cost = Cost::new(5)?;
+    for (value, text) in [
+        (None, "unreachable"),
+        (Some(0), "0"),
+        (Some(4), "4"),
+        (Some(5), "5 or more"),
+    ] {
+        assert_eq!(rt; cost.text_of(alloc, &value)?.as_str(), text, "{value:?}");
+    }
+    Ok(())
+}
+
+// What a weight is worth, by the trait.
+fn worth<S: DocumentWeights>(
+    semiring: &S,
+    alloc: Global,
+    text: WeightText,
+) -> Result<S::W, OutOfMemory> {
+    semiring.weight_of(alloc, text)
+}
+
+#[test]
+fn weights_of_rules(rt: HostRuntime) -> Result<(), Fail> {
+    let alloc = rt.alloc();
+    let cost = Cost::new(5)?;
+    assert!(rt; worth(&Reach, alloc, WeightText::One)?);
+    for (text, value) in [
+        (WeightText::One, 0),
+        (WeightText::Number(0), 0),
+        (WeightText::Number(4), 4),
+        (WeightText::Number(6), 5),
+        (WeightText::Number(u64::MAX), 5),
+    ] {
+        assert_eq!(rt; worth(&cost, alloc, text)?, Some(value), "{text:?}");
+    }
+    Ok(())
+}
+
+#[test]
+fn a_document_means_a_system(rt: HostRuntime) -> Result<(), Fail> {
+    let alloc = rt.alloc();
+    let text =
+        b"wpds 1\nweights cost 100\ncontrols p q\nsymbols a b\nrule p a -> p b a : 2\nrule p b -> q : 101\nquery p: a => q: b a\n";
+    let document = read_first_form(alloc, text)?.ok_or("no document")?;
+    let system = system_from(alloc, Cost::new(100)?, &document)?;
+    assert_eq!(rt; system.controls(), 2);
+    assert_eq!(rt; system.symbols(), 2);
+    assert_eq!(rt; system.rules(), 2);
+    assert_eq!(rt; system.rule(0).right.symbols(), [1, 0].as_slice());
+    assert_eq!(rt; system.rule(0).weight, Some(2));
+    assert_eq!(rt; system.rule(1).to, 1);
+    assert_eq!(rt; system.rule(1).weight, Some(100));
+    let to = pattern_from(alloc, 2, &document.query.to)?;
+    assert_eq!(rt; to.control(), 1);
+    assert_eq!(rt; to.items(), 2);
+    for (control, stack, is) in [
+        (1, [1, 0].as_slice(), true),
+        (0, [1, 0].as_slice(), false),
+        (1, [0, 1].as_slice(), false),
+        (1, [1].as_slice(), false),
+        (1, [].as_slice(), false),
+    ] {
+        let member = to.matches(&Config::new(alloc, control, stack)?);
+        assert_eq!(rt; member, is, "{control} {stack:?}");
+    }
+    Ok(())
+}
