@@ -14,3 +14,7 @@ pub mod Kept
 pub mod OfChanges
 pub mod OfStarts
 pub mod Begun
+pub mod Planning
+pub mod LowerSteps
+pub mod Settles
+pub mod OfAll
