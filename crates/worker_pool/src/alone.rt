@@ -1,0 +1,46 @@
+ghost use Rattle.std.specs.Prelude.{◌≡◌, [], IfOk, OnOk};
+ghost use Rattle.saturation_core.specs.Books.{IsClosed, NoHand};
+ghost use Rattle.worker_pool.specs.Alone.{HasTurned, HasBase, IsAlone};
+
+use saturation_core::{Book, Direction, Taken};
+use semiring_laws::Semiring;
+use std::alloc::Global;
+use wpds_port::OutOfMemory;
+
+// One turn of seat 0, which takes a transition, works out its jobs and settles them. False where nothing was left to take.
+fn turn<S: Semiring, D: Direction<S>>(
+    alloc: Global,
+    book: &mut Book<'_, S, D>,
+) -> Result<bool, OutOfMemory>
+    requires { NoHand book.old }
+    ensures turned { IfOk result (λ more. HasTurned S.operations D.tables more book.old book.new) }
+    ensures free { OnOk result (NoHand book.new) }
+{
+    let Taken::Hand(hand) = book.take(alloc, 0)? else {
+        return Ok(false);
+    };
+    let (system, direction) = (book.system(), book.direction());
+    let Ok(done) = hand.work(alloc, system, &direction) else {
+        return Err(OutOfMemory);
+    };
+    match book.settle(alloc, done) {
+        Ok(_) => Ok(true),
+        Err(_) => Err(OutOfMemory),
+    }
+}
+
+/// Saturates a book by seat 0 alone, which settles each hand before it takes the next, until nothing waits. It is refused
+/// only for want of memory, and then the book is gone.
+pub fn saturate_alone<'s, S: Semiring, D: Direction<S>>(
+    alloc: Global,
+    book: Book<'s, S, D>,
+) -> Result<Book<'s, S, D>, OutOfMemory>
+    requires { book.entry.journal ≡ [] }
+    ensures closed { IfOk result IsClosed }
+    ensures base { IfOk result (HasBase book.entry) }
+    ensures alone { IfOk result (λ b. IsAlone b.journal) }
+{
+    let mut book = book;
+    while turn(alloc, &mut book)? {}
+    Ok(book)
+}
