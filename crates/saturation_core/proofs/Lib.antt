@@ -14,3 +14,4 @@ pub mod Kept
 pub mod OfChanges
 pub mod OfStarts
 pub mod Begun
+pub mod OfCombinations
