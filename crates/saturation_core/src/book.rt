@@ -33,6 +33,7 @@ pub struct Book<'s, S: Semiring, D: Direction<S>> {
 }
 
 impl<'s, S: Semiring, D: Direction<S>> Model for Book<'s, S, D> {
+    ghost use Rattle.std.specs.Prelude.{◌≡◌};
     ghost use Rattle.saturation_core.specs.Books.{BookValue, IsBook};
 
     ghost Value = { BookValue S S.W S.Ret D };
@@ -41,7 +42,7 @@ impl<'s, S: Semiring, D: Direction<S>> Model for Book<'s, S, D> {
 
     ghost view = { seen };
 
-    ghost invariant = { λ b. IsBook S.operations D.tables D.fits_opening D.places D.runs (seen b) × HasRoom b };
+    ghost invariant = { λ b. IsBook S.operations D.tables D.fits_opening D.places D.runs (seen b) × HasRoom b × (b.graph.side ≡ (D.tables b.direction b.system.now).side) };
 }
 
 impl<'s, S: Semiring, D: Direction<S>> Book<'s, S, D> {
@@ -128,6 +129,7 @@ impl<'s, S: Semiring, D: Direction<S>> Book<'s, S, D> {
     /// The runs that were found so far.
     pub fn graph(&self) -> &Graph
         ensures nodes { result.now.nodes ≡ self.now.state.nodes }
+        ensures side { result.now.side ≡ (D.tables self.now.direction self.now.system).side }
     {
         &self.graph
     }

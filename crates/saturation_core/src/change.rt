@@ -84,6 +84,7 @@ pub fn apply_rule<S: Semiring>(
         ≡ apply (S.operations semiring.now) (record { goal = place; weight = weight.now; rule = Some rule; first = None; second = None })
         (found_so_far transitions.old.transitions graph.old.nodes waiting.old.items)) }
     ensures kept { OnOk result (AreKept (S.operations semiring.now) transitions.new.transitions (length graph.new.nodes)) }
+    ensures side { graph.new.side ≡ graph.old.side }
 {
     let old = weight_now(semiring, alloc, transitions, place)?;
     let Some(new) = weight_after(semiring, alloc, &old, weight)? else {
