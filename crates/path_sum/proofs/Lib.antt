@@ -1,0 +1,9 @@
+pub mod OfEntries
+pub mod OfOrders
+pub mod OfPairs
+pub mod OfGrowing
+pub mod OfSums
+pub mod OfMoves
+pub mod OfWorking
+pub mod OfBooks
+pub mod OfChanges

@@ -1,0 +1,11 @@
+//! Sums over the paths of a finished saturation that read a pattern: the weight of all runs between the pattern and the
+//! saturation's opening, with a listing of runs that make it.
+#![tactic(auto)]
+
+mod answer;
+mod change;
+
+mod queue;
+mod task;
+
+pub use answer::Answer;
