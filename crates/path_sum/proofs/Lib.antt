@@ -7,3 +7,7 @@ pub mod OfMoves
 pub mod OfWorking
 pub mod OfBooks
 pub mod OfChanges
+pub mod OfReady
+pub mod OfLoops
+pub mod OfPlaces
+pub mod OfRounds

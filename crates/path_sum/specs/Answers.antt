@@ -1,5 +1,5 @@
 -- What an answer to a query is, and what a sum answers.
-use Rattle.std.specs.Prelude.{◌≡◌, ◌↔◌, ℕ, ◌<◌, Bool, IsTrue, List, [], map, Option, None, Some}
+use Rattle.std.specs.Prelude.{◌≡◌, ◌↔◌, ℕ, ◌+◌, ◌-◌, ◌*◌, ◌<◌, ◌≤◌, length, Bool, IsTrue, List, [], map, Option, None, Some}
 use Rattle.std.specs.List.{AllByRecursion}
 use Rattle.semiring_laws.specs.Semiring.{Operations, Below}
 use Rattle.semiring_laws.specs.Combination.{combination}
@@ -13,9 +13,15 @@ use Rattle.pushdown_rules.specs.Pushdown.{Pushdown}
 use Rattle.pushdown_rules.specs.Firing.{Run}
 use Rattle.pushdown_rules.specs.Values.{value_of}
 use Rattle.saturation_core.specs.declared.opening.Opening.{Opening}
-use Rattle.saturation_core.specs.States.{CoreState}
+use Rattle.saturation_core.specs.States.{CoreState, weight_at}
 use Rattle.saturation_core.specs.Paths.{IsOpened}
-use Rattle.path_sum.specs.Sums.{Ways, HasWay, answer_place}
+use Rattle.pushdown_rules.specs.Answers.{Answers}
+use Rattle.witness_graph.specs.declared.node.Node.{Node}
+use Rattle.witness_graph.specs.declared.listing.Listing.{Listing}
+use Rattle.witness_graph.specs.Order.{listing_of}
+use Rattle.path_sum.specs.declared.answer.Answer.{Answer}
+use Rattle.path_sum.specs.Sums.{Ways, HasWay, IsGrown, answer_place}
+use Rattle.path_sum.specs.Pairs.{states_of}
 
 -- The tests of a query: `near` is the pattern that is summed over, `far` the one that the saturation began with.
 pub record IsQuery {S W Map : Type 0} (p : Pushdown S W Map) (o : Opening) (ways : Ways) (near far : Configuration → Bool) : Type 0 where
@@ -39,3 +45,33 @@ module _ {S W Map : Type 0} where
   -- the runs of the answer's node, and none where there is no answer
   abbrev pub answer_runs : Side → CoreState S W Map → List (List ℕ)
   answer_runs side st = listed side st (entry_at answer_place st.transitions)
+
+-- The answers between a pattern and what the opening reads, by way of the side: for whichever test says what the opening reads.
+abbrev pub AnswersOpening : {S W Map : Type 0} → Operations W Map → Side → Pushdown S W Map → Opening → (Configuration → Bool) → W → List (List ℕ) → Type 0
+AnswersOpening s side p o near v runs = (far : Configuration → Bool) → ((d : Configuration) → IsTrue (far d) ↔ (IsOpened o d × (d.control < p.controls)))
+    → Answers s p (first_of side near far) (last_of side near far) v runs
+
+-- the runs of a listing
+abbrev pub listing_runs : Listing → List (List ℕ)
+listing_runs l = runs_of l.side l.nodes (length l.nodes - 1)
+
+-- and none where there is no listing
+abbrev pub listed_runs : Option Listing → List (List ℕ)
+listed_runs None = []
+listed_runs (Some l) = listing_runs l
+
+module _ {S W Map : Type 0} where
+  -- the listing of the answer's node, and none where there is no answer
+  abbrev pub IsListingOf : Side → CoreState S W Map → Option (Entry S W Map) → Option Listing → Type 0
+  IsListingOf side st None listing = listing ≡ None
+  IsListingOf side st (Some t) listing = (l : Listing) × (listing ≡ Some l) × (l.side ≡ side) × (l.nodes ≡ listing_of st.nodes t.node)
+      × (listing_runs l ≡ runs_of side st.nodes t.node)
+
+  -- The answer is that of a sum which is grown from these transitions, nodes, opening and pattern.
+  pub record IsGrownAnswer (s : Operations W Map) (side : Side) (o : Opening) (ts : List (Entry S W Map)) (nodes : List Node) (ways : Ways) (a : Answer S W) : Type 0 where
+    pub state : CoreState S W Map
+    pub grown : IsGrown s side o ts nodes ways state
+    pub value : a.value ≡ weight_at s answer_place state.transitions
+    pub listing : IsListingOf side state (entry_at answer_place state.transitions) a.listing
+    -- how many nodes are added at most
+    pub few : length state.nodes ≤ length nodes + (ways.states * length (states_of ways.control ts) + 1) * (s.top_rank + 1)

@@ -5,7 +5,9 @@
 mod answer;
 mod change;
 
+mod growing;
 mod queue;
+mod summing;
 mod task;
 
 pub use answer::Answer;
