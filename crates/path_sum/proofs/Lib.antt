@@ -11,3 +11,5 @@ pub mod OfReady
 pub mod OfLoops
 pub mod OfPlaces
 pub mod OfRounds
+pub mod OfMembers
+pub mod OfFinished

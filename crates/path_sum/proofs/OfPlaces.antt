@@ -87,7 +87,7 @@ edge_within items e there = elim ((edges_are items e).0 there) [
   | inr back ↦ let less = stays_within items back.0 e.symbol back.3 in let to = back.2 in omega (arith, less, to)
 ]
 
-same_in : (x : Place) (es : List Edge) → IsIn x (map edge_place es) → (e : Edge) × paths.IsIn e es × (edge_place e ≡ x)
+pub same_in : (x : Place) (es : List Edge) → IsIn x (map edge_place es) → (e : Edge) × paths.IsIn e es × (edge_place e ≡ x)
 same_in x [] h = elim h [ ]
 same_in x (d ∷ ds) (inl e) = (d, inl refl, e)
 same_in x (d ∷ ds) (inr h) = let r = same_in x ds h in (r.0, inr r.1, r.2)

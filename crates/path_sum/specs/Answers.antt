@@ -62,16 +62,16 @@ listed_runs (Some l) = listing_runs l
 
 module _ {S W Map : Type 0} where
   -- the listing of the answer's node, and none where there is no answer
-  abbrev pub IsListingOf : Side → CoreState S W Map → Option (Entry S W Map) → Option Listing → Type 0
-  IsListingOf side st None listing = listing ≡ None
-  IsListingOf side st (Some t) listing = (l : Listing) × (listing ≡ Some l) × (l.side ≡ side) × (l.nodes ≡ listing_of st.nodes t.node)
-      × (listing_runs l ≡ runs_of side st.nodes t.node)
+  abbrev pub IsListingOf : Side → List Node → Option (Entry S W Map) → Option Listing → Type 0
+  IsListingOf side nodes None listing = listing ≡ None
+  IsListingOf side nodes (Some t) listing = (l : Listing) × (listing ≡ Some l) × (l.side ≡ side) × (l.nodes ≡ listing_of nodes t.node)
+      × (listing_runs l ≡ runs_of side nodes t.node)
 
   -- The answer is that of a sum which is grown from these transitions, nodes, opening and pattern.
-  pub record IsGrownAnswer (s : Operations W Map) (side : Side) (o : Opening) (ts : List (Entry S W Map)) (nodes : List Node) (ways : Ways) (a : Answer S W) : Type 0 where
+  pub record IsGrownAnswer (s : Operations W Map) (side : Side) (o : Opening) (ts : List (Entry S W Map)) (nodes : List Node) (ways : Ways) (a : Answer S W Map) : Type 0 where
     pub state : CoreState S W Map
     pub grown : IsGrown s side o ts nodes ways state
     pub value : a.value ≡ weight_at s answer_place state.transitions
-    pub listing : IsListingOf side state (entry_at answer_place state.transitions) a.listing
+    pub listing : IsListingOf side state.nodes (entry_at answer_place state.transitions) a.listing
     -- how many nodes are added at most
     pub few : length state.nodes ≤ length nodes + (ways.states * length (states_of ways.control ts) + 1) * (s.top_rank + 1)

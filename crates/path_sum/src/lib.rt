@@ -11,3 +11,4 @@ mod summing;
 mod task;
 
 pub use answer::Answer;
+pub use summing::{sum, sum_parts};

@@ -1,19 +1,15 @@
 ghost use Rattle.std.specs.Prelude.{◌≡◌, ◌<◌, ◌≤◌, ◌+◌, ◌*◌, ◌↔◌, ◌∷◌, [], ℕ, List, None, Some, IfOk, IfSome, MatchOption, length, IsTrue};
 ghost use Rattle.semiring_laws.specs.Semiring.{Operations};
-ghost use Rattle.weighted_automata.specs.declared.place.Place.{Place as PlaceValue};
 ghost use Rattle.weighted_automata.specs.Entries.{entry_at};
 ghost use Rattle.witness_graph.specs.Tight.{IsTight};
 ghost use Rattle.config_patterns.specs.Membership.{has_member};
-ghost use Rattle.pushdown_rules.specs.Pushdown.{Pushdown};
 ghost use Rattle.pushdown_rules.specs.Values.{value_of};
 ghost use Rattle.saturation_core.specs.Books.{IsClosed};
 ghost use Rattle.saturation_core.specs.Openings.{AreKept};
 ghost use Rattle.saturation_core.specs.States.{weight_at};
 ghost use Rattle.path_sum.specs.Sums.{ways_of, answer_place, bare_sum, IsGrown, IsSummed};
-ghost use Rattle.path_sum.specs.Pairs.{sum_places};
 ghost use Rattle.path_sum.specs.Answers.{AnswersOpening, listed_runs, IsListingOf, IsGrownAnswer};
 ghost use Rattle.path_sum.specs.Saturated.{IsSaturatedAutomaton};
-ghost use Rattle.path_sum.specs.Summing.{IsSummable};
 ghost use Rattle.path_sum.specs.Growings.{state_of};
 
 use crate::Answer;
@@ -65,31 +61,10 @@ fn start<'g, S: Semiring>(
     })
 }
 
-// The sum to which nothing is to be added. It takes the pairs in the order in which they began to wait.
-fn add_up<'g, S: Semiring>(
-    task: &Task<S>,
-    alloc: Global,
-    graph: &'g Graph,
-) -> Result<Growing<'g, S>, OutOfMemory>
-    requires { (value : List ℕ → S.W) × (p : Pushdown S S.W S.Ret) × (runs : PlaceValue → List ℕ → Type 0)
-        × IsSummable (S.operations task.now.semiring) value p runs task.now graph.now.nodes }
-    ensures grown { IfOk result (λ x. IsGrown (S.operations task.now.semiring) task.now.side task.now.opening task.now.transitions graph.now.nodes (ways_of task.now.pattern) (state_of x)) }
-    ensures summed { IfOk result (λ x. IsSummed (S.operations task.now.semiring) task.now.side task.now.opening task.now.transitions (ways_of task.now.pattern) x.pairs.transitions) }
-    ensures few { IfOk result (λ x. length x.nodes.nodes ≤ length graph.now.nodes + 1 + length (sum_places (ways_of task.now.pattern) task.now.transitions) * (S.operations task.now.semiring).top_rank) }
-    ensures kept { IfOk result (λ x. AreKept (S.operations task.now.semiring) x.pairs.transitions (length x.nodes.nodes)) }
-    ensures side { IfOk result (λ x. x.nodes.side ≡ graph.now.side) }
-{
-    let mut sum = start(task, alloc, graph)?;
-    'rounds: while let Some(place) = next(&mut sum.waiting) {
-        sum.draw(task, alloc, place)?;
-    }
-    Ok(sum)
-}
-
 // The listing of the answer's node.
 fn list_answer<S: Semiring>(alloc: Global, sum: &Growing<S>) -> Result<Option<Listing>, OutOfMemory>
     requires { (s : Operations S.W S.Ret) × AreKept s sum.now.pairs.transitions (length sum.now.nodes.nodes) }
-    ensures { IfOk result (λ l. IsListingOf sum.now.nodes.side (state_of sum.now) (entry_at answer_place sum.now.pairs.transitions) l) }
+    ensures { IfOk result (λ l. IsListingOf sum.now.nodes.side sum.now.nodes.nodes (entry_at answer_place sum.now.pairs.transitions) l) }
 {
     match sum.pairs.find(ANSWER) {
         Some(k) => {
@@ -99,4 +74,63 @@ fn list_answer<S: Semiring>(alloc: Global, sum: &Growing<S>) -> Result<Option<Li
         }
         None => Ok(None),
     }
+}
+
+/// The weight of all runs between a pattern and an opening, from the pattern's members to what the opening reads where
+/// the direction goes backwards, and the other way round forwards: the combination, over the members and all paths of
+/// the transitions that read one to a final state, of the product along the path (Reps, Schwoon, Jha, Melski 2005). The
+/// transitions are those of a finished saturation from the opening, and the nodes theirs. It is refused only for want of
+/// memory. The graph is not copied; beside it at most so many nodes are made as there are pairs and one, times the top
+/// rank and one, and each transition is looked at once for each time that a pair of its source waits.
+pub fn sum_parts<S: Semiring, D: Direction<S>>(
+    alloc: Global,
+    system: &System<S>,
+    direction: &D,
+    opening: &Opening,
+    transitions: &Transitions<S>,
+    graph: &Graph,
+    pattern: &Pattern,
+) -> Result<Answer<S>, OutOfMemory>
+    requires automaton { IsSaturatedAutomaton S.operations D.tables D.fits_opening D.runs system.now direction.now opening.now transitions.now.transitions graph.now.nodes }
+    requires side { graph.now.side ≡ (D.tables direction.now system.now).side }
+    requires pattern { pattern.now.control < system.now.controls }
+    ensures answers { IfOk result (λ a. AnswersOpening (S.operations system.now.semiring) (D.tables direction.now system.now).side system.now opening.now (has_member pattern.now) a.value (listed_runs a.listing)) }
+    ensures none { IfOk result (λ a. (a.listing ≡ None) ↔ (a.value ≡ (S.operations system.now.semiring).zero)) }
+    ensures side { IfOk result (λ a. IfSome a.listing (λ l. l.side ≡ (D.tables direction.now system.now).side)) }
+    ensures tight { IfOk result (λ a. IfSome a.listing (λ l. IsTight (S.operations system.now.semiring) (value_of (S.operations system.now.semiring) system.now) l.side l.nodes)) }
+    ensures grown { IfOk result (λ a. IsGrownAnswer (S.operations system.now.semiring) (D.tables direction.now system.now).side opening.now transitions.now.transitions graph.now.nodes (ways_of pattern.now) a) }
+{
+    let semiring = system.semiring();
+    let side = direction.side();
+    let task = Task::new(alloc, semiring, side, opening, transitions, pattern)?;
+    let mut sum = start(&task, alloc, graph)?;
+    'rounds: while let Some(place) = next(&mut sum.waiting) {
+        sum.draw(&task, alloc, place)?;
+    }
+    let value = weight_now(semiring, alloc, &sum.pairs, ANSWER)?;
+    let listing = list_answer(alloc, &sum)?;
+    Ok(Answer { value, listing })
+}
+
+/// The weight of all runs between a pattern and the opening of a closed book, as [`sum_parts`] says. It is refused only
+/// for want of memory.
+pub fn sum<S: Semiring, D: Direction<S>>(
+    alloc: Global,
+    book: &Book<'_, S, D>,
+    pattern: &Pattern,
+) -> Result<Answer<S>, OutOfMemory>
+    requires closed { IsClosed book.now }
+    requires pattern { pattern.now.control < book.now.system.controls }
+    ensures answers { IfOk result (λ a. AnswersOpening (S.operations book.now.system.semiring) (D.tables book.now.direction book.now.system).side book.now.system book.now.opening (has_member pattern.now) a.value (listed_runs a.listing)) }
+    ensures none { IfOk result (λ a. (a.listing ≡ None) ↔ (a.value ≡ (S.operations book.now.system.semiring).zero)) }
+    ensures side { IfOk result (λ a. IfSome a.listing (λ l. l.side ≡ (D.tables book.now.direction book.now.system).side)) }
+    ensures tight { IfOk result (λ a. IfSome a.listing (λ l. IsTight (S.operations book.now.system.semiring) (value_of (S.operations book.now.system.semiring) book.now.system) l.side l.nodes)) }
+    ensures grown { IfOk result (λ a. IsGrownAnswer (S.operations book.now.system.semiring) (D.tables book.now.direction book.now.system).side book.now.opening book.now.state.transitions book.now.state.nodes (ways_of pattern.now) a) }
+{
+    let system = book.system();
+    let direction = book.direction();
+    let opening = book.opening();
+    let transitions = book.transitions();
+    let graph = book.graph();
+    sum_parts(alloc, system, &direction, opening, transitions, graph, pattern)
 }
