@@ -15,3 +15,7 @@ pub mod OfChanges
 pub mod OfStarts
 pub mod Begun
 pub mod OfCombinations
+pub mod Planning
+pub mod LowerSteps
+pub mod Settles
+pub mod OfAll

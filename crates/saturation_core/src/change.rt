@@ -24,7 +24,7 @@ pub fn queue_up(waiting: &mut VecDeque<Place>, place: Place) -> Result<(), OutOf
 }
 
 // The weight at a place, and zero where there is none.
-fn weight_now<S: Semiring>(
+pub fn weight_now<S: Semiring>(
     semiring: &S,
     alloc: Global,
     transitions: &Transitions<S>,
@@ -40,7 +40,7 @@ fn weight_now<S: Semiring>(
 }
 
 // The node at a place.
-fn node_now<S: Semiring>(transitions: &Transitions<S>, place: Place) -> Option<u64>
+pub fn node_now<S: Semiring>(transitions: &Transitions<S>, place: Place) -> Option<u64>
     ensures { result ≡ option_map node_of (entry_at place transitions.now.transitions) }
 {
     match transitions.find(place) {
@@ -50,7 +50,7 @@ fn node_now<S: Semiring>(transitions: &Transitions<S>, place: Place) -> Option<u
 }
 
 // What a weight makes of the one that is there, where it changes it.
-fn weight_after<S: Semiring>(
+pub fn weight_after<S: Semiring>(
     semiring: &S,
     alloc: Global,
     old: &S::W,
