@@ -1,0 +1,2 @@
+pub mod OfMaps
+pub mod OfReads
