@@ -14,3 +14,6 @@ pub mod Kept
 pub mod OfChanges
 pub mod OfStarts
 pub mod Begun
+pub mod OfCombinations
+pub mod OpeningWeights
+pub mod InLists
