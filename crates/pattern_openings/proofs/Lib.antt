@@ -1,2 +1,1 @@
-pub mod OfMaps
 pub mod OfReads

@@ -16,7 +16,7 @@ use Rattle.config_patterns.proofs.OfPaths.{members_read}
 use Rattle.saturation_core.specs.Lists.{IsIn}
 use Rattle.saturation_core.specs.Paths.{Reads, IsOpened}
 use Rattle.pattern_openings.specs.PatternOpenings.{state_of, place_of_edge, finals_of_items, opening_of}
-use Rattle.pattern_openings.proofs.OfMaps.{in_map, from_map, in_filter, from_filter, in_range}
+use Rattle.saturation_core.proofs.InLists.{in_map, from_map, in_filter, from_filter, in_range}
 
 edge_in : (e : Edge) (es : List Edge) → IsEdgeIn e es → IsIn e es
 edge_in e [] h = elim h [ ]
