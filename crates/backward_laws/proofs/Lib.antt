@@ -4,3 +4,7 @@ pub mod OfTables
 pub mod OfMeeting
 pub mod OfPaths
 pub mod OfClosing
+pub mod OfRowTests
+pub mod OfJobs
+pub mod OfPlaces
+pub mod OfLaws
