@@ -17,3 +17,4 @@ pub mod Begun
 pub mod OfCombinations
 pub mod OpeningWeights
 pub mod InLists
+pub mod Passes
