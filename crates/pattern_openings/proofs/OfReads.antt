@@ -23,7 +23,7 @@ edge_in e [] h = elim h [ ]
 edge_in e (d ∷ es) (inl same) = inl same
 edge_in e (d ∷ es) (inr h) = inr (edge_in e es h)
 
-in_edges : (e : Edge) (es : List Edge) → IsIn e es → IsEdgeIn e es
+pub in_edges : (e : Edge) (es : List Edge) → IsIn e es → IsEdgeIn e es
 in_edges e [] h = elim h [ ]
 in_edges e (d ∷ es) (inl same) = inl same
 in_edges e (d ∷ es) (inr h) = inr (in_edges e es h)
