@@ -1,6 +1,6 @@
 -- The jobs of a transition are the consequences that it is an input of.
 use Rattle.std.proofs.Common.{◌≡◌, ◌⊎◌, inl, inr, ℕ, zero, suc, ◌+◌, ◌<◌, ◌≤◌, Bool, true, List, [], ◌∷◌, ◌++◌, refl, sym, ap, ap₂, ◌∙◌, subst, arith}
-use Rattle.std.specs.Prelude.{Option, None, Some, ◌&&◌, nat_lt, not, slice_get, cond}
+use Rattle.std.specs.Prelude.{Option, None, Some, ◌&&◌, nat_lt, not, slice_get}
 use Rattle.std.specs.List.{flat_map}
 use Rattle.std.proofs.lemmas.Bool.{and_parts, and_from, or_left, or_right, cond_both, cond-true, lt-ltb, le-ltb, ltb-true, ltb-false, not-true}
 use Rattle.std.proofs.lemmas.Option.{same_Some}
