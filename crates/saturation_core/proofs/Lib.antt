@@ -19,3 +19,6 @@ pub mod Planning
 pub mod LowerSteps
 pub mod Settles
 pub mod OfAll
+pub mod OpeningWeights
+pub mod InLists
+pub mod Passes
