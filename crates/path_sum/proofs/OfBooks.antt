@@ -1,10 +1,9 @@
 -- A closed book is a finished saturation, whose sums answer queries.
-use Rattle.std.proofs.Common.{◌≡◌, Bool, ℕ, ◌<◌, List, [], refl, subst}
+use Rattle.std.proofs.Common.{Bool, ℕ, ◌<◌, List, [], refl}
 use Rattle.std.specs.Prelude.{IsTrue}
 use Rattle.semiring_laws.specs.Semiring.{Operations, IsSemiring, Fits}
 use Rattle.weighted_automata.specs.declared.place.Place.{Place}
 use Rattle.weighted_automata.specs.declared.transitions.Entry.{Entry}
-use Rattle.weighted_automata.specs.Entries.{Present}
 use Rattle.witness_graph.specs.declared.node.Node.{Node}
 use Rattle.pushdown_rules.specs.Configuration.{Configuration}
 use Rattle.pushdown_rules.specs.Pushdown.{Pushdown, IsSystem}
@@ -16,8 +15,7 @@ use Rattle.saturation_core.specs.Jobs.{Tables}
 use Rattle.saturation_core.specs.Openings.{opening_state, found_so_far}
 use Rattle.saturation_core.specs.States.{CoreState, weight_at}
 use Rattle.saturation_core.specs.Directions.{IsDirection}
-use Rattle.saturation_core.specs.Invariants.{HasShape}
-use Rattle.saturation_core.specs.Books.{BookValue, IsBook, IsClosed, opened_by}
+use Rattle.saturation_core.specs.Books.{BookValue, IsBook, IsClosed}
 use Rattle.saturation_core.specs.Paths.{IsSaturated, HasSums}
 use Rattle.saturation_core.proofs.Lowering.{entry_fits}
 use Rattle.saturation_core.proofs.Kept.{closed_applies}

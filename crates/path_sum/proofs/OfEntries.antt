@@ -1,6 +1,6 @@
 -- What stands in a list.
 use Rattle.std.proofs.Common.{◌≡◌, inl, inr, ℕ, List, [], ◌∷◌, ◌++◌, sym, ap, ◌∙◌}
-use Rattle.std.specs.Prelude.{Option, None, Some, slice_get, option_and_then}
+use Rattle.std.specs.Prelude.{Option, Some, slice_get, option_and_then}
 use Rattle.std.proofs.lemmas.Bool.{cond_both}
 use Rattle.std.proofs.lemmas.Option.{same_Some}
 use Rattle.weighted_automata.specs.declared.place.Place.{Place}

@@ -1,6 +1,6 @@
 -- What the answer of a sum that is done is.
-use Rattle.std.proofs.Common.{◌≡◌, ◌⊎◌, inl, inr, IsTrue, Bool, ℕ, ◌+◌, ◌*◌, ◌<◌, ◌≤◌, List, [], ◌∷◌, length, refl, sym, ap, ◌∙◌, subst, arith}
-use Rattle.std.specs.Prelude.{◌↔◌, ◌≢◌, Option, None, Some, IfSome, slice_get}
+use Rattle.std.proofs.Common.{◌≡◌, inl, inr, Bool, ℕ, ◌+◌, ◌*◌, ◌<◌, List, [], ◌∷◌, length, refl, sym, ap, ◌∙◌, subst, arith}
+use Rattle.std.specs.Prelude.{◌↔◌, Option, None, Some, IfSome}
 use Rattle.std.proofs.lemmas.Bool.{cases_lt}
 use Rattle.std.proofs.lemmas.List.{get_or_past}
 use Rattle.std.proofs.lemmas.Option.{slice_get-get_or}
@@ -12,12 +12,11 @@ use Rattle.witness_graph.specs.declared.node.Node.{Node}
 use Rattle.witness_graph.specs.declared.node.Node.TheVariants.{Start}
 use Rattle.witness_graph.specs.declared.node.Side.{Side}
 use Rattle.witness_graph.specs.declared.listing.Listing.{Listing}
-use Rattle.witness_graph.specs.Nodes.{AreNodes, node_at}
-use Rattle.witness_graph.specs.Order.{listing_of, post_order}
+use Rattle.witness_graph.specs.Nodes.{node_at}
+use Rattle.witness_graph.specs.Order.{post_order}
 use Rattle.witness_graph.specs.Tight.{IsTight, IsTightNode, AreTight, worth_of}
 use Rattle.witness_graph.proofs.OfListings.{listing_tight}
 use Rattle.config_patterns.specs.Membership.{Described, has_member}
-use Rattle.pushdown_rules.specs.Configuration.{Configuration}
 use Rattle.pushdown_rules.specs.Pushdown.{Pushdown, IsSystem}
 use Rattle.pushdown_rules.specs.Values.{value_of}
 use Rattle.pushdown_rules.specs.Answers.{Answers}
@@ -26,7 +25,7 @@ use Rattle.saturation_core.specs.declared.opening.Opening.{Opening}
 use Rattle.saturation_core.specs.Jobs.{Tables}
 use Rattle.saturation_core.specs.Openings.{opening_state, AreKept}
 use Rattle.saturation_core.specs.States.{CoreState, weight_of, weight_at}
-use Rattle.saturation_core.specs.Paths.{IsOpened, HasSums}
+use Rattle.saturation_core.specs.Paths.{HasSums}
 use Rattle.path_sum.specs.declared.answer.Answer.{Answer}
 use Rattle.path_sum.specs.Sums.{ways_of, answer_place, SumRun, TaskValue, bare_sum, moves_of, IsReady, GrowsBy}
 use Rattle.path_sum.specs.Pairs.{states_of, sum_places}

@@ -1,40 +1,31 @@
 -- What grows from a book has runs of its pairs, and the answer's are runs of the query.
-use Rattle.std.proofs.Common.{◌≡◌, ◌≢◌, ◌⊎◌, inl, inr, IsTrue, ℕ, suc, ◌<◌, ◌≤◌, true, false, List, [], ◌∷◌, ◌++◌, map, length, refl, sym, ap, ap₂, ◌∙◌, subst, arith}
-use Rattle.std.specs.Prelude.{Option, None, Some, IsSome, slice_get, ◌&&◌, nat_eq, cond, option_map, option_and_then}
+use Rattle.std.proofs.Common.{◌≡◌, inl, inr, IsTrue, ℕ, ◌<◌, ◌≤◌, true, List, [], ◌∷◌, ◌++◌, map, length, refl, sym, ap, ap₂, ◌∙◌, subst}
+use Rattle.std.specs.Prelude.{None, nat_eq}
 use Rattle.std.specs.List.{AllByRecursion}
-use Rattle.std.proofs.lemmas.Bool.{cond_both, cond-true, and_parts, or_cases, eqb-true}
-use Rattle.std.proofs.lemmas.Option.{same_Some, slice_get_within}
-use Rattle.std.proofs.lemmas.List.{map-append, map-id, append-nil, length_push}
+use Rattle.std.proofs.lemmas.Bool.{or_cases, eqb-true}
+use Rattle.std.proofs.lemmas.List.{map-append, map-id, append-nil}
 use Rattle.semiring_laws.specs.Semiring.{Operations, IsSemiring, Fits, Below}
 use Rattle.semiring_laws.specs.Combination.{combination}
-use Rattle.semiring_laws.proofs.OfOrder.{combine_zero}
 use Rattle.weighted_automata.specs.declared.place.Place.{Place}
 use Rattle.weighted_automata.specs.declared.place.Label.{Label}
 use Rattle.weighted_automata.specs.declared.place.Label.TheVariants.{Symbol, Empty}
 use Rattle.weighted_automata.specs.declared.transitions.Entry.{Entry}
-use Rattle.weighted_automata.specs.Entries.{entry_at, Present}
-use Rattle.weighted_automata.proofs.OfPlaces.{same_place_itself}
-use Rattle.weighted_automata.proofs.OfEntries.{entry_at-place}
 use Rattle.witness_graph.specs.declared.node.Node.{Node}
-use Rattle.witness_graph.specs.declared.node.Node.TheVariants.{Start, Lower}
 use Rattle.witness_graph.specs.declared.node.Side.{Side}
 use Rattle.witness_graph.specs.declared.node.Side.TheVariants.{Pre, Post}
 use Rattle.witness_graph.specs.Runs.{runs_of, concatenations, part_runs, rule_runs, parts_runs}
-use Rattle.witness_graph.proofs.OfRuns.{runs_of-push_old, runs_of-push_new}
 use Rattle.pushdown_rules.specs.Configuration.{Configuration}
 use Rattle.pushdown_rules.specs.Pushdown.{Pushdown}
 use Rattle.saturation_core.specs.declared.opening.Opening.{Opening}
 use Rattle.saturation_core.specs.Lists.{IsIn}
-use Rattle.saturation_core.specs.States.{CoreState, Change, weight_of, weight_at, apply}
+use Rattle.saturation_core.specs.States.{CoreState, weight_at}
 use Rattle.saturation_core.specs.Directions.{AreRuns}
 use Rattle.saturation_core.specs.Invariants.{IsSound}
-use Rattle.saturation_core.specs.Paths.{symbols_of, IsPath, EachRun, runs_in_order, joined, in_order, along, Reads, IsOpened, Joins, IsGiven}
-use Rattle.saturation_core.proofs.OfLists.{has_place_is, get_push}
-use Rattle.semiring_laws.proofs.OfOrder.{below_itself, below_trans}
+use Rattle.saturation_core.specs.Paths.{symbols_of, IsPath, EachRun, runs_in_order, joined, in_order, along, Joins, IsGiven}
+use Rattle.saturation_core.proofs.OfLists.{has_place_is}
 use Rattle.saturation_core.proofs.OfCombinations.{IsLinear, bilinear, all_pairs, then_empty}
-use Rattle.saturation_core.proofs.Lowering.{IsSoundState, IsSoundChange, Grows, weights_fit, tight_same}
-use Rattle.saturation_core.proofs.Settling.{Applies, apply_keeps}
-use Rattle.path_sum.specs.Sums.{Ways, HasWay, pair_place, answer_place, Moves, can_move, has_state, Move, Along, End, along_change, end_change, move, grow, bare_sum, PairRun, AnswerRun, SumRun}
+use Rattle.saturation_core.proofs.Lowering.{IsSoundState, IsSoundChange}
+use Rattle.path_sum.specs.Sums.{Ways, pair_place, answer_place, Moves, can_move, has_state, along_change, end_change, PairRun, AnswerRun, SumRun}
 use Rattle.path_sum.proofs.OfOrders.{along_more, joined_more, path_more, each_more, read_more}
 
 -- each run after the empty one
@@ -108,8 +99,8 @@ module _ {S W Map : Type 0} {s : Operations W Map} (laws : IsSemiring s) (value 
       let two = gives (over (word ++ symbols_of x.label)) (xs ++ x ∷ []) (rs ++ b ∷ []) x.to control path each in (
         (word ++ symbols_of x.label, xs ++ x ∷ [], rs ++ b ∷ [], reads, path, each, is),
         ap value is ∙ two.value_is ∙ ap (along s side) (map-append value rs (b ∷ []))
-        ∙ along_more laws side (map value rs) (value b) (values_fit laws value fits_value rs) (fits_value b)
-        ∙ ap (λ w. in_order s side w (value b)) (sym one.value_is ∙ ap value (sym pair.6)),
+            ∙ along_more laws side (map value rs) (value b) (values_fit laws value fits_value rs) (fits_value b)
+            ∙ ap (λ w. in_order s side w (value b)) (sym one.value_is ∙ ap value (sym pair.6)),
       )
 
   along_runs : (sd : Side) → side ≡ sd → (known : ℕ → List (List ℕ)) (i j : ℕ) (u t : Entry S W Map) → u.place ≡ pair_place i t.place.from → Moves ways.edges i t.place.label j
@@ -138,8 +129,8 @@ module _ {S W Map : Type 0} {s : Operations W Map} (laws : IsSemiring s) (value 
   along_sound nodes i j u t at moves us ts =
       let is = along_runs side refl (runs_of side nodes) i j u t at moves us.are_runs ts.are_runs in
       elim side as (λ sd. side ≡ sd → AreRuns s value sums (pair_place j t.place.to) (in_order s sd u.weight t.weight)
-        (parts_runs sd (rule_runs None) (part_runs (runs_of side nodes) (along_change s sd j u t).first) (part_runs (runs_of side nodes) (along_change s sd j u t).second))
-        → IsSoundChange s value sums side nodes (along_change s side j u t)) [
+      (parts_runs sd (rule_runs None) (part_runs (runs_of side nodes) (along_change s sd j u t).first) (part_runs (runs_of side nodes) (along_change s sd j u t).second))
+      → IsSoundChange s value sums side nodes (along_change s side j u t)) [
         | Pre ↦ λ e a. let T : Side → Type 0 = λ sd. IsSoundChange s value sums side nodes (along_change s sd j u t) in
             let R : Side → Type 0 = λ sd. AreRuns s value sums (pair_place j t.place.to) (s.extend u.weight t.weight)
             (parts_runs sd (rule_runs None) (runs_of side nodes u.node) (runs_of side nodes t.node)) in

@@ -1,6 +1,6 @@
 -- The automaton of a pattern reads its members.
-use Rattle.std.proofs.Common.{◌≡◌, inl, inr, IsTrue, ℕ, true, List, [], ◌∷◌, map, refl, sym, ap, ◌∙◌, subst}
-use Rattle.std.specs.Prelude.{◌↔◌, ◌&&◌, nat_eq}
+use Rattle.std.proofs.Common.{◌≡◌, inl, inr, IsTrue, ℕ, List, [], ◌∷◌, map, ap, ◌∙◌, subst}
+use Rattle.std.specs.Prelude.{◌↔◌, nat_eq}
 use Rattle.std.proofs.lemmas.Bool.{and_parts, and_from, eq-eqb, eqb-true}
 use Rattle.weighted_automata.specs.declared.place.Place.{Place}
 use Rattle.weighted_automata.specs.declared.place.Label.{Label}

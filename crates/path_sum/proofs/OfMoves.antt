@@ -1,14 +1,12 @@
 -- Moves one after another, and all that goes on from a pair.
-use Rattle.std.proofs.Common.{◌≡◌, ◌⊎◌, inl, inr, Bool, IsTrue, ℕ, true, false, List, [], ◌∷◌, ◌++◌, refl, sym, ap, ap₂, ◌∙◌, subst}
-use Rattle.std.specs.Prelude.{Option, None, Some, ◌&&◌, ◌||◌, nat_eq, cond, option_and_then}
+use Rattle.std.proofs.Common.{◌≡◌, inl, inr, Bool, IsTrue, ℕ, true, List, [], ◌∷◌, ◌++◌, refl, sym, ap, ◌∙◌, subst}
+use Rattle.std.specs.Prelude.{None, Some, ◌&&◌, nat_eq, option_and_then}
 use Rattle.std.proofs.lemmas.Bool.{cond_both, cond-true, and_from, or_left, or_right, eq-eqb}
 use Rattle.semiring_laws.specs.Semiring.{Operations}
 use Rattle.weighted_automata.specs.declared.place.Place.{Place}
-use Rattle.weighted_automata.specs.declared.place.Label.{Label}
 use Rattle.weighted_automata.specs.declared.place.Label.TheVariants.{Symbol, Empty}
 use Rattle.weighted_automata.specs.declared.transitions.Entry.{Entry}
 use Rattle.weighted_automata.specs.Places.{same_label}
-use Rattle.weighted_automata.specs.Entries.{entry_at, Present}
 use Rattle.witness_graph.specs.declared.node.Node.{Node}
 use Rattle.witness_graph.specs.declared.node.Side.{Side}
 use Rattle.saturation_core.specs.declared.opening.Opening.{Opening}
@@ -16,7 +14,7 @@ use Rattle.saturation_core.specs.Lists.{IsIn}
 use Rattle.saturation_core.specs.States.{CoreState}
 use Rattle.saturation_core.proofs.OfLists.{in_left, in_append}
 use Rattle.path_sum.proofs.OfEntries.{in_right, entry_in}
-use Rattle.path_sum.specs.Sums.{Ways, pair_place, Moves, has_state, Move, Along, End, Done, move, grow, bare_sum, IsGrown, IsWork, edge_moves, moves_by, pair_moves, end_moves, moves_of}
+use Rattle.path_sum.specs.Sums.{Ways, Moves, has_state, Move, Along, End, Done, move, grow, bare_sum, IsGrown, IsWork, edge_moves, moves_by, pair_moves, end_moves, moves_of}
 
 module _ {S W Map : Type 0} (s : Operations W Map) (side : Side) (o : Opening) (ts : List (Entry S W Map)) (ways : Ways) where
   -- moves and then more moves

@@ -1,20 +1,18 @@
 -- What a closed sum lies below.
-use Rattle.std.proofs.Common.{◌≡◌, ◌≢◌, ◌⊎◌, inl, inr, IsTrue, ℕ, ◌<◌, true, false, List, [], ◌∷◌, ◌++◌, map, refl, sym, ap, ap₂, ◌∙◌, subst}
-use Rattle.std.specs.Prelude.{Option, None, Some}
+use Rattle.std.proofs.Common.{◌≡◌, IsTrue, ℕ, List, [], ◌∷◌, map, refl, sym, ap₂, ◌∙◌, subst}
+use Rattle.std.specs.Prelude.{None, Some}
 use Rattle.std.specs.List.{AllByRecursion}
-use Rattle.std.proofs.lemmas.Bool.{cases_Bool}
 use Rattle.semiring_laws.specs.Semiring.{Operations, IsSemiring, Fits, Below}
 use Rattle.weighted_automata.specs.declared.place.Place.{Place}
 use Rattle.weighted_automata.specs.declared.transitions.Entry.{Entry}
 use Rattle.weighted_automata.specs.Entries.{entry_at, Present}
 use Rattle.witness_graph.specs.declared.node.Side.{Side}
 use Rattle.pushdown_rules.specs.Configuration.{Configuration}
-use Rattle.pushdown_rules.specs.Pushdown.{Pushdown}
 use Rattle.saturation_core.specs.declared.opening.Opening.{Opening}
-use Rattle.saturation_core.specs.Jobs.{Tables, place_of}
+use Rattle.saturation_core.specs.Jobs.{place_of}
 use Rattle.saturation_core.specs.Lists.{IsIn}
 use Rattle.saturation_core.specs.States.{weight_of, weight_at}
-use Rattle.saturation_core.specs.Paths.{symbols_of, IsPath, in_order, along, Reads, IsOpened, Joins, entry_weight, IsMet, IsSaturated, HasSums}
+use Rattle.saturation_core.specs.Paths.{IsPath, in_order, along, Reads, entry_weight, IsMet}
 use Rattle.semiring_laws.proofs.OfOrder.{below_itself, below_trans, below_zero}
 use Rattle.path_sum.specs.Sums.{Ways, HasWay, pair_place, answer_place, Moves, IsSummed}
 use Rattle.path_sum.proofs.OfOrders.{order_fits, order_assoc, order_one_left, order_one_right, order_zero_left, order_below, along_fit, moves_first}

@@ -1,22 +1,21 @@
 -- A sum stays among its places, and how many there are.
-use Rattle.std.proofs.Common.{◌≡◌, ◌⊎◌, inl, inr, IsTrue, ℕ, zero, suc, ◌+◌, ◌*◌, ◌-◌, ◌<◌, ◌≤◌, Bool, true, false, List, [], ◌∷◌, ◌++◌, map, drop, length, refl, sym, ap, ◌∙◌, subst, arith}
-use Rattle.std.specs.Prelude.{◌&&◌, ◌||◌, nat_eq}
+use Rattle.std.proofs.Common.{◌≡◌, inl, inr, ℕ, zero, suc, ◌+◌, ◌*◌, ◌<◌, true, List, [], ◌∷◌, ◌++◌, map, drop, length, refl, ap, subst, arith}
 use Rattle.std.proofs.lemmas.Bool.{cond_both, and_parts, cases_lt, false≢true}
 use Rattle.std.proofs.lemmas.List.{length-drop, length-map, length-append}
 use Rattle.weighted_automata.specs.declared.place.Place.{Place}
 use Rattle.weighted_automata.specs.declared.place.Label.{Label}
 use Rattle.weighted_automata.specs.declared.place.Label.TheVariants.{Symbol, Empty}
 use Rattle.weighted_automata.specs.declared.transitions.Entry.{Entry}
-use Rattle.weighted_automata.specs.Entries.{entry_at, Present}
+use Rattle.weighted_automata.specs.Entries.{Present}
 use Rattle.config_patterns.specs.declared.item.Item.{Item}
 use Rattle.config_patterns.specs.declared.edge.Edge.{Edge}
-use Rattle.config_patterns.specs.Membership.{Described, has_symbol}
+use Rattle.config_patterns.specs.Membership.{Described}
 use Rattle.config_patterns.specs.Edges.{edges_of, leads_to, stays_on}
 use Rattle.config_patterns.specs.Paths as paths
 use Rattle.config_patterns.proofs.OfSkips.{edges_are}
 use Rattle.saturation_core.specs.Lists.{IsIn}
 use Rattle.saturation_core.proofs.OfLists.{in_left, in_append}
-use Rattle.path_sum.specs.Sums.{Ways, ways_of, edge_place, pair_place, answer_place, Moves, has_state, AreReachable}
+use Rattle.path_sum.specs.Sums.{Ways, ways_of, edge_place, pair_place, Moves, has_state, AreReachable}
 use Rattle.path_sum.specs.Pairs.{distinct, states_of, pairs_of, sum_places}
 use Rattle.path_sum.proofs.OfEntries.{in_right, entry_in}
 use Rattle.path_sum.proofs.OfGrowing.{has_state_is}

@@ -1,12 +1,12 @@
 -- What is known of a state on which a pair can be worked.
-use Rattle.std.proofs.Common.{◌≡◌, ◌⊎◌, inl, inr, ℕ, ◌<◌, ◌≤◌, true, false, List, [], ◌∷◌, ◌++◌, length, refl, sym, ap, ◌∙◌, subst, arith}
-use Rattle.std.specs.Prelude.{Option, None, Some, IsSome, option_map, option_and_then, slice_get}
+use Rattle.std.proofs.Common.{◌≡◌, inl, inr, ℕ, ◌<◌, ◌≤◌, List, length, refl, sym, subst, arith}
+use Rattle.std.specs.Prelude.{Option, Some, IsSome, option_map, option_and_then, slice_get}
 use Rattle.std.proofs.lemmas.Bool.{cond_both}
 use Rattle.std.proofs.lemmas.List.{length_push}
 use Rattle.semiring_laws.specs.Semiring.{Operations, IsSemiring, Fits}
 use Rattle.weighted_automata.specs.declared.place.Place.{Place}
 use Rattle.weighted_automata.specs.declared.transitions.Entry.{Entry}
-use Rattle.weighted_automata.specs.Entries.{entry_at, lowered, Present}
+use Rattle.weighted_automata.specs.Entries.{entry_at}
 use Rattle.weighted_automata.proofs.OfPlaces.{cases_place}
 use Rattle.weighted_automata.proofs.OfEntries.{entry_at-lowered_same, entry_at-lowered_other}
 use Rattle.witness_graph.specs.declared.node.Node.TheVariants.{Lower}

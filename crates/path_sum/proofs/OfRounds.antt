@@ -1,13 +1,12 @@
 -- A sum on its way, from the first pair until none waits.
-use Rattle.std.proofs.Common.{◌≡◌, ◌⊎◌, inl, inr, ℕ, suc, ◌+◌, ◌-◌, ◌*◌, ◌<◌, ◌≤◌, true, false, List, [], ◌∷◌, ◌++◌, length, refl, sym, ap, ◌∙◌, subst, arith}
+use Rattle.std.proofs.Common.{◌≡◌, inl, inr, ℕ, ◌+◌, ◌-◌, ◌*◌, ◌<◌, ◌≤◌, List, [], ◌∷◌, length, refl, sym, ap, ◌∙◌, subst, arith}
 use Rattle.std.specs.Prelude.{Option, None, Some, IsSome, option_and_then}
 use Rattle.std.proofs.lemmas.Bool.{cond_both}
 use Rattle.std.proofs.lemmas.List.{length_push}
-use Rattle.semiring_laws.specs.Semiring.{Operations, IsSemiring, Fits}
+use Rattle.semiring_laws.specs.Semiring.{Operations, IsSemiring}
 use Rattle.weighted_automata.specs.declared.place.Place.{Place}
 use Rattle.weighted_automata.specs.declared.transitions.Entry.{Entry}
 use Rattle.weighted_automata.specs.Places.{same_place}
-use Rattle.weighted_automata.specs.Entries.{entry_at}
 use Rattle.weighted_automata.proofs.OfPlaces.{same_place_is}
 use Rattle.witness_graph.specs.declared.node.Node.{Node}
 use Rattle.witness_graph.specs.declared.node.Node.TheVariants.{Start}
@@ -23,7 +22,7 @@ use Rattle.path_sum.specs.Pairs.{sum_places}
 use Rattle.path_sum.specs.Summing.{IsSummable}
 use Rattle.path_sum.proofs.OfGrowing.{IsSum}
 use Rattle.path_sum.proofs.OfSums.{grown_good}
-use Rattle.path_sum.proofs.OfWorking.{work_keeps, bare_awaited, moves_count, left, work_falls, summed_up, fallen_top}
+use Rattle.path_sum.proofs.OfWorking.{work_keeps, bare_awaited, moves_count, work_falls, summed_up, fallen_top}
 use Rattle.path_sum.proofs.OfMoves.{moves_work, grown_on}
 use Rattle.path_sum.proofs.OfPlaces.{places_reach}
 

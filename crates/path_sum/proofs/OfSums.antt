@@ -1,6 +1,6 @@
 -- A sum that is grown and closed answers the query.
-use Rattle.std.proofs.Common.{◌≡◌, ◌≢◌, ◌⊎◌, inl, inr, Bool, ℕ, suc, ◌<◌, ◌≤◌, true, false, List, [], ◌∷◌, ◌++◌, map, length, refl, sym, ap, ap₂, ◌∙◌, subst, arith}
-use Rattle.std.specs.Prelude.{Option, None, Some, IsTrue, IsSome, slice_get, ◌&&◌, cond, option_map, option_and_then}
+use Rattle.std.proofs.Common.{◌≡◌, inl, inr, Bool, ℕ, ◌<◌, true, false, List, [], ◌∷◌, map, length, refl, sym, ap, ◌∙◌, subst, arith}
+use Rattle.std.specs.Prelude.{Option, None, Some, IsTrue, IsSome, slice_get, ◌&&◌, option_map, option_and_then}
 use Rattle.std.specs.List.{AllByRecursion}
 use Rattle.std.proofs.lemmas.Bool.{cond_both, cond-true, and_parts, cases_Bool}
 use Rattle.std.proofs.lemmas.Option.{same_Some, slice_get_within}
@@ -22,7 +22,6 @@ use Rattle.witness_graph.specs.Runs.{runs_of}
 use Rattle.witness_graph.proofs.OfRuns.{runs_of-push_old, runs_of-push_new}
 use Rattle.pushdown_rules.specs.Configuration.{Configuration}
 use Rattle.pushdown_rules.specs.Pushdown.{Pushdown}
-use Rattle.pushdown_rules.specs.Firing.{Run}
 use Rattle.pushdown_rules.specs.Values.{value_of}
 use Rattle.saturation_core.specs.declared.opening.Opening.{Opening}
 use Rattle.saturation_core.specs.Jobs.{Tables}
@@ -33,12 +32,12 @@ use Rattle.saturation_core.specs.Invariants.{IsSound, HasShape}
 use Rattle.witness_graph.specs.Nodes.{AreNodes, is_orderly}
 use Rattle.witness_graph.specs.Tight.{IsTightNode}
 use Rattle.witness_graph.proofs.OfNodes.{nodes_push}
-use Rattle.saturation_core.specs.Paths.{IsPath, EachRun, IsOpened, Joins, IsMet, IsSaturated, IsGiven, HasSums}
+use Rattle.saturation_core.specs.Paths.{IsPath, EachRun, IsOpened, Joins, IsSaturated, IsGiven, HasSums}
 use Rattle.saturation_core.proofs.OfLists.{get_push}
 use Rattle.semiring_laws.proofs.OfOrder.{below_itself, below_trans, below_zero}
-use Rattle.saturation_core.proofs.Lowering.{IsSoundState, IsSoundChange, weights_fit, tight_same}
-use Rattle.saturation_core.proofs.Settling.{Applies, apply_keeps}
-use Rattle.path_sum.specs.Sums.{Ways, HasWay, pair_place, answer_place, Moves, can_move, has_state, Move, Along, End, Done, along_change, end_change, move, grow, bare_sum, IsGrown, IsSummed, PairRun, AnswerRun, SumRun}
+use Rattle.saturation_core.proofs.Lowering.{IsSoundChange, weights_fit, tight_same}
+use Rattle.saturation_core.proofs.Settling.{apply_keeps}
+use Rattle.path_sum.specs.Sums.{Ways, HasWay, pair_place, answer_place, Moves, can_move, has_state, Move, Along, End, Done, along_change, end_change, move, grow, bare_sum, IsGrown, IsSummed, AnswerRun, SumRun}
 use Rattle.pushdown_rules.specs.Answers.{Leads, Answers}
 use Rattle.path_sum.specs.Answers.{IsQuery, first_of, last_of, listed, answer_runs}
 use Rattle.path_sum.proofs.OfPairs.{met_below}
@@ -183,7 +182,6 @@ module _ {S W Map : Type 0} {s : Operations W Map} (laws : IsSemiring s) (value 
             (end_sound laws value fits_value p side o ways runs control gives st.nodes i q u (entry_at-place (pair_place i q) st.transitions u e) tests.0 (has_state_is q o.finals tests.1) us))
       ] refl)
       (λ cannot g. cc) h
-
   move_good Done st new good h =
       elim st.queue as (λ q. st.queue ≡ q → (elim q [ [] ↦ None | x ∷ r ↦ Some (record { transitions = st.transitions; nodes = st.nodes; queue = r; hands = st.hands }) ]) ≡ Some new → Good new) [
         | [] ↦ λ e g. cc

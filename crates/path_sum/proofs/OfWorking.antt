@@ -1,6 +1,6 @@
 -- Work on the pairs that wait, until none does.
-use Rattle.std.proofs.Common.{◌≡◌, ◌≢◌, ◌⊎◌, inl, inr, IsTrue, ℕ, suc, ◌+◌, ◌-◌, ◌*◌, ◌<◌, ◌≤◌, true, false, List, [], ◌∷◌, length, refl, sym, ap, ap₂, ◌∙◌, subst, arith}
-use Rattle.std.specs.Prelude.{Option, None, Some, IsSome, is_some, ◌&&◌, option_map, option_and_then}
+use Rattle.std.proofs.Common.{◌≡◌, ◌⊎◌, inl, inr, ℕ, suc, ◌+◌, ◌-◌, ◌*◌, ◌<◌, ◌≤◌, List, [], ◌∷◌, length, refl, sym, ap, ◌∙◌, subst, arith}
+use Rattle.std.specs.Prelude.{Option, None, Some, is_some, ◌&&◌, option_map, option_and_then}
 use Rattle.std.proofs.lemmas.Bool.{cond_both, and_parts}
 use Rattle.std.proofs.lemmas.Option.{same_Some}
 use Rattle.semiring_laws.specs.Semiring.{Operations, IsSemiring, Fits, Below}
@@ -16,17 +16,17 @@ use Rattle.saturation_core.specs.declared.opening.Opening.{Opening}
 use Rattle.saturation_core.specs.Bound.{fallen}
 use Rattle.saturation_core.proofs.Bounding.{Counts, counts_itself, counts_further, apply_counts}
 use Rattle.saturation_core.specs.Lists.{IsIn}
-use Rattle.saturation_core.specs.States.{CoreState, Change, weight_of, weight_at, apply}
+use Rattle.saturation_core.specs.States.{CoreState, Change, weight_at, apply}
 use Rattle.saturation_core.specs.Invariants.{IsSound, HasShape}
 use Rattle.saturation_core.specs.Paths.{IsPath, EachRun, in_order, IsGiven}
 use Rattle.semiring_laws.proofs.OfOrder.{below_trans}
 use Rattle.path_sum.proofs.OfEntries.{entry_in}
-use Rattle.saturation_core.proofs.Lowering.{IsSoundState, IsSoundChange, Grows, weights_fit, entry_fits}
-use Rattle.saturation_core.proofs.Settling.{Applies, apply_keeps, grows_itself, grows_further}
+use Rattle.saturation_core.proofs.Lowering.{IsSoundChange, Grows, weights_fit, entry_fits}
+use Rattle.saturation_core.proofs.Settling.{apply_keeps, grows_itself, grows_further}
 use Rattle.path_sum.specs.Sums.{Ways, pair_place, answer_place, Moves, can_move, has_state, Move, Along, End, Done, along_change, end_change, move, grow, bare_sum, IsSummed, SumRun, IsAwaited, IsAmong, AreReachable, IsWork}
 use Rattle.path_sum.proofs.OfOrders.{order_fits}
 use Rattle.path_sum.proofs.OfGrowing.{can_move_is, has_state_is, IsSum, along_sound, end_sound}
-use Rattle.path_sum.proofs.OfSums.{itself, still_sound, move_good, grow_good}
+use Rattle.path_sum.proofs.OfSums.{still_sound, move_good, grow_good}
 
 suc_times : (n t : ℕ) → suc n * t ≡ t + n * t
 suc_times n t = omega arith

@@ -1,8 +1,6 @@
 -- What an answer to a query is, and what a sum answers.
-use Rattle.std.specs.Prelude.{◌≡◌, ◌↔◌, ℕ, ◌+◌, ◌-◌, ◌*◌, ◌<◌, ◌≤◌, length, Bool, IsTrue, List, [], map, Option, None, Some}
-use Rattle.std.specs.List.{AllByRecursion}
-use Rattle.semiring_laws.specs.Semiring.{Operations, Below}
-use Rattle.semiring_laws.specs.Combination.{combination}
+use Rattle.std.specs.Prelude.{◌≡◌, ◌↔◌, ℕ, ◌+◌, ◌-◌, ◌*◌, ◌<◌, ◌≤◌, length, Bool, IsTrue, List, [], Option, None, Some}
+use Rattle.semiring_laws.specs.Semiring.{Operations}
 use Rattle.weighted_automata.specs.declared.transitions.Entry.{Entry}
 use Rattle.weighted_automata.specs.Entries.{entry_at}
 use Rattle.witness_graph.specs.declared.node.Side.{Side}
@@ -10,8 +8,6 @@ use Rattle.witness_graph.specs.declared.node.Side.TheVariants.{Pre, Post}
 use Rattle.witness_graph.specs.Runs.{runs_of}
 use Rattle.pushdown_rules.specs.Configuration.{Configuration}
 use Rattle.pushdown_rules.specs.Pushdown.{Pushdown}
-use Rattle.pushdown_rules.specs.Firing.{Run}
-use Rattle.pushdown_rules.specs.Values.{value_of}
 use Rattle.saturation_core.specs.declared.opening.Opening.{Opening}
 use Rattle.saturation_core.specs.States.{CoreState, weight_at}
 use Rattle.saturation_core.specs.Paths.{IsOpened}

@@ -1,5 +1,5 @@
 -- An automaton to which nothing is to be added.
-use Rattle.std.specs.Prelude.{◌≡◌, ℕ, ◌<◌, Bool, List, [], IsTrue, IsSome}
+use Rattle.std.specs.Prelude.{ℕ, Bool, List, [], IsTrue, IsSome}
 use Rattle.semiring_laws.specs.Semiring.{Operations, Below}
 use Rattle.weighted_automata.specs.declared.place.Place.{Place}
 use Rattle.weighted_automata.specs.declared.transitions.Entry.{Entry}

@@ -1,5 +1,5 @@
 -- What a sum rests on.
-use Rattle.std.specs.Prelude.{◌≡◌, ℕ, ◌<◌, List, []}
+use Rattle.std.specs.Prelude.{ℕ, ◌<◌, List, []}
 use Rattle.semiring_laws.specs.Semiring.{Operations, Fits}
 use Rattle.weighted_automata.specs.declared.place.Place.{Place}
 use Rattle.weighted_automata.specs.declared.transitions.Entry.{Entry}

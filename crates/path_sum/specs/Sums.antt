@@ -1,5 +1,5 @@
 -- The sum over the paths that read a pattern, as a state that grows.
-use Rattle.std.specs.Prelude.{◌≡◌, ◌⊎◌, ℕ, zero, suc, ◌+◌, map, ◌<◌, Bool, false, ◌||◌, ◌&&◌, nat_eq, IsTrue, List, [], ◌∷◌, ◌++◌, length, Option, None, Some, IsSome, replicate, option_map, option_and_then, if◌then◌else◌}
+use Rattle.std.specs.Prelude.{◌≡◌, ◌⊎◌, ℕ, ◌+◌, map, ◌<◌, Bool, ◌&&◌, nat_eq, IsTrue, List, [], ◌∷◌, ◌++◌, length, Option, None, Some, IsSome, replicate, option_map, option_and_then, if◌then◌else◌}
 use Rattle.std.specs.List.{list_any}
 use Rattle.semiring_laws.specs.Semiring.{Operations, Below}
 use Rattle.weighted_automata.specs.declared.place.Place.{Place}

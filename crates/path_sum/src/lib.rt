@@ -4,7 +4,6 @@
 
 mod answer;
 mod change;
-
 mod growing;
 mod queue;
 mod summing;

@@ -132,5 +132,13 @@ pub fn sum<S: Semiring, D: Direction<S>>(
     let opening = book.opening();
     let transitions = book.transitions();
     let graph = book.graph();
-    sum_parts(alloc, system, &direction, opening, transitions, graph, pattern)
+    sum_parts(
+        alloc,
+        system,
+        &direction,
+        opening,
+        transitions,
+        graph,
+        pattern,
+    )
 }

@@ -1,4 +1,4 @@
-use Rattle.std.proofs.Common.{◌≡◌, sym, subst}
+use Rattle.std.proofs.Common.{sym, subst}
 use Rattle.std.specs.Prelude.{IfOk}
 use Rattle.config_patterns.specs.Membership.{has_member}
 use Rattle.path_sum.specs.Answers.{AnswersOpening, listed_runs}

@@ -1,4 +1,4 @@
-use Rattle.std.proofs.Common.{◌≡◌, length, sym, ap, ◌∙◌, subst}
+use Rattle.std.proofs.Common.{length, sym, ap, ◌∙◌, subst}
 use Rattle.weighted_automata.specs.Entries.{entry_at}
 use Rattle.saturation_core.specs.Openings.{AreKept}
 use Rattle.saturation_core.specs.States.{weight_at}
@@ -16,10 +16,12 @@ rounds-init g c =
     let sums = g.met.D.Direction.sums d p c.args.opening.now valid c.requires.automaton.fits in
     let is_task = task_is g.S.Semiring.operations g.S.Semiring.laws g.D.Direction.tables g.D.Direction.fits_opening g.D.Direction.runs c.args.system.now valid c.args.direction.now c.args.opening.now c.args.transitions.now.transitions
     c.args.graph.now.nodes c.requires.automaton sums c.args.pattern.now c.requires.pattern
-    c.in_ok-task.task c.semiring-semiring.result.now c.side-side.result c.in_ok-task.ensures c.semiring-semiring.ensures.value (c.side-side.ensures p) in
-    (begun_at g.S.Semiring.operations g.S.Semiring.laws g.D.Direction.tables g.D.Direction.fits_opening g.D.Direction.runs c.args.system.now valid c.args.direction.now c.args.opening.now c.args.transitions.now.transitions
-    c.args.graph.now.nodes c.requires.automaton sums c.args.pattern.now c.requires.pattern
-    c.in_ok-task.task is_task (state_of c.in_ok-sum.sum) c.in_ok-sum.ensures.state, c.in_ok-sum.ensures.side)
+    c.in_ok-task.task c.semiring-semiring.result.now c.side-side.result c.in_ok-task.ensures c.semiring-semiring.ensures.value (c.side-side.ensures p) in (
+      begun_at g.S.Semiring.operations g.S.Semiring.laws g.D.Direction.tables g.D.Direction.fits_opening g.D.Direction.runs c.args.system.now valid c.args.direction.now c.args.opening.now c.args.transitions.now.transitions
+          c.args.graph.now.nodes c.requires.automaton sums c.args.pattern.now c.requires.pattern
+          c.in_ok-task.task is_task (state_of c.in_ok-sum.sum) c.in_ok-sum.ensures.state,
+      c.in_ok-sum.ensures.side,
+    )
 
 pub draw-requires : goal.draw-requires
 draw-requires g c =
@@ -30,9 +32,11 @@ draw-requires g c =
     let is_task = task_is g.S.Semiring.operations g.S.Semiring.laws g.D.Direction.tables g.D.Direction.fits_opening g.D.Direction.runs c.args.system.now valid c.args.direction.now c.args.opening.now c.args.transitions.now.transitions
     c.args.graph.now.nodes c.requires.automaton sums c.args.pattern.now c.requires.pattern
     c.in_ok-task.task c.semiring-semiring.result.now c.side-side.result c.in_ok-task.ensures c.semiring-semiring.ensures.value (c.side-side.ensures p) in
-    record { ready = ready_at g.S.Semiring.operations g.S.Semiring.laws g.D.Direction.tables g.D.Direction.fits_opening g.D.Direction.runs c.args.system.now valid c.args.direction.now c.args.opening.now c.args.transitions.now.transitions
-    c.args.graph.now.nodes c.requires.automaton sums c.args.pattern.now c.requires.pattern
-    c.in_ok-task.task is_task (state_of c.rounds.sum) c.in-Some.place c.next.new.waiting.items c.rounds.invariant.0 c.in-Some.ensures }
+    record {
+      ready = ready_at g.S.Semiring.operations g.S.Semiring.laws g.D.Direction.tables g.D.Direction.fits_opening g.D.Direction.runs c.args.system.now valid c.args.direction.now c.args.opening.now c.args.transitions.now.transitions
+          c.args.graph.now.nodes c.requires.automaton sums c.args.pattern.now c.requires.pattern
+          c.in_ok-task.task is_task (state_of c.rounds.sum) c.in-Some.place c.next.new.waiting.items c.rounds.invariant.0 c.in-Some.ensures;
+    }
 
 pub rounds-smaller : goal.rounds-smaller
 rounds-smaller g c =
@@ -77,9 +81,11 @@ list_answer-requires g c =
     let p = c.args.system.now in
     let d = c.args.direction.now in
     let valid = c.semiring-semiring.ensures.valid in
-    let sums = g.met.D.Direction.sums d p c.args.opening.now valid c.requires.automaton.fits in
-    (g.S.Semiring.operations p.semiring, kept_at g.S.Semiring.operations g.S.Semiring.laws g.D.Direction.tables g.D.Direction.fits_opening g.D.Direction.runs c.args.system.now valid c.args.direction.now c.args.opening.now c.args.transitions.now.transitions
-    c.args.graph.now.nodes c.requires.automaton sums c.args.pattern.now c.requires.pattern (state_of c.rounds.sum) c.rounds.invariant.0)
+    let sums = g.met.D.Direction.sums d p c.args.opening.now valid c.requires.automaton.fits in (
+      g.S.Semiring.operations p.semiring,
+      kept_at g.S.Semiring.operations g.S.Semiring.laws g.D.Direction.tables g.D.Direction.fits_opening g.D.Direction.runs c.args.system.now valid c.args.direction.now c.args.opening.now c.args.transitions.now.transitions
+          c.args.graph.now.nodes c.requires.automaton sums c.args.pattern.now c.requires.pattern (state_of c.rounds.sum) c.rounds.invariant.0,
+    )
 
 pub returns-clause-answers : goal.returns-clause-answers
 returns-clause-answers g c =

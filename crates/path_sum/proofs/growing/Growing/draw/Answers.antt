@@ -1,4 +1,3 @@
-use Rattle.std.proofs.Common.{◌≡◌, sym, ◌∙◌}
 use Rattle.path_sum.specs.Sums.{ways_of}
 use Rattle.path_sum.specs.Growings.{state_of}
 use Rattle.path_sum.proofs.OfLoops.{drawn_all}

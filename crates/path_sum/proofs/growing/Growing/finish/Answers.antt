@@ -1,4 +1,4 @@
-use Rattle.std.proofs.Common.{◌≡◌, length, sym, subst}
+use Rattle.std.proofs.Common.{length, sym, subst}
 use Rattle.semiring_laws.specs.Semiring.{Fits}
 use Rattle.path_sum.specs.Sums.{pair_place}
 use Rattle.path_sum.proofs.OfReady.{found_kept}

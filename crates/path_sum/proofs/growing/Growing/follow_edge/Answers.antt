@@ -1,4 +1,4 @@
-use Rattle.std.proofs.Common.{◌≡◌, true, sym, ◌∙◌}
+use Rattle.std.proofs.Common.{sym, ◌∙◌}
 use Rattle.path_sum.specs.Sums.{ways_of}
 use Rattle.path_sum.proofs.OfLoops.{edge_goes}
 use Rattle.path_sum.proofs.growing.Growing.follow_edge.Goals as goal

@@ -1,4 +1,4 @@
-use Rattle.std.proofs.Common.{◌≡◌, sym, ◌∙◌}
+use Rattle.std.proofs.Common.{◌∙◌}
 use Rattle.path_sum.specs.Sums.{ways_of}
 use Rattle.path_sum.specs.Growings.{state_of}
 use Rattle.config_patterns.specs.Edges.{edges_of}
