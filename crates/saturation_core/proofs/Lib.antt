@@ -14,7 +14,11 @@ pub mod Kept
 pub mod OfChanges
 pub mod OfStarts
 pub mod Begun
+pub mod OfCombinations
 pub mod Planning
 pub mod LowerSteps
 pub mod Settles
 pub mod OfAll
+pub mod OpeningWeights
+pub mod InLists
+pub mod Passes

@@ -9,6 +9,7 @@ ghost use Rattle.witness_graph.specs.Order as order;
 ghost use Rattle.witness_graph.specs.Walking.{KnowsPlaces, first_new};
 
 use crate::Node;
+use crate::parts::NodeParts;
 use std::alloc::Global;
 use std::collections::HashMap;
 use wpds_port::OutOfMemory;
@@ -61,15 +62,15 @@ fn next_unplaced(places: &HashMap<u64, u64>, node: Node) -> Option<u64>
     }
 }
 
-fn read_node(nodes: &[Node], k: u64) -> Node
+fn read_node(nodes: &NodeParts, k: u64) -> Node
     requires { k < length nodes.now }
     ensures { result ≡ node_at nodes.now k }
 {
-    nodes[k as usize]
+    nodes.at(k)
 }
 
 // The nodes reached from the root, in post-order. A node waits on the stack until all that it names has a place.
-fn post_order(alloc: Global, nodes: &[Node], root: u64) -> Result<Visited, OutOfMemory>
+fn post_order(alloc: Global, nodes: &NodeParts, root: u64) -> Result<Visited, OutOfMemory>
     requires root { root < length nodes.now }
     requires nodes { AreNodes nodes.now }
     ensures order { IfOk result (λ v. v.order.items ≡ order.post_order nodes.now root) }
@@ -95,7 +96,7 @@ fn post_order(alloc: Global, nodes: &[Node], root: u64) -> Result<Visited, OutOf
 }
 
 // The listing of a root, and what it is.
-pub fn list_nodes(alloc: Global, nodes: &[Node], root: u64) -> Result<Vec<Node>, OutOfMemory>
+pub fn list_nodes(alloc: Global, nodes: &NodeParts, root: u64) -> Result<Vec<Node>, OutOfMemory>
     requires root { root < length nodes.now }
     requires nodes { AreNodes nodes.now }
     ensures list { IfOk result (λ v. v.items ≡ listing_of nodes.now root) }
@@ -110,7 +111,7 @@ pub fn list_nodes(alloc: Global, nodes: &[Node], root: u64) -> Result<Vec<Node>,
 // The nodes in this order, each named by its place.
 fn renumber(
     alloc: Global,
-    nodes: &[Node],
+    nodes: &NodeParts,
     order: &[u64],
     places: &HashMap<u64, u64>,
 ) -> Result<Vec<Node>, OutOfMemory>
@@ -119,7 +120,7 @@ fn renumber(
 {
     let mut list = Vec::new(alloc);
     for number in order {
-        list.push(renamed(nodes[*number as usize], places))?;
+        list.push(renamed(nodes.at(*number), places))?;
     }
     Ok(list)
 }

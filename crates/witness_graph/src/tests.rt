@@ -1,4 +1,4 @@
-use crate::{Graph, Node, Side, listing_stays_tight, post_order_has_the_reached};
+use crate::{Graph, Node, Overlay, Side, listing_stays_tight, post_order_has_the_reached};
 use semiring_laws::Reach;
 use std::alloc::Global;
 use std::test::Fail;
@@ -192,5 +192,31 @@ fn a_long_chain(rt: HostRuntime) -> Result<(), Fail> {
     assert!(rt; 0 < len);
     let listing = graph.listing(alloc, len - 1)?;
     assert_eq!(rt; listing.nodes.as_slice(), nodes.as_slice());
+    Ok(())
+}
+
+#[test]
+fn nodes_over_a_graph(rt: HostRuntime) -> Result<(), Fail> {
+    let alloc = rt.alloc();
+    let below = lower(None, Some(7), Some(0), None);
+    let base = graph_of(alloc, &[START, below])?;
+    let mut over = Overlay::new(alloc, &base);
+    assert_eq!(rt; over.side(), Side::Post);
+    let first = over.push_node(alloc, START)?;
+    assert_eq!(rt; first, 2);
+    let node = lower(Some(first), Some(4), None, Some(1));
+    assert!(rt; node.is_at(3));
+    let root = over.push_node(alloc, node)?;
+    let listing = over.listing(alloc, root)?;
+    // what is added over the graph, and what it names in the graph
+    let nodes = [
+        START,
+        START,
+        lower(None, Some(7), Some(1), None),
+        lower(Some(0), Some(4), None, Some(2)),
+    ];
+    assert_eq!(rt; listing.side, Side::Post);
+    assert_eq!(rt; listing.nodes.as_slice(), &nodes);
+    assert_eq!(rt; base.len(), 2);
     Ok(())
 }

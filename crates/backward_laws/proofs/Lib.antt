@@ -1,0 +1,10 @@
+pub mod Weights
+pub mod OfRows
+pub mod OfTables
+pub mod OfMeeting
+pub mod OfPaths
+pub mod OfClosing
+pub mod OfRowTests
+pub mod OfJobs
+pub mod OfPlaces
+pub mod OfLaws

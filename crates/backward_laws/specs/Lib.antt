@@ -1,0 +1,4 @@
+pub mod Rows
+pub mod Jobs
+pub mod Reading
+pub mod Fitting

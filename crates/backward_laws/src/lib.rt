@@ -1,0 +1,6 @@
+//! Backwards saturation: its rows, its runs, and its laws.
+#![tactic(auto)]
+
+mod laws;
+
+pub use laws::backward_sums;

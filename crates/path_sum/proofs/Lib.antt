@@ -1,0 +1,15 @@
+pub mod OfEntries
+pub mod OfOrders
+pub mod OfPairs
+pub mod OfGrowing
+pub mod OfSums
+pub mod OfMoves
+pub mod OfWorking
+pub mod OfBooks
+pub mod OfChanges
+pub mod OfReady
+pub mod OfLoops
+pub mod OfPlaces
+pub mod OfRounds
+pub mod OfMembers
+pub mod OfFinished

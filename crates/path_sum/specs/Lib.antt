@@ -1,0 +1,6 @@
+pub mod Sums
+pub mod Answers
+pub mod Saturated
+pub mod Growings
+pub mod Pairs
+pub mod Summing

@@ -1,0 +1,13 @@
+//! Sums over the paths of a finished saturation that read a pattern: the weight of all runs between the pattern and the
+//! saturation's opening, with a listing of runs that make it.
+#![tactic(auto)]
+
+mod answer;
+mod change;
+mod growing;
+mod queue;
+mod summing;
+mod task;
+
+pub use answer::Answer;
+pub use summing::{sum, sum_parts};

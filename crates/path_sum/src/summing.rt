@@ -1,0 +1,144 @@
+ghost use Rattle.std.specs.Prelude.{◌≡◌, ◌<◌, ◌≤◌, ◌+◌, ◌*◌, ◌↔◌, ◌∷◌, [], ℕ, List, None, Some, IfOk, IfSome, MatchOption, length, IsTrue};
+ghost use Rattle.semiring_laws.specs.Semiring.{Operations};
+ghost use Rattle.weighted_automata.specs.Entries.{entry_at};
+ghost use Rattle.witness_graph.specs.Tight.{IsTight};
+ghost use Rattle.config_patterns.specs.Membership.{has_member};
+ghost use Rattle.pushdown_rules.specs.Values.{value_of};
+ghost use Rattle.saturation_core.specs.Books.{IsClosed};
+ghost use Rattle.saturation_core.specs.Openings.{AreKept};
+ghost use Rattle.saturation_core.specs.States.{weight_at};
+ghost use Rattle.path_sum.specs.Sums.{ways_of, answer_place, bare_sum, IsGrown, IsSummed};
+ghost use Rattle.path_sum.specs.Answers.{AnswersOpening, listed_runs, IsListingOf, IsGrownAnswer};
+ghost use Rattle.path_sum.specs.Saturated.{IsSaturatedAutomaton};
+ghost use Rattle.path_sum.specs.Growings.{state_of};
+
+use crate::Answer;
+use crate::change::weight_now;
+use crate::growing::{ANSWER, Growing};
+use crate::task::Task;
+use config_patterns::Pattern;
+use pushdown_rules::System;
+use saturation_core::{Book, Direction, Opening};
+use semiring_laws::Semiring;
+use std::alloc::Global;
+use std::collections::VecDeque;
+use weighted_automata::{Label, Place, Transitions};
+use witness_graph::{Graph, Listing, Node, Overlay};
+use wpds_port::OutOfMemory;
+
+// Takes the place that waits longest.
+fn next(waiting: &mut VecDeque<Place>) -> Option<Place>
+    ensures { MatchOption result (waiting.old.items ≡ []) (λ x. waiting.old.items ≡ x ∷ waiting.new.items) }
+{
+    waiting.pop_front()
+}
+
+// The sum with the first pair alone, which has the empty run.
+fn start<'g, S: Semiring>(
+    task: &Task<S>,
+    alloc: Global,
+    graph: &'g Graph,
+) -> Result<Growing<'g, S>, OutOfMemory>
+    ensures state { IfOk result (λ x. state_of x ≡ bare_sum (S.operations task.now.semiring) task.now.side graph.now.nodes (ways_of task.now.pattern)) }
+    ensures side { IfOk result (λ x. x.nodes.side ≡ graph.now.side) }
+{
+    let first = Place {
+        from: 0,
+        label: Label::Empty,
+        to: task.control(),
+    };
+    let mut nodes = Overlay::new(alloc, graph);
+    let mut pairs = Transitions::new(alloc);
+    let mut waiting = VecDeque::new(alloc);
+    let number = nodes.push_node(alloc, Node::Start)?;
+    let one = task.semiring().one(alloc)?;
+    pairs.lower(alloc, first, one, number)?;
+    waiting.push_back(first)?;
+    Ok(Growing {
+        pairs,
+        nodes,
+        waiting,
+    })
+}
+
+// The listing of the answer's node.
+fn list_answer<S: Semiring>(alloc: Global, sum: &Growing<S>) -> Result<Option<Listing>, OutOfMemory>
+    requires { (s : Operations S.W S.Ret) × AreKept s sum.now.pairs.transitions (length sum.now.nodes.nodes) }
+    ensures { IfOk result (λ l. IsListingOf sum.now.nodes.side sum.now.nodes.nodes (entry_at answer_place sum.now.pairs.transitions) l) }
+{
+    match sum.pairs.find(ANSWER) {
+        Some(k) => {
+            let node = sum.pairs.entry(k).node;
+            let listing = sum.nodes.listing(alloc, node)?;
+            Ok(Some(listing))
+        }
+        None => Ok(None),
+    }
+}
+
+/// The weight of all runs between a pattern and an opening, from the pattern's members to what the opening reads where
+/// the direction goes backwards, and the other way round forwards: the combination, over the members and all paths of
+/// the transitions that read one to a final state, of the product along the path (Reps, Schwoon, Jha, Melski 2005). The
+/// transitions are those of a finished saturation from the opening, and the nodes theirs. It is refused only for want of
+/// memory. The graph is not copied; beside it at most so many nodes are made as there are pairs and one, times the top
+/// rank and one, and each transition is looked at once for each time that a pair of its source waits.
+pub fn sum_parts<S: Semiring, D: Direction<S>>(
+    alloc: Global,
+    system: &System<S>,
+    direction: &D,
+    opening: &Opening,
+    transitions: &Transitions<S>,
+    graph: &Graph,
+    pattern: &Pattern,
+) -> Result<Answer<S>, OutOfMemory>
+    requires automaton { IsSaturatedAutomaton S.operations D.tables D.fits_opening D.runs system.now direction.now opening.now transitions.now.transitions graph.now.nodes }
+    requires side { graph.now.side ≡ (D.tables direction.now system.now).side }
+    requires pattern { pattern.now.control < system.now.controls }
+    ensures answers { IfOk result (λ a. AnswersOpening (S.operations system.now.semiring) (D.tables direction.now system.now).side system.now opening.now (has_member pattern.now) a.value (listed_runs a.listing)) }
+    ensures none { IfOk result (λ a. (a.listing ≡ None) ↔ (a.value ≡ (S.operations system.now.semiring).zero)) }
+    ensures side { IfOk result (λ a. IfSome a.listing (λ l. l.side ≡ (D.tables direction.now system.now).side)) }
+    ensures tight { IfOk result (λ a. IfSome a.listing (λ l. IsTight (S.operations system.now.semiring) (value_of (S.operations system.now.semiring) system.now) l.side l.nodes)) }
+    ensures grown { IfOk result (λ a. IsGrownAnswer (S.operations system.now.semiring) (D.tables direction.now system.now).side opening.now transitions.now.transitions graph.now.nodes (ways_of pattern.now) a) }
+{
+    let semiring = system.semiring();
+    let side = direction.side();
+    let task = Task::new(alloc, semiring, side, opening, transitions, pattern)?;
+    let mut sum = start(&task, alloc, graph)?;
+    'rounds: while let Some(place) = next(&mut sum.waiting) {
+        sum.draw(&task, alloc, place)?;
+    }
+    let value = weight_now(semiring, alloc, &sum.pairs, ANSWER)?;
+    let listing = list_answer(alloc, &sum)?;
+    Ok(Answer { value, listing })
+}
+
+/// The weight of all runs between a pattern and the opening of a closed book, as [`sum_parts`] says. It is refused only
+/// for want of memory.
+pub fn sum<S: Semiring, D: Direction<S>>(
+    alloc: Global,
+    book: &Book<'_, S, D>,
+    pattern: &Pattern,
+) -> Result<Answer<S>, OutOfMemory>
+    requires closed { IsClosed book.now }
+    requires pattern { pattern.now.control < book.now.system.controls }
+    ensures answers { IfOk result (λ a. AnswersOpening (S.operations book.now.system.semiring) (D.tables book.now.direction book.now.system).side book.now.system book.now.opening (has_member pattern.now) a.value (listed_runs a.listing)) }
+    ensures none { IfOk result (λ a. (a.listing ≡ None) ↔ (a.value ≡ (S.operations book.now.system.semiring).zero)) }
+    ensures side { IfOk result (λ a. IfSome a.listing (λ l. l.side ≡ (D.tables book.now.direction book.now.system).side)) }
+    ensures tight { IfOk result (λ a. IfSome a.listing (λ l. IsTight (S.operations book.now.system.semiring) (value_of (S.operations book.now.system.semiring) book.now.system) l.side l.nodes)) }
+    ensures grown { IfOk result (λ a. IsGrownAnswer (S.operations book.now.system.semiring) (D.tables book.now.direction book.now.system).side book.now.opening book.now.state.transitions book.now.state.nodes (ways_of pattern.now) a) }
+{
+    let system = book.system();
+    let direction = book.direction();
+    let opening = book.opening();
+    let transitions = book.transitions();
+    let graph = book.graph();
+    sum_parts(
+        alloc,
+        system,
+        &direction,
+        opening,
+        transitions,
+        graph,
+        pattern,
+    )
+}

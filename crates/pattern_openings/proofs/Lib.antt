@@ -1,0 +1,3 @@
+pub mod OfReads
+pub mod OfEdges
+pub mod OfStates

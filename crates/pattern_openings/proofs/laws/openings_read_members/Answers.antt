@@ -1,0 +1,5 @@
+use Rattle.pattern_openings.proofs.OfReads.{opening_reads}
+use Rattle.pattern_openings.proofs.laws.openings_read_members.Goals as goal
+
+pub returns : goal.returns
+returns c = opening_reads

@@ -1,0 +1,9 @@
+use Rattle.std.proofs.Common.{◌≤◌, All, List, sym, subst, ◌∙◌}
+use Rattle.config_patterns.specs.declared.edge.Edge.{Edge}
+use Rattle.pattern_openings.proofs.OfEdges.{edges_few}
+use Rattle.pattern_openings.proofs.opening.opening_of.Goals as goal
+
+pub places_of_edges-requires-clause-states : goal.places_of_edges-requires-clause-states
+places_of_edges-requires-clause-states c =
+    let P : List Edge → Type 0 = All (λ (e : Edge). (e.from ≤ 1000) × (e.to ≤ 1000)) in
+    subst P (sym (c.as_slice.ensures ∙ c.in_ok-edges.ensures)) (edges_few c.args.pattern.now.items c.control.ensures.valid.few_items)

@@ -1,0 +1,9 @@
+//! The automaton of a pattern as a saturation begins with it: the pattern's control is the control's own state, and its
+//! items are numbered behind the controls.
+#![tactic(auto)]
+
+mod laws;
+mod opening;
+
+pub use laws::openings_read_members;
+pub use opening::opening_of;

@@ -1,0 +1,19 @@
+-- One rule further, in a pass over the rules that adds what each gives.
+use Rattle.std.proofs.Common.{◌≡◌, ℕ, suc, ◌+◌, ◌≤◌, List, ◌++◌, length, drop, sym, ap, ◌∙◌, append_assoc, arith}
+use Rattle.std.specs.Prelude.{Some, slice_get}
+use Rattle.std.proofs.lemmas.List.{append-nil, drop_all}
+use Rattle.pushdown_rules.specs.declared.rule.Rule.{Rule}
+use Rattle.saturation_core.proofs.OfStarts.{drop_at}
+use Rattle.backward_laws.specs.Jobs.{by_rule}
+
+module _ {S W Map X : Type 0} (f : ℕ → Rule S W Map → List X) (rs : List (Rule S W Map)) (k : ℕ) where
+  pub rules_next : (r : Rule S W Map) (old new all : List X) → slice_get rs k ≡ Some r → old ++ by_rule f k (drop k rs) ≡ all → new ≡ old ++ f k r → new ++ by_rule f (k + 1) (drop (k + 1) rs) ≡ all
+  rules_next r old new all there was made =
+      let rest = by_rule f (k + 1) (drop (k + 1) rs) in
+      let e : suc k ≡ k + 1 = omega arith in
+      ap (λ ys. ys ++ rest) made ∙ append_assoc old (f k r) rest
+      ∙ ap (λ m. old ++ (f k r ++ by_rule f m (drop (k + 1) rs))) (sym e)
+      ∙ sym (ap (λ ys. old ++ by_rule f k ys) (drop_at rs k r there)) ∙ was
+
+  pub rules_end : (old all : List X) → length rs ≤ k → old ++ by_rule f k (drop k rs) ≡ all → old ≡ all
+  rules_end old all past was = sym (append-nil old) ∙ sym (ap (λ ys. old ++ by_rule f k ys) (drop_all k rs past)) ∙ was

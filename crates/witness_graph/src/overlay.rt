@@ -1,0 +1,79 @@
+ghost use Rattle.std.specs.Prelude.{◌≡◌, ◌<◌, ◌-◌, ◌++◌, [], ◌∷◌, length, IfOk, OnOk, OnErr};
+ghost use Rattle.witness_graph.specs.Nodes.{AreNodes, IsNodeAt};
+ghost use Rattle.witness_graph.specs.Order.{listing_of};
+ghost use Rattle.witness_graph.specs.Runs.{runs_of};
+
+use crate::order::list_nodes;
+use crate::parts::NodeParts;
+use crate::{Graph, Listing, Node, NodeList, Side};
+use std::alloc::Global;
+use std::marker::Model;
+use wpds_port::OutOfMemory;
+
+/// A graph's nodes and others that are added after them. The graph itself stays as it is, and is not copied.
+#[derive(Drop)]
+pub struct Overlay<'g> {
+    base: &'g Graph,
+    added: Vec<Node>,
+}
+
+impl<'g> Model for Overlay<'g> {
+    ghost use Rattle.std.specs.Prelude.{◌-◌, ◌++◌, vec_len, vec_capacity};
+    ghost use Rattle.witness_graph.specs.Nodes.{AreNodes, Nodes};
+
+    ghost Value = { Nodes };
+
+    ghost view = { λ o. record { side = o.base.now.side; nodes = o.base.now.nodes ++ o.added.items; spare = vec_capacity o.added - vec_len o.added } };
+
+    ghost invariant = { λ o. AreNodes (o.base.now.nodes ++ o.added.items) };
+}
+
+impl<'g> Overlay<'g> {
+    /// The graph's nodes alone. It takes no memory.
+    pub fn new(alloc: Global, base: &'g Graph) -> Overlay<'g>
+        ensures side { result.side ≡ base.now.side }
+        ensures nodes { result.nodes ≡ base.now.nodes }
+    {
+        let _count = base.len();
+        Overlay {
+            base,
+            added: Vec::new(alloc),
+        }
+    }
+
+    /// Which way its runs go.
+    pub fn side(&self) -> Side
+        ensures { result ≡ self.now.side }
+    {
+        self.base.side()
+    }
+
+    /// Adds a node, and answers its number. It is refused only for want of memory.
+    pub fn push_node(&mut self, _alloc: Global, node: Node) -> Result<u64, OutOfMemory>
+        requires { IsNodeAt (length self.old.nodes) node }
+        ensures number { IfOk result (λ k. k ≡ length self.old.nodes) }
+        ensures ok { OnOk result (self.new.nodes ≡ self.old.nodes ++ node ∷ []) }
+        ensures err { OnErr result (self.new.nodes ≡ self.old.nodes) }
+        ensures side { self.new.side ≡ self.old.side }
+    {
+        let before = self.added.len() as u64;
+        let number = self.base.len().checked_add(before).ok_or(OutOfMemory)?;
+        self.added.push(node)?;
+        Ok(number)
+    }
+
+    /// The listing of a node, as [`Graph::listing`] gives it.
+    pub fn listing(&self, alloc: Global, root: u64) -> Result<Listing, OutOfMemory>
+        requires { root < length self.now.nodes }
+        ensures side { IfOk result (λ l. l.side ≡ self.now.side) }
+        ensures nodes { IfOk result (λ l. l.nodes ≡ listing_of self.now.nodes root) }
+        ensures runs { IfOk result (λ l. runs_of l.side l.nodes (length l.nodes - 1) ≡ runs_of self.now.side self.now.nodes root) }
+    {
+        let parts = NodeParts::new(self.base.as_slice(), &self.added);
+        let nodes = list_nodes(alloc, &parts, root)?;
+        Ok(Listing {
+            side: self.base.side(),
+            nodes: NodeList::new(nodes),
+        })
+    }
+}
