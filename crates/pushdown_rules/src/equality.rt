@@ -22,7 +22,8 @@ pub(crate) fn same_rules<S: Semiring>(semiring: &S, one: &[Rule<S>], other: &[Ru
     true
 }
 
-fn same_rule<S: Semiring>(semiring: &S, one: &Rule<S>, other: &Rule<S>) -> bool
+/// Whether two rules over one semiring are equal: the controls, the symbols, the weight and the return map.
+pub fn same_rule<S: Semiring>(semiring: &S, one: &Rule<S>, other: &Rule<S>) -> bool
     requires one { FitsRule (S.operations semiring.now) one.now }
     requires other { FitsRule (S.operations semiring.now) other.now }
     ensures { IsTrue result ↔ (one.now ≡ other.now) }

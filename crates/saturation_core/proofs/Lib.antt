@@ -18,3 +18,7 @@ pub mod OfCombinations
 pub mod OpeningWeights
 pub mod InLists
 pub mod Passes
+pub mod Planning
+pub mod LowerSteps
+pub mod Settles
+pub mod OfAll

@@ -24,7 +24,7 @@ module _ {S W Map : Type 0} {s : Operations W Map} (laws : IsSemiring s) where
   pub present_at : (x : Place) (ts : List (Entry S W Map)) (t : Entry S W Map) → entry_at x ts ≡ Some t → Present ts t
   present_at x ts t e = ap (λ z. entry_at z ts) (entry_at-place x ts t e) ∙ e
 
-  kept_of : (x : Place) (ts : List (Entry S W Map)) (n : ℕ) → AreKept s ts n → (o : Option (Entry S W Map)) → entry_at x ts ≡ o → Fits s (weight_of s o) × IfSome (option_map node_of o) (λ k. k < n)
+  pub kept_of : (x : Place) (ts : List (Entry S W Map)) (n : ℕ) → AreKept s ts n → (o : Option (Entry S W Map)) → entry_at x ts ≡ o → Fits s (weight_of s o) × IfSome (option_map node_of o) (λ k. k < n)
   kept_of x ts n kept None e = (laws.fits-zero, tt)
   kept_of x ts n kept (Some t) e = kept.each t (present_at x ts t e)
 

@@ -9,3 +9,7 @@ pub mod Paths
 pub mod Books
 pub mod Seen
 pub mod Still
+pub mod Plans
+pub mod Finding
+pub mod Worked
+pub mod Settled

@@ -1,15 +1,19 @@
-ghost use Rattle.std.specs.Prelude.{◌≡◌, ◌↔◌, ◌<◌, [], ◌∷◌, ◌++◌, IsTrue, IfOk, OnOk, OnErr, IsSome, is_some};
+ghost use Rattle.std.specs.Prelude.{◌≡◌, ◌↔◌, ◌<◌, ◌+◌, [], ◌∷◌, ◌++◌, IsTrue, IfOk, IfErr, OnOk, OnErr, IsSome, is_some, length};
 ghost use Rattle.saturation_core.specs.declared.event.Event.TheVariants.{Take, Settle, GiveBack};
 ghost use Rattle.saturation_core.specs.States.{hand_at};
 ghost use Rattle.saturation_core.specs.Openings.{opening_state};
 ghost use Rattle.saturation_core.specs.Bound.{takes, takes_of};
 ghost use Rattle.saturation_core.specs.Books.{IsBook, Makes, IsClosed, AnswersTake, HandWorks};
+ghost use Rattle.saturation_core.specs.Settled.{IsWorkedBy, CanSettle};
 
 use crate::hands::{none_out, place_out, put, seats_out};
 use crate::journal::{count_takes, count_takes_of};
+use crate::lower::{lower_all, make_room};
+use crate::plan::plan_jobs;
 use crate::queue::{enqueue, front, list_jobs};
+use crate::same::{agree, lists, same_side};
 use crate::start::{add_edges, add_pops_of, empty_run, no_hands};
-use crate::{Direction, Event, Hand, Holding, JobList, Opening, Taken};
+use crate::{Direction, Done, Event, Hand, Holding, JobList, Lowered, Opening, SettleFault, Taken};
 use pushdown_rules::System;
 use semiring_laws::Semiring;
 use std::alloc::Global;
@@ -33,6 +37,7 @@ pub struct Book<'s, S: Semiring, D: Direction<S>> {
 }
 
 impl<'s, S: Semiring, D: Direction<S>> Model for Book<'s, S, D> {
+    ghost use Rattle.std.specs.Prelude.{◌≡◌};
     ghost use Rattle.saturation_core.specs.Books.{BookValue, IsBook};
 
     ghost Value = { BookValue S S.W S.Ret D };
@@ -41,7 +46,7 @@ impl<'s, S: Semiring, D: Direction<S>> Model for Book<'s, S, D> {
 
     ghost view = { seen };
 
-    ghost invariant = { λ b. IsBook S.operations D.tables D.fits_opening D.places D.runs (seen b) × HasRoom b };
+    ghost invariant = { λ b. IsBook S.operations D.tables D.fits_opening D.places D.runs (seen b) × HasRoom b × (b.graph.side ≡ (D.tables b.direction b.system.now).side) };
 }
 
 impl<'s, S: Semiring, D: Direction<S>> Book<'s, S, D> {
@@ -128,6 +133,7 @@ impl<'s, S: Semiring, D: Direction<S>> Book<'s, S, D> {
     /// The runs that were found so far.
     pub fn graph(&self) -> &Graph
         ensures nodes { result.now.nodes ≡ self.now.state.nodes }
+        ensures side { result.now.side ≡ (D.tables self.now.direction self.now.system).side }
     {
         &self.graph
     }
@@ -205,5 +211,78 @@ impl<'s, S: Semiring, D: Direction<S>> Book<'s, S, D> {
                 Ok(Taken::Hand(Hand { seat, jobs }))
             }
         }
+    }
+
+    /// Whether the book can settle this hand: the seat's hand lists its jobs, its side is the book's, and so are the
+    /// semiring and each rule that a job names. No other rule is compared, and no memory is taken.
+    pub fn holds(&self, done: &Done<'_, S>) -> bool
+        ensures { IsTrue result ↔ CanSettle D.tables self.now done.now }
+    {
+        let (one, other) = (self.system, done.system());
+        let jobs = done.jobs().as_slice();
+        if !same_side(self.direction.side(), done.side()) {
+            return false;
+        }
+        if !one.semiring().same_kind(other.semiring()) {
+            return false;
+        }
+        if !agree(one, other, jobs) {
+            return false;
+        }
+        lists(one.semiring(), &self.out, done.seat() as usize, jobs)
+    }
+
+    /// Applies the jobs of a hand, in order: each goal's weight is combined with what the job is worth, and where that
+    /// changes the weight, the goal gets a new node and waits, last. Then the hand goes. It is refused only for want of
+    /// memory.
+    pub fn settle<'d>(
+        &mut self,
+        alloc: Global,
+        done: Done<'d, S>,
+    ) -> Result<Lowered, SettleFault<'d, S>>
+        requires worked { (d : D) × IsWorkedBy D.tables d done }
+        requires holds { CanSettle D.tables self.old done }
+        ensures settled { OnOk result (Makes S.operations D.tables self.old (Settle done.entry.seat) self.new) }
+        ensures count { IfOk result (λ l. length self.old.state.nodes + l.count ≡ length self.new.state.nodes) }
+        ensures err { OnErr result (self.new ≡ self.old) }
+        ensures fault { IfErr result (λ f. f.done ≡ done.entry) }
+    {
+        match self.apply(alloc, &done) {
+            Ok(lowered) => Ok(lowered),
+            Err(_) => Err(SettleFault { done }),
+        }
+    }
+
+    // Settles a hand: works out what its jobs lower, makes room, and only then changes anything.
+    fn apply(&mut self, alloc: Global, done: &Done<'_, S>) -> Result<Lowered, OutOfMemory>
+        requires worked { (d : D) × IsWorkedBy D.tables d done.now }
+        requires holds { CanSettle D.tables self.old done.now }
+        ensures settled { OnOk result (Makes S.operations D.tables self.old (Settle done.now.seat) self.new) }
+        ensures count { IfOk result (λ l. length self.old.state.nodes + l.count ≡ length self.new.state.nodes) }
+        ensures err { OnErr result (self.new ≡ self.old) }
+    {
+        let seat = done.seat();
+        let semiring = self.system.semiring();
+        let (jobs, worths) = (done.jobs().as_slice(), done.candidates().as_slice());
+        let nodes = self.graph.len();
+        let plan = plan_jobs(semiring, alloc, &self.transitions, nodes, jobs, worths)?;
+        make_room(
+            alloc,
+            &plan,
+            &mut self.transitions,
+            &mut self.graph,
+            &mut self.waiting,
+        )?;
+        let count = plan.len() as u64;
+        lower_all(
+            alloc,
+            plan,
+            &mut self.transitions,
+            &mut self.graph,
+            &mut self.waiting,
+        );
+        self.journal.push_reserved(Event::Settle { seat });
+        put(&mut self.out, seat as usize, None);
+        Ok(Lowered { count })
     }
 }

@@ -24,7 +24,7 @@ pub fn queue_up(waiting: &mut VecDeque<Place>, place: Place) -> Result<(), OutOf
 }
 
 // The weight at a place, and zero where there is none.
-fn weight_now<S: Semiring>(
+pub fn weight_now<S: Semiring>(
     semiring: &S,
     alloc: Global,
     transitions: &Transitions<S>,
@@ -40,7 +40,7 @@ fn weight_now<S: Semiring>(
 }
 
 // The node at a place.
-fn node_now<S: Semiring>(transitions: &Transitions<S>, place: Place) -> Option<u64>
+pub fn node_now<S: Semiring>(transitions: &Transitions<S>, place: Place) -> Option<u64>
     ensures { result ≡ option_map node_of (entry_at place transitions.now.transitions) }
 {
     match transitions.find(place) {
@@ -50,7 +50,7 @@ fn node_now<S: Semiring>(transitions: &Transitions<S>, place: Place) -> Option<u
 }
 
 // What a weight makes of the one that is there, where it changes it.
-fn weight_after<S: Semiring>(
+pub fn weight_after<S: Semiring>(
     semiring: &S,
     alloc: Global,
     old: &S::W,
@@ -84,6 +84,7 @@ pub fn apply_rule<S: Semiring>(
         ≡ apply (S.operations semiring.now) (record { goal = place; weight = weight.now; rule = Some rule; first = None; second = None })
         (found_so_far transitions.old.transitions graph.old.nodes waiting.old.items)) }
     ensures kept { OnOk result (AreKept (S.operations semiring.now) transitions.new.transitions (length graph.new.nodes)) }
+    ensures side { graph.new.side ≡ graph.old.side }
 {
     let old = weight_now(semiring, alloc, transitions, place)?;
     let Some(new) = weight_after(semiring, alloc, &old, weight)? else {

@@ -1,5 +1,6 @@
-ghost use Rattle.std.specs.Prelude.{◌≡◌, All, IfOk, IfErr, IsTrue, map};
+ghost use Rattle.std.specs.Prelude.{◌≡◌, All, IfOk, IfErr, IsTrue};
 ghost use Rattle.saturation_core.specs.Jobs.{row_of, InputsFit};
+ghost use Rattle.saturation_core.specs.Settled.{IsWorkedBy};
 
 use crate::work::candidates;
 use crate::{Direction, JobList};
@@ -71,20 +72,45 @@ impl<S: Semiring> WeightList<S> {
     }
 }
 
-/// A hand whose jobs are worked out: what each is worth, which way, and over which system.
+/// A hand whose jobs are worked out: what each is worth, which way, and over which system. The weights of their inputs
+/// are the semiring's.
 #[derive(Drop)]
 pub struct Done<'s, S: Semiring> {
-    pub seat: u32,
-    pub jobs: JobList<S>,
-    pub candidates: WeightList<S>,
-    pub side: Side,
-    pub system: &'s System<S>,
+    seat: u32,
+    jobs: JobList<S>,
+    candidates: WeightList<S>,
+    side: Side,
+    system: &'s System<S>,
+}
+
+impl<'s, S: Semiring> Model for Done<'s, S> {
+    ghost use Rattle.std.specs.Prelude.{All};
+    ghost use Rattle.saturation_core.specs.Jobs.{InputsFit};
+    ghost use Rattle.saturation_core.specs.Worked.{Worked};
+
+    ghost Value = { Worked S S.W S.Ret };
+
+    ghost view = { λ d. record { seat = d.seat; jobs = d.jobs; candidates = d.candidates; side = d.side; system = d.system.now } };
+
+    ghost invariant = { λ d. All (InputsFit (S.operations d.system.now.semiring)) d.jobs };
 }
 
 /// No memory was left to work out a hand, which is handed back.
 #[derive(Drop)]
 pub struct WorkFault<S: Semiring> {
     pub hand: Hand<S>,
+}
+
+/// No memory was left to settle a hand that was worked out, which is handed back.
+#[derive(Drop)]
+pub struct SettleFault<'s, S: Semiring> {
+    pub done: Done<'s, S>,
+}
+
+/// How many times a hand that was settled changed the weight of a transition.
+#[derive(Clone, Copy, Debug, PartialEq, Eq)]
+pub struct Lowered {
+    pub count: u64,
 }
 
 impl<S: Semiring> Hand<S> {
@@ -113,9 +139,8 @@ impl<S: Semiring> Hand<S> {
         requires inputs { All (InputsFit (S.operations system.now.semiring)) self.jobs }
         ensures seat { IfOk result (λ d. d.seat ≡ self.seat) }
         ensures jobs { IfOk result (λ d. d.jobs ≡ self.jobs) }
-        ensures candidates { IfOk result (λ d. d.candidates ≡ map (D.tables direction.now system.now).candidate self.jobs) }
-        ensures side { IfOk result (λ d. d.side ≡ (D.tables direction.now system.now).side) }
-        ensures system { IfOk result (λ d. d.system.now ≡ system.now) }
+        ensures system { IfOk result (λ d. d.system ≡ system.now) }
+        ensures worked { IfOk result (IsWorkedBy D.tables direction.now) }
         ensures fault { IfErr result (λ f. f.hand ≡ self) }
     {
         match candidates(direction, alloc, system, self.jobs.as_slice()) {
@@ -141,8 +166,30 @@ impl<'s, S: Semiring> Done<'s, S> {
 
     /// The jobs that were worked out.
     pub fn jobs(&self) -> &JobList<S>
-        ensures { result.now ≡ self.now.jobs }
+        ensures value { result.now ≡ self.now.jobs }
+        ensures inputs { All (InputsFit (S.operations self.now.system.semiring)) result.now }
     {
         &self.jobs
+    }
+
+    /// What each job is worth, in order.
+    pub fn candidates(&self) -> &WeightList<S>
+        ensures { result.now ≡ self.now.candidates }
+    {
+        &self.candidates
+    }
+
+    /// Which way they were worked out.
+    pub fn side(&self) -> Side
+        ensures { result ≡ self.now.side }
+    {
+        self.side
+    }
+
+    /// The system over which they were worked out.
+    pub fn system(&self) -> &'s System<S>
+        ensures { result.now ≡ self.now.system }
+    {
+        self.system
     }
 }

@@ -72,6 +72,7 @@ fn add_pop<S: Semiring>(
     ensures state { OnOk result (found_so_far transitions.new.transitions graph.new.nodes waiting.new.items
         ≡ apply_all (S.operations system.now.semiring) (pops_at k system.now.rules) (found_so_far transitions.old.transitions graph.old.nodes waiting.old.items)) }
     ensures kept { OnOk result (AreKept (S.operations system.now.semiring) transitions.new.transitions (length graph.new.nodes)) }
+    ensures side { graph.new.side ≡ graph.old.side }
 {
     let rule = system.rule(k);
     if !rule.right.symbols().is_empty() {
@@ -108,6 +109,7 @@ pub fn add_pops<S: Semiring>(
     requires kept { AreKept (S.operations system.now.semiring) transitions.old.transitions (length graph.old.nodes) }
     ensures state { OnOk result (found_so_far transitions.new.transitions graph.new.nodes waiting.new.items
         ≡ apply_all (S.operations system.now.semiring) (pops_from 0 system.now.rules) (found_so_far transitions.old.transitions graph.old.nodes waiting.old.items)) }
+    ensures side { graph.new.side ≡ graph.old.side }
 {
     for k in 0..system.rules() {
         add_pop(system, alloc, k, transitions, graph, waiting)?;
@@ -127,6 +129,7 @@ pub fn add_pops_of<S: Semiring>(
     requires kept { AreKept (S.operations system.now.semiring) transitions.old.transitions (length graph.old.nodes) }
     ensures state { OnOk result (found_so_far transitions.new.transitions graph.new.nodes waiting.new.items
         ≡ apply_all (S.operations system.now.semiring) (pops side system.now.rules) (found_so_far transitions.old.transitions graph.old.nodes waiting.old.items)) }
+    ensures side { graph.new.side ≡ graph.old.side }
 {
     match side {
         Side::Pre => add_pops(system, alloc, transitions, graph, waiting),

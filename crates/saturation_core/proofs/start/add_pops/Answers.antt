@@ -1,4 +1,4 @@
-use Rattle.std.proofs.Common.{arith}
+use Rattle.std.proofs.Common.{◌∙◌, arith}
 use Rattle.saturation_core.proofs.OfStarts.{pops_more}
 use Rattle.saturation_core.proofs.start.add_pops.Goals as goal
 
@@ -6,4 +6,5 @@ pub loop-k-preserved : goal.loop-k-preserved
 loop-k-preserved g c = (
   pops_more (g.S.Semiring.operations c.args.system.now.semiring) c.args.system.now.rules c.loop-k.k _ _ _ (omega arith) c.loop-k.invariant.0 c.in_ok-add_pop.ensures.state,
   c.in_ok-add_pop.ensures.kept,
+  c.add_pop.ensures.side ∙ c.loop-k.invariant.2,
 )

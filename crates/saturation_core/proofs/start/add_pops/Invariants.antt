@@ -8,3 +8,4 @@ invariant-loop-k g l =
     (apply_all (g.S.Semiring.operations l.system.semiring) (pops_from l.k (drop l.k l.system.rules)) (found_so_far l.transitions.transitions l.graph.nodes l.waiting.items)
     ≡ apply_all (g.S.Semiring.operations l.system.semiring) (pops_from 0 l.system.rules) (found_so_far l.initial.transitions.transitions l.initial.graph.nodes l.initial.waiting.items))
     × AreKept (g.S.Semiring.operations l.system.semiring) l.transitions.transitions (length l.graph.nodes)
+    × (l.graph.side ≡ l.initial.graph.side)

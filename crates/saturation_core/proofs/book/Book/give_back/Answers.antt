@@ -34,6 +34,7 @@ invariant_of-self g c = (
         journal = omega (arith, one, now, c.self.invariant.1.journal, c.push_reserved.ensures.len, c.push_reserved.ensures.capacity);
         queue = omega (arith, one, now, c.self.invariant.1.queue, c.enqueue.ensures.len, c.enqueue.ensures.capacity);
       },
+  c.self.invariant.2,
 )
 
 pub returns-in-Some : goal.returns-in-Some

@@ -1,4 +1,4 @@
-use Rattle.std.proofs.Common.{◌≡◌, ap, arith}
+use Rattle.std.proofs.Common.{◌≡◌, sym, ap, ◌∙◌, arith}
 use Rattle.saturation_core.specs.Openings.{opening_state}
 use Rattle.saturation_core.proofs.Begun.{begin_is, begun, filled, state_of, no_hand_out}
 use Rattle.saturation_core.proofs.book.Book.open.Goals as goal
@@ -24,6 +24,7 @@ invariant_of-result-3 g c = (
         journal = omega (arith, none, c.new.ensures.len);
         queue = omega (arith, none, c.add_pops_of.new.waiting.small.1);
       },
+  ap (λ g. g.side) c.graph-2.view_is ∙ c.add_pops_of.ensures.side ∙ c.in_ok-graph.ensures.side ∙ sym (c.side-side.ensures c.args.system.now),
 )
 
 pub returns : goal.returns

@@ -42,6 +42,7 @@ invariant_of-self-in-Some g c =
         journal = omega (arith, more, few, seats, c.in_ok-reserve-in-Some.ensures.ok, c.push_reserved.ensures.len, c.push_reserved.ensures.capacity);
         queue = omega (arith, more, one, c.self.invariant.1.queue, c.pop_front.ensures.capacity);
       },
+      c.self.invariant.2,
     )
 
 pub returns-in_ok-reserve-in-Some-clause-taken : goal.returns-in_ok-reserve-in-Some-clause-taken
