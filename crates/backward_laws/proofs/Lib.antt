@@ -8,3 +8,4 @@ pub mod OfRowTests
 pub mod OfJobs
 pub mod OfPlaces
 pub mod OfLaws
+pub mod OfOnce

@@ -29,7 +29,7 @@ use Rattle.backward_laws.proofs.OfRowTests.{label_from, from_is, is_from_there, 
 in_only : {X : Type 0} (test : Bool) (x : X) → test ≡ true → IsIn x (only_if test x)
 in_only test x e = let P : List _ → Type 0 = IsIn x in subst P (sym (cond-true test (x ∷ []) [] e)) (inl refl)
 
-from_only : {X : Type 0} (test : Bool) (x y : X) → IsIn y (only_if test x) → (test ≡ true) × (x ≡ y)
+pub from_only : {X : Type 0} (test : Bool) (x y : X) → IsIn y (only_if test x) → (test ≡ true) × (x ≡ y)
 from_only {X = X} test x y = let P : List X → Type 0 = λ xs. IsIn y xs → (test ≡ true) × (x ≡ y) in
     cond_both test (x ∷ []) [] P (λ e h. elim h [ inl same ↦ (e, same) | inr none ↦ absurd none ]) (λ e h. absurd h)
 

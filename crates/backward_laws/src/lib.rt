@@ -3,4 +3,4 @@
 
 mod laws;
 
-pub use laws::backward_sums;
+pub use laws::{backward_jobs_stand_once, backward_sums};

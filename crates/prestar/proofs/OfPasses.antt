@@ -14,6 +14,3 @@ module _ {S W Map X : Type 0} (f : ℕ → Rule S W Map → List X) (rs : List (
       ap (λ ys. ys ++ rest) made ∙ append_assoc old (f k r) rest
       ∙ ap (λ m. old ++ (f k r ++ by_rule f m (drop (k + 1) rs))) (sym e)
       ∙ sym (ap (λ ys. old ++ by_rule f k ys) (drop_at rs k r there)) ∙ was
-
-  pub rules_end : (old all : List X) → length rs ≤ k → old ++ by_rule f k (drop k rs) ≡ all → old ≡ all
-  rules_end old all past was = sym (append-nil old) ∙ sym (ap (λ ys. old ++ by_rule f k ys) (drop_all k rs past)) ∙ was

@@ -10,6 +10,3 @@ module _ {X Y : Type 0} (f : X → List Y) (xs : List X) (k : ℕ) where
   flat_map-next x old new all there was made =
       ap (λ ys. ys ++ flat_map f (drop (k + 1) xs)) made ∙ append_assoc old (f x) (flat_map f (drop (k + 1) xs))
       ∙ sym (ap (λ ys. old ++ flat_map f ys) (drop_at xs k x there)) ∙ was
-
-  pub flat_map-end : (old all : List Y) → length xs ≤ k → old ++ flat_map f (drop k xs) ≡ all → old ≡ all
-  flat_map-end old all past was = sym (append-nil old) ∙ sym (ap (λ ys. old ++ flat_map f ys) (drop_all k xs past)) ∙ was
