@@ -15,19 +15,10 @@ pub mod OfChanges
 pub mod OfStarts
 pub mod Begun
 pub mod OfCombinations
-<<<<<<< HEAD
-=======
 pub mod OpeningWeights
 pub mod InLists
 pub mod Passes
->>>>>>> 4515a83d1bee767323e1b96da0120cfa378b4a39
 pub mod Planning
 pub mod LowerSteps
 pub mod Settles
 pub mod OfAll
-<<<<<<< HEAD
-pub mod OpeningWeights
-pub mod InLists
-pub mod Passes
-=======
->>>>>>> 4515a83d1bee767323e1b96da0120cfa378b4a39
