@@ -8,11 +8,14 @@ use Rattle.saturation_core.specs.declared.event.Event.TheVariants.{Take, Settle,
 use Rattle.saturation_core.specs.Jobs.{Tables}
 use Rattle.saturation_core.specs.Books.{BookValue, Makes, IsClosed}
 
--- takes by seat 0, each settled before the next
+-- the events of seat 0 that takes these places one after another, and settles each before it takes the next
+abbrev pub turns_of : List Place → List Event
+turns_of [] = []
+turns_of (x ∷ xs) = Take 0 x ∷ Settle 0 ∷ turns_of xs
+
+-- seat 0 alone has made these events, and has settled what it took
 abbrev pub IsAlone : List Event → Type 0
-IsAlone [] = Unit {0}
-IsAlone (Take seat x ∷ Settle other ∷ es) = (seat ≡ 0) × (other ≡ 0) × IsAlone es
-IsAlone _ = ⊥
+IsAlone es = (xs : List Place) × (es ≡ turns_of xs)
 
 -- Systems, directions and openings are equal.
 pub record HasBase {S W Map D : Type 0} (a b : BookValue S W Map D) : Type 0 where

@@ -1,5 +1,5 @@
 ghost use Rattle.std.specs.Prelude.{◌≡◌, [], IfOk, OnOk};
-ghost use Rattle.saturation_core.specs.Books.{IsClosed, NoHand};
+ghost use Rattle.saturation_core.specs.Books.{IsBook, IsClosed, NoHand};
 ghost use Rattle.worker_pool.specs.Alone.{HasTurned, HasBase, IsAlone};
 
 use saturation_core::{Book, Direction, Taken};
@@ -39,6 +39,7 @@ pub fn saturate_alone<'s, S: Semiring, D: Direction<S>>(
     ensures closed { IfOk result IsClosed }
     ensures base { IfOk result (HasBase book.entry) }
     ensures alone { IfOk result (λ b. IsAlone b.journal) }
+    ensures book { IfOk result (IsBook S.operations D.tables D.fits_opening D.places D.runs) }
 {
     let mut book = book;
     while turn(alloc, &mut book)? {}
