@@ -1,1 +1,1 @@
-mod OfPatterns
+pub mod OfPatterns

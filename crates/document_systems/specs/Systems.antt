@@ -1,7 +1,7 @@
 -- The pushdown system and the patterns that a document means.
 use Rattle.std.specs.Prelude.{◌≡◌, ℕ, ◌≤◌, false, List, [], ◌∷◌, length, map, All, None}
 use Rattle.semiring_laws.specs.Semiring.{Operations}
-use Rattle.system_text.specs.FirstForm.{IsRuleLine, IsConfigText}
+use Rattle.system_text.specs.FirstForm.{IsRuleLine, IsConfigText, IsWeightsLine}
 use Rattle.system_text.specs.declared.document.Document.{Document}
 use Rattle.system_text.specs.declared.document.RuleLine.{RuleLine}
 use Rattle.system_text.specs.declared.document.ConfigText.{ConfigText}
@@ -44,6 +44,7 @@ pattern_of symbols c = record { control = c.control; symbols = symbols; items = 
 
 -- The numbers of a document are those of its names, and its counts are those of a system.
 pub record HasSystem (d : Document) : Type 0 where
+  pub weights : IsWeightsLine d.weights
   pub controls : length d.controls ≤ 1000
   pub symbols : length d.symbols ≤ 40000
   pub rules : All (IsRuleLine d.weights (length d.controls) (length d.symbols)) d.rules

@@ -1,4 +1,4 @@
-pub mod OfPlaces
-pub mod OfSaturation
-pub mod OfWords
-pub mod OfReplies
+mod OfReplies
+mod OfWords
+mod OfAnswers
+mod OfReports

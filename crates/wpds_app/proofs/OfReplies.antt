@@ -14,29 +14,29 @@ use Rattle.wpds_app.specs.declared.reply.Reply.{Reply}
 use Rattle.wpds_app.specs.Running.{IsInput, IsAccepted, IsRefused, IsReply, HasReply, IsDecided, IsDecidedBy}
 
 -- a refusal's line is the answer to an input that it refuses
-pub refused_replies : {E : Type 0} (input : List ℕ) (refusal : Refusal) (r : Result Reply E) → IfOk r (λ x. x.status ≡ DocumentRefused)
-    → IfOk r (λ x. string_bytes x.text ≡ refusal_text refusal ++ 10 ∷ []) → IsRefused input refusal → IfOk r (λ x. IsReply input x.status (string_bytes x.text))
-refused_replies input refusal (Ok x) status text refused = subst (λ s. IsReply input s (string_bytes x.text)) (sym status) (refusal, refused, text)
-refused_replies input refusal (Err e) status text refused = tt
+pub refused_replies : {E : Type 0} (input : List ℕ) (brief : Bool) (refusal : Refusal) (r : Result Reply E) → IfOk r (λ x. x.status ≡ DocumentRefused)
+    → IfOk r (λ x. string_bytes x.text ≡ refusal_text refusal ++ 10 ∷ []) → IsRefused input refusal → IfOk r (λ x. IsReply input brief x.status (string_bytes x.text))
+refused_replies input brief refusal (Ok x) status text refused = subst (λ s. IsReply input brief s (string_bytes x.text)) (sym status) (refusal, refused, text)
+refused_replies input brief refusal (Err e) status text refused = tt
 
 -- an input is accepted or refused, and not both
 accepted_not_refused : (input : List ℕ) (d : Document) (r : Refusal) → IsAccepted input d → IsRefused input r → ⊥
 accepted_not_refused input d r accepted (inl too_long) = absurd (let short = accepted.short in omega arith)
 accepted_not_refused input d r accepted (inr none) = none.1 d accepted.form
 
-decided : (input text : List ℕ) (status : Status) → IsReply input status text → IsDecidedBy input status
-decided input text Answered reply = record {
+decided : (input : List ℕ) (brief : Bool) (text : List ℕ) (status : Status) → IsReply input brief status text → IsDecidedBy input status
+decided input brief text Answered reply = record {
   answered = (λ _. (reply.0, reply.1), λ _. refl);
   refused = (λ e. cc, λ r. absurd (accepted_not_refused input reply.0 r.0 reply.1 r.1));
 }
-decided input text DocumentRefused reply = record {
+decided input brief text DocumentRefused reply = record {
   answered = (λ e. cc, λ d. absurd (accepted_not_refused input d.0 reply.0 d.1 reply.1));
   refused = (λ _. (reply.0, reply.1), λ _. refl);
 }
-decided input text WordsRefused reply = absurd reply
-decided input text ReadFault reply = absurd reply
-decided input text WriteFault reply = absurd reply
-decided input text OutOfMemory reply = absurd reply
+decided input brief text WordsRefused reply = absurd reply
+decided input brief text ReadFault reply = absurd reply
+decided input brief text WriteFault reply = absurd reply
+decided input brief text OutOfMemory reply = absurd reply
 
 beginning_by : (b : Bool) (n : ℕ) (bytes input rest : List ℕ) → nat_lt (length input) n ≡ b → bytes ≡ input ++ rest → length input ≤ n → (length input < n → rest ≡ []) → input ≡ take n bytes
 beginning_by true n bytes input rest test joined within whole =
@@ -56,26 +56,26 @@ decided_unfaulted status (inl e) fault = cc
 decided_unfaulted status (inr e) fault = cc
 
 -- where the source tells its bytes, they decide
-decided_by : (bytes text : List ℕ) (left_before left_now : Option (List ℕ)) (status : Status) → left_before ≡ Some bytes → HasReply left_before left_now status text → IsDecidedBy (take 4194305 bytes) status
-decided_by bytes text before now status told has =
+decided_by : (bytes : List ℕ) (brief : Bool) (text : List ℕ) (left_before left_now : Option (List ℕ)) (status : Status) → left_before ≡ Some bytes → HasReply left_before left_now brief status text → IsDecidedBy (take 4194305 bytes) status
+decided_by bytes brief text before now status told has =
     let read : IsInput (Some bytes) now has.input = subst (λ o. IsInput o now has.input) told has.read in
-    subst (λ i. IsDecidedBy i status) (input_is bytes has.input now read) (decided has.input text status has.reply)
+    subst (λ i. IsDecidedBy i status) (input_is bytes has.input now read) (decided has.input brief text status has.reply)
 
 -- the answer that was sent, if no fault came
-pub sent_decided : (bytes text : List ℕ) (left_before left_now : Option (List ℕ)) (status sent : Status) → left_before ≡ Some bytes → HasReply left_before left_now status text
+pub sent_decided : (bytes : List ℕ) (brief : Bool) (text : List ℕ) (left_before left_now : Option (List ℕ)) (status sent : Status) → left_before ≡ Some bytes → HasReply left_before left_now brief status text
     → (sent ≢ WriteFault → sent ≡ status) → IsDecided sent → IsDecidedBy (take 4194305 bytes) sent
-sent_decided bytes text before now status sent told has kept done =
-    subst (IsDecidedBy (take 4194305 bytes)) (sym (kept (decided_unfaulted sent done))) (decided_by bytes text before now status told has)
+sent_decided bytes brief text before now status sent told has kept done =
+    subst (IsDecidedBy (take 4194305 bytes)) (sym (kept (decided_unfaulted sent done))) (decided_by bytes brief text before now status told has)
 
-reply_decides : (input text : List ℕ) (status : Status) → IsReply input status text → IsDecided status
-reply_decides input text Answered reply = inl refl
-reply_decides input text DocumentRefused reply = inr refl
-reply_decides input text WordsRefused reply = absurd reply
-reply_decides input text ReadFault reply = absurd reply
-reply_decides input text WriteFault reply = absurd reply
-reply_decides input text OutOfMemory reply = absurd reply
+reply_decides : (input : List ℕ) (brief : Bool) (text : List ℕ) (status : Status) → IsReply input brief status text → IsDecided status
+reply_decides input brief text Answered reply = inl refl
+reply_decides input brief text DocumentRefused reply = inr refl
+reply_decides input brief text WordsRefused reply = absurd reply
+reply_decides input brief text ReadFault reply = absurd reply
+reply_decides input brief text WriteFault reply = absurd reply
+reply_decides input brief text OutOfMemory reply = absurd reply
 
 -- an answer that was sent without a fault is one to the input
-pub sent_decides : (text : List ℕ) (left_before left_now : Option (List ℕ)) (status sent : Status) → HasReply left_before left_now status text
+pub sent_decides : (brief : Bool) (text : List ℕ) (left_before left_now : Option (List ℕ)) (status sent : Status) → HasReply left_before left_now brief status text
     → (sent ≢ WriteFault → sent ≡ status) → sent ≢ WriteFault → IsDecided sent
-sent_decides text before now status sent has kept unfaulted = subst IsDecided (sym (kept unfaulted)) (reply_decides has.input text status has.reply)
+sent_decides brief text before now status sent has kept unfaulted = subst IsDecided (sym (kept unfaulted)) (reply_decides has.input brief text status has.reply)

@@ -1,4 +1,5 @@
+pub mod Commands
+pub mod Answering
+pub mod Reports
 pub mod Running
-pub mod Saturation
-pub mod Systems
 pub mod Statuses

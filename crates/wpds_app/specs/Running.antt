@@ -1,5 +1,5 @@
 -- What a run of the program reads and writes.
-use Rattle.std.specs.Prelude.{◌≡◌, ℕ, ◌<◌, ◌≤◌, ◌⊎◌, ◌↔◌, List, [], ◌∷◌, ◌++◌, Option, length, codes}
+use Rattle.std.specs.Prelude.{◌≡◌, ℕ, ◌<◌, ◌≤◌, ◌⊎◌, ◌↔◌, Bool, List, [], ◌∷◌, ◌++◌, Option, length}
 use Rattle.std.specs.Io.KnownBytes.{Appends, Consumes, IsAtEnd}
 use Rattle.wpds_port.specs.Writing.{AppendsPart}
 use Rattle.wpds_port.specs.Refusals.{refusal_text}
@@ -7,18 +7,10 @@ use Rattle.wpds_port.specs.declared.refusal.Refusal.{Refusal}
 use Rattle.wpds_port.specs.declared.refusal.Kind.TheVariants.{TooLong, NotBuilt}
 use Rattle.system_text.specs.FirstForm.{IsFirstForm}
 use Rattle.system_text.specs.declared.document.Document.{Document}
-use Rattle.wpds_app.specs.Systems.{IsReachable}
+use Rattle.wpds_app.specs.Commands.{IsCheck, IsCommand, usage_text}
+use Rattle.wpds_app.specs.Reports.{IsReport}
 use Rattle.wpds_app.specs.declared.status.Status.{Status}
 use Rattle.wpds_app.specs.declared.status.Status.TheVariants.{Answered, WordsRefused, ReadFault, WriteFault, DocumentRefused, OutOfMemory}
-
--- the words that are accepted
-abbrev pub IsCheck : List (List ℕ) → Type 0
-IsCheck words = words ≡ codes "check" ∷ []
-
-abbrev pub usage_text : List ℕ
-usage_text =
-    codes "usage: wpds check [--workers N] [--by pre|post] [--brief] [--traces]\n"
-    ++ codes "usage: wpds gen N [--workers N] [--by pre|post]\n"
 
 -- The input is all that was left, or its first 4,194,305 bytes.
 pub record IsInput (left_before left_now : Option (List ℕ)) (input : List ℕ) : Type 0 where
@@ -37,38 +29,34 @@ IsRefused input r =
     ((4194304 < length input) × (r ≡ record { line = 0; kind = TooLong }))
     ⊎ ((length input ≤ 4194304) × ((d : Document) → IsFirstForm input d → ⊥) × (r ≡ record { line = 0; kind = NotBuilt }))
 
--- the report on a document: whether a run leads from its first configuration to its second
-abbrev pub IsReport : Document → List ℕ → Type 0
-IsReport d text =
-    (IsReachable d × (text ≡ codes "query 1: reachable\n"))
-    ⊎ ((IsReachable d → ⊥) × (text ≡ codes "query 1: unreachable\n"))
-
 -- what is answered to an input
-abbrev pub IsReply : List ℕ → Status → List ℕ → Type 0
-IsReply input Answered text = (d : Document) × IsAccepted input d × IsReport d text
-IsReply input DocumentRefused text = (r : Refusal) × IsRefused input r × (text ≡ refusal_text r ++ 10 ∷ [])
-IsReply input WordsRefused text = ⊥
-IsReply input ReadFault text = ⊥
-IsReply input WriteFault text = ⊥
-IsReply input OutOfMemory text = ⊥
+abbrev pub IsReply : List ℕ → Bool → Status → List ℕ → Type 0
+IsReply input brief Answered text = (d : Document) × IsAccepted input d × IsReport d brief text
+IsReply input brief DocumentRefused text = (r : Refusal) × IsRefused input r × (text ≡ refusal_text r ++ 10 ∷ [])
+IsReply input brief WordsRefused text = ⊥
+IsReply input brief ReadFault text = ⊥
+IsReply input brief WriteFault text = ⊥
+IsReply input brief OutOfMemory text = ⊥
 
 -- An input was read, and this is the answer to it.
-pub record HasReply (left_before left_now : Option (List ℕ)) (status : Status) (text : List ℕ) : Type 0 where
+pub record HasReply (left_before left_now : Option (List ℕ)) (brief : Bool) (status : Status) (text : List ℕ) : Type 0 where
   pub input : List ℕ
   pub read : IsInput left_before left_now input
-  pub reply : IsReply input status text
+  pub reply : IsReply input brief status text
 
--- An input was read, and the answer to it was written.
-pub record Replies (left_before left_now written_before written_now : Option (List ℕ)) (status : Status) : Type 0 where
+-- The words are a command, an input was read, and the answer to it was written.
+pub record Replies (words : List (List ℕ)) (left_before left_now written_before written_now : Option (List ℕ)) (status : Status) : Type 0 where
+  pub brief : Bool
+  pub command : IsCheck words brief
   pub text : List ℕ
-  pub reply : HasReply left_before left_now status text
+  pub reply : HasReply left_before left_now brief status text
   pub written : Appends written_before written_now text
 
 -- what is written where no fault of the sink comes: the usage lines, or the answer to the input
 abbrev pub IsText : List (List ℕ) → Option (List ℕ) → Option (List ℕ) → List ℕ → Type 0
 IsText words left_before left_now text =
-    ((IsCheck words → ⊥) × (text ≡ usage_text))
-    ⊎ (IsCheck words × (status : Status) × HasReply left_before left_now status text)
+    ((IsCommand words → ⊥) × (text ≡ usage_text))
+    ⊎ ((brief : Bool) × IsCheck words brief × (status : Status) × HasReply left_before left_now brief status text)
 
 -- A beginning of that was written.
 pub record IsCutShort (words : List (List ℕ)) (left_before left_now written_before written_now : Option (List ℕ)) : Type 0 where

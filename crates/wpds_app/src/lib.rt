@@ -1,14 +1,15 @@
 //! The top call: from the bytes that are read to the bytes that are written.
 #![tactic(auto)]
 
-mod document_system;
-mod place;
+mod answering;
+mod laws;
 mod program;
 mod reply;
-mod saturation;
+mod report;
 mod status;
 mod words;
 
+pub use laws::reports_tell_reachability;
 pub use program::run;
 pub use status::Status;
 

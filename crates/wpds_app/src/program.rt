@@ -3,11 +3,12 @@ ghost use Rattle.std.specs.String.{string_bytes};
 ghost use Rattle.std.specs.Io.KnownBytes.{Appends};
 ghost use Rattle.wpds_port.specs.Causes.{Rose};
 ghost use Rattle.wpds_port.specs.Writing.{AppendsPart};
-ghost use Rattle.wpds_app.specs.Running.{IsCheck, usage_text, Replies, IsCutShort, IsDecided, IsDecidedBy};
+ghost use Rattle.wpds_app.specs.Running.{Replies, IsCutShort, IsDecided, IsDecidedBy};
+ghost use Rattle.wpds_app.specs.Commands.{IsCommand, usage_text};
 
 use crate::Status;
 use crate::reply::read_and_reply;
-use crate::words::is_check;
+use crate::words::command_of;
 use std::alloc::Global;
 use wpds_port::{Failed, InputFault, Sink, Source, write_all};
 
@@ -40,7 +41,7 @@ fn finish<W: Sink>(sink: &mut W, status: Status, text: &[u8]) -> Status
 
 /// Does all that the program does: takes the words after its name, reads a document, and writes the answer to it.
 ///
-/// The only words so far are `check` alone. The document is read to its end, or to one byte more than a document has.
+/// The only words so far are `check` and `check --brief`, which leaves out the listings. The document is read to its end, or to one byte more than a document has.
 /// It is refused whole unless it has the first form (docs/FORMATS.md). The report stands in memory before its first
 /// byte is written.
 pub fn run<R: Source, W: Sink>(
@@ -49,32 +50,32 @@ pub fn run<R: Source, W: Sink>(
     source: &mut R,
     sink: &mut W,
 ) -> Status
-    // Words are refused exactly where they are not `check` and no write fault came. Nothing is read then.
-    ensures words_refused { (result ≡ Status.WordsRefused) ↔ ((IsCheck (map string_bytes words.now) → ⊥) × (result ≢ Status.WriteFault)) }
-    ensures words_accepted { result ≢ Status.WordsRefused → result ≢ Status.WriteFault → IsCheck (map string_bytes words.now) }
+    // Words are refused exactly where they are no command and no write fault came. Nothing is read then.
+    ensures words_refused { (result ≡ Status.WordsRefused) ↔ ((IsCommand (map string_bytes words.now) → ⊥) × (result ≢ Status.WriteFault)) }
+    ensures words_accepted { result ≢ Status.WordsRefused → result ≢ Status.WriteFault → IsCommand (map string_bytes words.now) }
     ensures usage { result ≡ Status.WordsRefused → Appends (W.written sink.old) (W.written sink.new) usage_text }
-    ensures unread { (IsCheck (map string_bytes words.now) → ⊥) → R.left source.new ≡ R.left source.old }
+    ensures unread { (IsCommand (map string_bytes words.now) → ⊥) → R.left source.new ≡ R.left source.old }
 
     // A fault comes only where its side failed in this call.
     ensures read_fault { result ≡ Status.ReadFault → Rose (R.faults source.old) (R.faults source.new) }
     ensures write_fault { result ≡ Status.WriteFault → Rose (W.faults sink.old) (W.faults sink.new) }
 
     // What is written: all of the answer, a beginning of it, or nothing.
-    ensures answered { result ≡ Status.Answered → Replies (R.left source.old) (R.left source.new) (W.written sink.old) (W.written sink.new) Status.Answered }
-    ensures document_refused { result ≡ Status.DocumentRefused → Replies (R.left source.old) (R.left source.new) (W.written sink.old) (W.written sink.new) Status.DocumentRefused }
+    ensures answered { result ≡ Status.Answered → Replies (map string_bytes words.now) (R.left source.old) (R.left source.new) (W.written sink.old) (W.written sink.new) Status.Answered }
+    ensures document_refused { result ≡ Status.DocumentRefused → Replies (map string_bytes words.now) (R.left source.old) (R.left source.new) (W.written sink.old) (W.written sink.new) Status.DocumentRefused }
     ensures cut_short { result ≡ Status.WriteFault → IsCutShort (map string_bytes words.now) (R.left source.old) (R.left source.new) (W.written sink.old) (W.written sink.new) }
     ensures read_fault_unwritten { result ≡ Status.ReadFault → W.written sink.new ≡ W.written sink.old }
     ensures memory_unwritten { result ≡ Status.OutOfMemory → W.written sink.new ≡ W.written sink.old }
 
     // Accepted words, no fault and memory enough give an answer to the input. Where the source tells its bytes, it is
     // exactly the answer to them.
-    ensures complete { IsCheck (map string_bytes words.now) → result ≢ Status.ReadFault → result ≢ Status.WriteFault → result ≢ Status.OutOfMemory → IsDecided result }
+    ensures complete { IsCommand (map string_bytes words.now) → result ≢ Status.ReadFault → result ≢ Status.WriteFault → result ≢ Status.OutOfMemory → IsDecided result }
     ensures exactly { (bytes : List ℕ) → R.left source.old ≡ Some bytes → IsDecided result → IsDecidedBy (take 4194305 bytes) result }
 {
-    if !is_check(words) {
+    let Some(command) = command_of(words) else {
         return finish(sink, Status::WordsRefused, USAGE.as_bytes());
-    }
-    match read_and_reply(alloc, source) {
+    };
+    match read_and_reply(alloc, source, command.brief) {
         Ok(reply) => finish(sink, reply.status, reply.text.as_bytes()),
         Err(InputFault::Read) => Status::ReadFault,
         Err(InputFault::Memory) => Status::OutOfMemory,

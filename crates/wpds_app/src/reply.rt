@@ -2,13 +2,12 @@ ghost use Rattle.std.specs.Prelude.{◌≡◌, ◌≤◌, ◌++◌, ◌∷◌, [
 ghost use Rattle.std.specs.String.{string_bytes};
 ghost use Rattle.wpds_port.specs.Causes.{Rose};
 ghost use Rattle.wpds_port.specs.Refusals.{refusal_text};
-ghost use Rattle.wpds_app.specs.Running.{HasReply, IsReply, IsReport};
-ghost use Rattle.wpds_app.specs.Systems.{HasSystem};
+ghost use Rattle.wpds_app.specs.Running.{HasReply, IsReply};
 
 use crate::Status;
-use crate::document_system::is_reachable;
+use crate::report::report;
 use std::alloc::Global;
-use system_text::{Document, read_first_form};
+use system_text::read_first_form;
 use wpds_port::{InputFault, Kind, OutOfMemory, Refusal, Source, read_up_to};
 
 /// The most bytes that a document has.
@@ -19,19 +18,6 @@ const MOST_BYTES: usize = 4_194_304;
 pub(crate) struct Reply {
     pub(crate) status: Status,
     pub(crate) text: String,
-}
-
-// The report on a document.
-fn report(alloc: Global, document: &Document) -> Result<String, OutOfMemory>
-    requires { HasSystem document.now }
-    ensures { IfOk result (λ t. IsReport document.now (string_bytes t)) }
-{
-    let text = if is_reachable(alloc, document)? {
-        "query 1: reachable\n"
-    } else {
-        "query 1: unreachable\n"
-    };
-    Ok(String::from_str(alloc, text)?)
 }
 
 // The line of a refusal that concerns the document as a whole.
@@ -48,8 +34,8 @@ fn refused(alloc: Global, kind: Kind) -> Result<Reply, OutOfMemory>
 }
 
 // What is answered to an input.
-fn reply_to(alloc: Global, input: &[u8]) -> Result<Reply, OutOfMemory>
-    ensures { IfOk result (λ r. IsReply input.now r.status (string_bytes r.text)) }
+fn reply_to(alloc: Global, input: &[u8], brief: bool) -> Result<Reply, OutOfMemory>
+    ensures { IfOk result (λ r. IsReply input.now brief r.status (string_bytes r.text)) }
 {
     if input.len() > MOST_BYTES {
         return refused(alloc, Kind::TooLong);
@@ -57,7 +43,7 @@ fn reply_to(alloc: Global, input: &[u8]) -> Result<Reply, OutOfMemory>
     match read_first_form(alloc, input)? {
         None => refused(alloc, Kind::NotBuilt),
         Some(document) => {
-            let text = report(alloc, &document)?;
+            let text = report(alloc, &document, brief)?;
             Ok(Reply {
                 status: Status::Answered,
                 text,
@@ -67,10 +53,14 @@ fn reply_to(alloc: Global, input: &[u8]) -> Result<Reply, OutOfMemory>
 }
 
 /// Reads an input, and answers it.
-pub(crate) fn read_and_reply<R: Source>(alloc: Global, source: &mut R) -> Result<Reply, InputFault>
-    ensures reply { IfOk result (λ r. HasReply (R.left source.old) (R.left source.new) r.status (string_bytes r.text)) }
+pub(crate) fn read_and_reply<R: Source>(
+    alloc: Global,
+    source: &mut R,
+    brief: bool,
+) -> Result<Reply, InputFault>
+    ensures reply { IfOk result (λ r. HasReply (R.left source.old) (R.left source.new) brief r.status (string_bytes r.text)) }
     ensures fault { IsErrOf result InputFault.Read → Rose (R.faults source.old) (R.faults source.new) }
 {
     let input = read_up_to(alloc, source, MOST_BYTES + 1)?;
-    Ok(reply_to(alloc, &input)?)
+    Ok(reply_to(alloc, &input, brief)?)
 }

@@ -6,6 +6,8 @@ use wpds_port::{MemSink, MemSource, OutOfMemory};
 const CALL: &str =
     "wpds 1\nweights reach\ncontrols p q\nsymbols a b\nrule p a -> p b a\nrule p b -> q\nquery p: a => q: a\n";
 
+const BRIEF: [&str; 2] = ["check", "--brief"];
+
 const USAGE: &str =
     "usage: wpds check [--workers N] [--by pre|post] [--brief] [--traces]\nusage: wpds gen N [--workers N] [--by pre|post]\n";
 
@@ -101,7 +103,7 @@ fn answers_documents(rt: HostRuntime) -> Result<(), Fail> {
         ("query p: a => r: a\n", Status::DocumentRefused, not_built),
     ] {
         let document = format!(in rt.alloc(); "{head}{names}{rest}")?;
-        let (ended, written) = outcome(rt.alloc(), &["check"], document.as_bytes(), &[], 100, &[])?;
+        let (ended, written) = outcome(rt.alloc(), &BRIEF, document.as_bytes(), &[], 100, &[])?;
         assert_eq!(rt; ended, status, "at {rest}");
         assert_eq!(rt; written.as_slice(), text.as_bytes(), "at {rest}");
     }
@@ -116,7 +118,9 @@ fn refuses_words(rt: HostRuntime) -> Result<(), Fail> {
         &["gen"],
         &["Check"],
         &["check", "check"],
-        &["check", "--brief"],
+        &["check", "brief"],
+        &["--brief", "check"],
+        &["check", "--brief", "--brief"],
         &["--help"],
         &[""],
     ] {
@@ -132,28 +136,28 @@ fn stops_at_each_fault(rt: HostRuntime) -> Result<(), Fail> {
     let text = "query 1: reachable\n".as_bytes();
     let reads = CALL.len() as u64 / 16 + 2;
     for call in 0..reads {
-        let (ended, written) = outcome(rt.alloc(), &["check"], CALL.as_bytes(), &[call], 100, &[])?;
+        let (ended, written) = outcome(rt.alloc(), &BRIEF, CALL.as_bytes(), &[call], 100, &[])?;
         assert_eq!(rt; ended, Status::ReadFault, "at read {call}");
         assert!(rt; written.is_empty());
     }
-    let (ended, _) = outcome(rt.alloc(), &["check"], CALL.as_bytes(), &[reads], 100, &[])?;
+    let (ended, _) = outcome(rt.alloc(), &BRIEF, CALL.as_bytes(), &[reads], 100, &[])?;
     assert_eq!(rt; ended, Status::Answered);
 
     // five pieces of the text and the flush
     for call in 0..6u64 {
-        let (ended, written) = outcome(rt.alloc(), &["check"], CALL.as_bytes(), &[], 100, &[call])?;
+        let (ended, written) = outcome(rt.alloc(), &BRIEF, CALL.as_bytes(), &[], 100, &[call])?;
         assert_eq!(rt; ended, Status::WriteFault, "at write {call}");
         let count = text.len().min(4 * call as usize);
         assert_eq!(rt; written.as_slice(), &text[..count]);
     }
     for room in 0..text.len() {
-        let (ended, written) = outcome(rt.alloc(), &["check"], CALL.as_bytes(), &[], room, &[])?;
+        let (ended, written) = outcome(rt.alloc(), &BRIEF, CALL.as_bytes(), &[], room, &[])?;
         assert_eq!(rt; ended, Status::WriteFault, "with room for {room}");
         assert!(rt; written.len() <= room && text.starts_with(&written));
     }
     let (ended, written) = outcome(
         rt.alloc(),
-        &["check"],
+        &BRIEF,
         CALL.as_bytes(),
         &[],
         text.len(),
@@ -201,4 +205,56 @@ fn codes_are_told_apart(rt: HostRuntime) {
     ] {
         assert_eq!(rt; status.code(), code);
     }
+}
+
+// The lines of a ladder of so many rungs, each of which is entered twice. Its one run costs 2 to the power of the rungs.
+fn ladder(alloc: Global, rungs: u32) -> Result<String, OutOfMemory> {
+    let mut text = String::from_str(alloc, "wpds 1\nweights cost 1000000000\ncontrols p\nsymbols")?;
+    for k in 0..rungs {
+        text.push_str(format!(in alloc; " e{k} m{k} x{k}")?.as_str())?;
+    }
+    text.push_str(format!(in alloc; " e{rungs}\n")?.as_str())?;
+    for k in 0..rungs {
+        let next = k as u64 + 1;
+        text.push_str(format!(in alloc; "rule p e{k} -> p e{next} m{k} : 0\n")?.as_str())?;
+        text.push_str(format!(in alloc; "rule p m{k} -> p e{next} x{k} : 0\n")?.as_str())?;
+        text.push_str(format!(in alloc; "rule p x{k} -> p : 0\n")?.as_str())?;
+    }
+    text.push_str(format!(in alloc; "rule p e{rungs} -> p : 1\nquery p: e0 => p:\n")?.as_str())?;
+    Ok(text)
+}
+
+#[test]
+fn ladders(rt: HostRuntime) -> Result<(), Fail> {
+    for (rungs, text) in [(1, "query 1: 2\n"), (20, "query 1: 1048576\n"), (30, "query 1: 1000000000 or more\n")] {
+        let document = ladder(rt.alloc(), rungs)?;
+        let (ended, written) = outcome(rt.alloc(), &BRIEF, document.as_bytes(), &[], 100, &[])?;
+        assert_eq!(rt; ended, Status::Answered, "{rungs} rungs");
+        assert_eq!(rt; written.as_slice(), text.as_bytes(), "{rungs} rungs");
+    }
+    Ok(())
+}
+
+#[test]
+fn costs(rt: HostRuntime) -> Result<(), Fail> {
+    let call = "weights cost 100\ncontrols p q\nsymbols a b\nrule p a -> p b a : 2\nrule p b -> q : 1\n";
+    let steps = "weights cost 5\ncontrols p\nsymbols a b c\nrule p a -> p b : 3\nrule p b -> p c : 3\n";
+    let pushes = "weights cost 100\ncontrols p\nsymbols a\nrule p a -> p a a : 1\nrule p a -> p : 0\n";
+    for (system, query, text) in [
+        (call, "query p: a => q: a\n", "query 1: 3\n"),
+        // the empty run
+        (call, "query p: a => p: a\n", "query 1: 0\n"),
+        (call, "query p: => p:\n", "query 1: 0\n"),
+        (call, "query q: a => p: a\n", "query 1: unreachable\n"),
+        (steps, "query p: a => p: c\n", "query 1: 5 or more\n"),
+        (steps, "query p: a => p: b\n", "query 1: 3\n"),
+        (pushes, "query p: a => p: a a a\n", "query 1: 2\n"),
+        (pushes, "query p: a => p:\n", "query 1: 0\n"),
+    ] {
+        let document = format!(in rt.alloc(); "wpds 1\n{system}{query}")?;
+        let (ended, written) = outcome(rt.alloc(), &BRIEF, document.as_bytes(), &[], 100, &[])?;
+        assert_eq!(rt; ended, Status::Answered, "at {query}");
+        assert_eq!(rt; written.as_slice(), text.as_bytes(), "at {query}");
+    }
+    Ok(())
 }

@@ -1,0 +1,5 @@
+use Rattle.wpds_app.proofs.OfReports.{tells}
+use Rattle.wpds_app.proofs.laws.reports_tell_reachability.Goals as goal
+
+pub returns : goal.returns
+returns c = tells

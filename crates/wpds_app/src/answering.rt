@@ -1,0 +1,44 @@
+ghost use Rattle.std.specs.Prelude.{◌≡◌, ◌<◌, IfOk};
+ghost use Rattle.pattern_openings.specs.PatternOpenings.{IsOver};
+ghost use Rattle.wpds_app.specs.Answering.{IsSaturatedFor, IsAnswer};
+
+use config_patterns::Pattern;
+use path_sum::{Answer, sum};
+use pattern_openings::openings_read_members;
+use prestar::{Pre, pre_opening};
+use pushdown_rules::System;
+use saturation_core::Book;
+use semiring_laws::Semiring;
+use std::alloc::Global;
+use worker_pool::saturate_alone;
+use wpds_port::OutOfMemory;
+
+// The finished saturation backwards from a pattern.
+fn saturated<'s, S: Semiring>(
+    alloc: Global,
+    system: &'s System<S>,
+    to: &Pattern,
+) -> Result<Book<'s, S, Pre>, OutOfMemory>
+    requires { IsOver system.now.controls system.now.symbols to.now }
+    ensures { IfOk result (IsSaturatedFor S.operations system.now to.now) }
+{
+    let opened = pre_opening(alloc, system, to)?;
+    saturate_alone(alloc, opened)
+}
+
+/// The answer to the query for runs from a pattern to a pattern: backwards from the second, by one worker, and then the
+/// sum over the paths that read the first.
+pub(crate) fn answer<S: Semiring>(
+    alloc: Global,
+    system: &System<S>,
+    from: &Pattern,
+    to: &Pattern,
+) -> Result<Answer<S>, OutOfMemory>
+    requires from { from.now.control < system.now.controls }
+    requires to { IsOver system.now.controls system.now.symbols to.now }
+    ensures { IfOk result (IsAnswer S.operations system.now from.now to.now) }
+{
+    openings_read_members();
+    let book = saturated(alloc, system, to)?;
+    sum(alloc, &book, from)
+}
