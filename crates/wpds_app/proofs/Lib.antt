@@ -2,3 +2,4 @@ mod OfReplies
 mod OfWords
 mod OfAnswers
 mod OfReports
+mod OfReporting

@@ -1,6 +1,6 @@
 -- The answer of a sum over a book that one worker has saturated.
 use Rattle.std.proofs.Common.{◌≡◌, ◌↔◌, ℕ, ◌<◌, IsTrue, IfSome, None, List, sym, ap, subst, ◌∙◌}
-use Rattle.std.specs.Prelude.{nat_eq}
+use Rattle.std.specs.Prelude.{nat_eq, Result, Ok, Err, IfOk}
 use Rattle.std.proofs.lemmas.Bool.{and_parts, eqb-true}
 use Rattle.semiring_laws.specs.Semiring.{Operations}
 use Rattle.pushdown_rules.specs.Configuration.{Configuration}
@@ -60,3 +60,14 @@ module _ {S W Map : Type 0} (operations : S → Operations W Map) (from : Descri
         saturated = saturated;
         grown = here.grown;
       }
+
+  pub sum_answers : {E : Type 0} → OpeningsReadMembers → (p : Pushdown S W Map) (to : Described) → to.control < p.controls → (b : BookValue S W Map Pre) → IsSaturatedFor operations p to b → (r : Result (Answer S W Map) E)
+      → IfOk r (λ a. AnswersOpening (operations b.system.semiring) Backward b.system b.opening (has_member from) a.value (listed_runs a.listing))
+      → IfOk r (λ a. (a.listing ≡ None) ↔ (a.value ≡ (operations b.system.semiring).zero))
+      → IfOk r (λ a. IfSome a.listing (λ l. l.side ≡ Backward))
+      → IfOk r (λ a. IfSome a.listing (λ l. IsTight (operations b.system.semiring) (value_of (operations b.system.semiring) b.system) l.side l.nodes))
+      → IfOk r (λ a. IsGrownAnswer (operations b.system.semiring) Backward b.opening b.state.transitions b.state.nodes (ways_of from) a)
+      → IfOk r (IsAnswer operations p from to)
+  sum_answers law p to below b saturated (Ok a) answers unlisted side tight grown =
+      answer_is law p to below b a saturated (record { answers = answers; unlisted = unlisted; side = side; tight = tight; grown = grown })
+  sum_answers law p to below b saturated (Err e) answers unlisted side tight grown = tt

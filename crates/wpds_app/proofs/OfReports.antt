@@ -81,11 +81,11 @@ module _ (d : Document) where
 
   rules_one : (run : List ℕ) → AllByRecursion IsOneRule (rules_of reach_operations system run)
   rules_one [] = tt
-  rules_one (k ∷ ks) = go (slice_get system.rules k) refl
+  rules_one (k ∷ ks) = go (slice_get system.rules k) refl (rules_one ks)
     where
-      go : (o : Option (Rule ReachValue Bool NoMap)) → slice_get system.rules k ≡ o → AllByRecursion IsOneRule (rules_of reach_operations system (k ∷ ks))
-      go None is = rw is (rules_one ks)
-      go (Some r) is = rw is (line_one d.rules k r is, rules_one ks)
+      go : (o : Option (Rule ReachValue Bool NoMap)) → slice_get system.rules k ≡ o → AllByRecursion IsOneRule (rules_of reach_operations system ks) → AllByRecursion IsOneRule (rules_of reach_operations system (k ∷ ks))
+      go None is rest = rw is rest
+      go (Some r) is rest = rw is (line_one d.rules k r is, rest)
 
   run_one : (run : List ℕ) → value_of reach_operations system run ≡ true
   run_one run = value_one (rules_of reach_operations system run) (starting reach_operations) (rules_one run) (refl, tt)
@@ -104,12 +104,12 @@ module _ (d : Document) where
 
   never : (value : Bool) → value ≡ false → (runs : List (List ℕ)) → Answers reach_operations system (has_member (pattern_of (length d.symbols) d.query.from)) (has_member (pattern_of (length d.symbols) d.query.to)) value runs
       → IsReachable d → ⊥
-  never value zero runs answers (run, leads) =
+  never value nothing runs answers (run, leads) =
       let from = (one_member (length d.symbols) d.query.from (configuration_of d.query.from)).1 refl in
       let to = (one_member (length d.symbols) d.query.to (configuration_of d.query.to)).1 refl in
       let below : (value || value_of reach_operations system run) ≡ value = answers.below run (configuration_of d.query.from, configuration_of d.query.to, from, to, leads) in
       let one = run_one run in
-      cc (below, zero, one)
+      cc (below, nothing, one)
 
 line_is : (value : List ℕ) → query_line 1 value ≡ codes "query 1: " ++ value ++ 10 ∷ []
 line_is value = ap (λ n. codes "query " ++ n ++ codes ": " ++ value ++ 10 ∷ []) (decimal_digit 1 (omega arith))
@@ -118,15 +118,13 @@ unlisted_text : (brief : Bool) (value : List ℕ) (listing : Option Listing) →
 unlisted_text true value listing none = append-nil (query_line 1 value)
 unlisted_text false value listing none = ap (λ l. query_line 1 value ++ shown l) none ∙ append-nil (query_line 1 value)
 
-told : (d : Document) (brief : Bool) (report : List ℕ) → IsReported (λ _. reach_operations) (λ _. reach_weight) (λ _. reach_text) (record {}) d brief report → TellsReachability d report
+told : (d : Document) (brief : Bool) (report : List ℕ) → IsReported {S = ReachValue} {W = Bool} {Map = NoMap} (λ _. reach_operations) (λ _. reach_weight) (λ _. reach_text) (record {}) d brief report → TellsReachability d report
 told d brief report reported = go reported.answer.value refl
   where
-    is : _
-    is = reported.is_answer
     go : (value : Bool) → reported.answer.value ≡ value → TellsReachability d report
     go true e =
         inl (
-          reached d (listed_runs reported.answer.listing) is.answers.lead (sym e ∙ is.answers.combined),
+          reached d (listed_runs reported.answer.listing) reported.is_answer.answers.lead (sym e ∙ reported.is_answer.answers.combined),
           (if brief then [] else shown reported.answer.listing),
           reported.text
           ∙ ap (λ v. query_text 1 brief (reach_text v) reported.answer.listing) e
@@ -134,10 +132,10 @@ told d brief report reported = go reported.answer.value refl
         )
     go false e =
         inr (
-          never d reported.answer.value e (listed_runs reported.answer.listing) is.answers,
+          never d reported.answer.value e (listed_runs reported.answer.listing) reported.is_answer.answers,
           reported.text
           ∙ ap (λ v. query_text 1 brief (reach_text v) reported.answer.listing) e
-          ∙ unlisted_text brief (codes "unreachable") reported.answer.listing (is.unlisted.1 e)
+          ∙ unlisted_text brief (codes "unreachable") reported.answer.listing (reported.is_answer.unlisted.1 e)
           ∙ line_is (codes "unreachable"),
         )
 

@@ -2,6 +2,7 @@
 use Rattle.std.specs.Prelude.{◌≡◌, ◌⊎◌, ℕ, Bool, List, [], ◌++◌, length, Option, None, Some, codes, if◌then◌else◌}
 use Rattle.semiring_laws.specs.Semiring.{Operations}
 use Rattle.semiring_laws.specs.declared.reach.Reach.{Reach as ReachValue}
+use Rattle.semiring_laws.specs.declared.reach.NoMap.{NoMap}
 use Rattle.semiring_laws.specs.Reach.{reach_operations}
 use Rattle.cost_weights.specs.Cost.{cost_operations}
 use Rattle.pushdown_rules.specs.Firing.{Run}
@@ -33,8 +34,8 @@ module _ {S W Map : Type 0} (operations : S → Operations W Map) (weight : S �
 
 -- the report on a document over the semiring of some weights
 abbrev pub IsReportBy : WeightsLine → Document → Bool → List ℕ → Type 0
-IsReportBy Reach d brief report = IsReported (λ _. reach_operations) (λ _. reach_weight) (λ _. reach_text) (record {}) d brief report
-IsReportBy (Cost cap) d brief report = IsReported cost_operations cost_weight cost_text cap d brief report
+IsReportBy Reach d brief report = IsReported {S = ReachValue} {W = Bool} {Map = NoMap} (λ _. reach_operations) (λ _. reach_weight) (λ _. reach_text) (record {}) d brief report
+IsReportBy (Cost most) d brief report = IsReported {S = ℕ} {W = Option ℕ} {Map = NoMap} cost_operations cost_weight cost_text most d brief report
 
 -- the report on a document, over the semiring of its own
 abbrev pub IsReport : Document → Bool → List ℕ → Type 0
