@@ -39,7 +39,7 @@ pub fn saturate_alone<'s, S: Semiring, D: Direction<S>>(
     alloc: Global,
     book: Book<'s, S, D>,
 ) -> Result<Book<'s, S, D>, OutOfMemory>
-    requires { book.entry.journal ≡ [] }
+    requires { book.journal ≡ [] }
     ensures closed { IfOk result IsClosed }
     ensures base { IfOk result (HasBase book.entry) }
     ensures alone { IfOk result (λ b. IsAlone b.journal) }
