@@ -1,8 +1,8 @@
 -- What a turn of one worker makes of a book.
-use Rattle.std.proofs.Common.{◌≡◌, inl, inr, ℕ, ◌+◌, ◌-◌, ◌*◌, ◌<◌, ◌≤◌, List, [], ◌∷◌, ◌++◌, length, get_or, set, replicate, refl, sym, ap, ap₂, subst, ◌∙◌, arith}
-use Rattle.std.specs.Prelude.{Bool, true, false, ◌&&◌, nat_lt, IsTrue, Option, Some, None, option_map, is_none}
+use Rattle.std.proofs.Common.{◌≡◌, inl, inr, ℕ, ◌+◌, ◌-◌, ◌*◌, ◌<◌, ◌≤◌, List, [], ◌∷◌, ◌++◌, length, get_or, set, refl, sym, ap, ap₂, subst, ◌∙◌, arith}
+use Rattle.std.specs.Prelude.{Bool, true, ◌&&◌, nat_lt, IsTrue, Option, Some, None, option_map, is_none}
 use Rattle.std.specs.List.{AllByRecursion}
-use Rattle.std.specs.Prelude.{All, IfSome}
+use Rattle.std.specs.Prelude.{IfSome}
 use Rattle.std.proofs.lemmas.Bool.{and_parts, cond_both, cases_eq, cases_lt, ltb-true}
 use Rattle.std.proofs.lemmas.Option.{same_Some}
 use Rattle.std.proofs.lemmas.List.{get_or-set_same, get_or-set_other, get_or_past, length-set, length_push}
@@ -11,13 +11,12 @@ use Rattle.semiring_laws.specs.Semiring.{Operations, IsSemiring}
 use Rattle.weighted_automata.specs.declared.place.Place.{Place}
 use Rattle.weighted_automata.specs.Entries.{entry_at}
 use Rattle.pushdown_rules.specs.Pushdown.{Pushdown, IsSystem}
-use Rattle.saturation_core.specs.declared.event.Event.{Event}
 use Rattle.saturation_core.specs.declared.event.Event.TheVariants.{Take, Settle}
 use Rattle.saturation_core.specs.declared.job.Job.{Job}
 use Rattle.saturation_core.specs.declared.hand.Holding.{Holding}
 use Rattle.saturation_core.specs.declared.opening.Opening.{Opening}
 use Rattle.saturation_core.specs.Jobs.{Tables}
-use Rattle.saturation_core.specs.States.{CoreState, Change, hand_at, weight_at, lower_state, apply, apply_all, change_of, apply_jobs, jobs_at, take, settle, step, replay, is_front}
+use Rattle.saturation_core.specs.States.{CoreState, Change, hand_at, weight_at, lower_state, apply, apply_all, change_of, apply_jobs, jobs_at, settle, step, replay, is_front}
 use Rattle.saturation_core.specs.Openings.{pops, with_edge, with_edges, bare, opening_state}
 use Rattle.saturation_core.specs.Directions.{IsDirection, AgreeOn}
 use Rattle.saturation_core.specs.Bound.{takes, gives}

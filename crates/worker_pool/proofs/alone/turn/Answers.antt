@@ -1,4 +1,4 @@
-use Rattle.std.proofs.Common.{◌≡◌, sym, ap, ◌∙◌, subst}
+use Rattle.std.proofs.Common.{sym, ap, ◌∙◌, subst}
 use Rattle.saturation_core.specs.declared.event.Event.TheVariants.{Take, Settle}
 use Rattle.weighted_automata.specs.declared.place.Place.{Place}
 use Rattle.saturation_core.specs.Books.{AnswersTake, Makes}
