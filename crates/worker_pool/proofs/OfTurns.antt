@@ -1,8 +1,7 @@
 -- What a turn of one worker makes of a book.
 use Rattle.std.proofs.Common.{◌≡◌, inl, inr, ℕ, ◌+◌, ◌-◌, ◌*◌, ◌<◌, ◌≤◌, List, [], ◌∷◌, ◌++◌, length, get_or, set, refl, sym, ap, ap₂, subst, ◌∙◌, arith}
-use Rattle.std.specs.Prelude.{Bool, true, ◌&&◌, nat_lt, IsTrue, Option, Some, None, option_map, is_none}
+use Rattle.std.specs.Prelude.{Bool, true, ◌&&◌, nat_lt, IsTrue, IfSome, Option, Some, None, option_map, is_none}
 use Rattle.std.specs.List.{AllByRecursion}
-use Rattle.std.specs.Prelude.{IfSome}
 use Rattle.std.proofs.lemmas.Bool.{and_parts, cond_both, cases_eq, cases_lt, ltb-true}
 use Rattle.std.proofs.lemmas.Option.{same_Some}
 use Rattle.std.proofs.lemmas.List.{get_or-set_same, get_or-set_other, get_or_past, length-set, length_push}
