@@ -1,1 +1,2 @@
 mod OfAlone
+mod OfTurns

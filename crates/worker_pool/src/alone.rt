@@ -2,6 +2,7 @@ ghost use Rattle.std.specs.Prelude.{◌≡◌, [], IfOk, OnOk};
 ghost use Rattle.saturation_core.specs.Books.{IsBook, IsClosed, NoHand};
 ghost use Rattle.worker_pool.specs.Alone.{HasTurned, HasBase, IsAlone};
 
+use pushdown_rules::System;
 use saturation_core::{Book, Direction, Taken};
 use semiring_laws::Semiring;
 use std::alloc::Global;
@@ -11,22 +12,25 @@ use wpds_port::OutOfMemory;
 fn turn<S: Semiring, D: Direction<S>>(
     alloc: Global,
     book: &mut Book<'_, S, D>,
+    system: &System<S>,
+    direction: &D,
 ) -> Result<bool, OutOfMemory>
-    requires { NoHand book.old }
+    requires free { NoHand book.old }
+    requires system { system.now ≡ book.old.system }
+    requires direction { direction.now ≡ book.old.direction }
     ensures turned { IfOk result (λ more. HasTurned S.operations D.tables more book.old book.new) }
     ensures free { OnOk result (NoHand book.new) }
 {
     let Taken::Hand(hand) = book.take(alloc, 0)? else {
         return Ok(false);
     };
-    let (system, direction) = (book.system(), book.direction());
-    let Ok(done) = hand.work(alloc, system, &direction) else {
+    let Ok(done) = hand.work(alloc, system, direction) else {
         return Err(OutOfMemory);
     };
-    match book.settle(alloc, done) {
-        Ok(_) => Ok(true),
-        Err(_) => Err(OutOfMemory),
-    }
+    let Ok(_) = book.settle(alloc, done) else {
+        return Err(OutOfMemory);
+    };
+    Ok(true)
 }
 
 /// Saturates a book by seat 0 alone, which settles each hand before it takes the next, until nothing waits. It is refused
@@ -35,13 +39,14 @@ pub fn saturate_alone<'s, S: Semiring, D: Direction<S>>(
     alloc: Global,
     book: Book<'s, S, D>,
 ) -> Result<Book<'s, S, D>, OutOfMemory>
-    requires { book.entry.journal ≡ [] }
+    requires { book.journal ≡ [] }
     ensures closed { IfOk result IsClosed }
     ensures base { IfOk result (HasBase book.entry) }
     ensures alone { IfOk result (λ b. IsAlone b.journal) }
     ensures book { IfOk result (IsBook S.operations D.tables D.fits_opening D.places D.runs) }
 {
     let mut book = book;
-    while turn(alloc, &mut book)? {}
+    let (system, direction) = (book.system(), book.direction());
+    while turn(alloc, &mut book, system, &direction)? {}
     Ok(book)
 }
