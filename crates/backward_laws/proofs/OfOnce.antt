@@ -36,9 +36,9 @@ once_flat_map : {X Y : Type 0} (f : X → List Y) (Of : Y → X → Type 0) → 
 once_flat_map f Of of same each [] _ = tt
 once_flat_map f Of of same each (x ∷ xs) once =
     once_append (f x) (flat_map f xs) (each x) (once_flat_map f Of of same each xs once.1) (λ y h g.
-      let other = from_flat_map f y xs g in
-      let P : _ → Type 0 = λ z. IsIn z xs in
-      once.0 (subst P (sym (same y x other.before (of x y h) (of other.before y other.is))) other.there))
+    let other = from_flat_map f y xs g in
+    let P : _ → Type 0 = λ z. IsIn z xs in
+    once.0 (subst P (sym (same y x other.before (of x y h) (of other.before y other.is))) other.there))
 
 module _ {S W Map X : Type 0} (f : ℕ → Rule S W Map → List X) (number : X → Option ℕ) (numbered : (k : ℕ) (r : Rule S W Map) (x : X) → IsIn x (f k r) → number x ≡ Some k)
     (each : (k : ℕ) (r : Rule S W Map) → IsOnce (f k r)) where
@@ -52,9 +52,9 @@ module _ {S W Map X : Type 0} (f : ℕ → Rule S W Map → List X) (number : X 
   once_by_rule : (n : ℕ) (rs : List (Rule S W Map)) → IsOnce (by_rule f n rs)
   once_by_rule n [] = tt
   once_by_rule n (r ∷ rs) = once_append (f n r) (by_rule f (suc n) rs) (each n r) (once_by_rule (suc n) rs) (λ x h g.
-    let later = from_number (suc n) rs x g in
-    let same : n ≡ later.0 = same_Some n later.0 (sym (numbered n r x h) ∙ later.2) in
-    let far = later.1 in absurd (omega (arith, same, far)))
+      let later = from_number (suc n) rs x g in
+      let same : n ≡ later.0 = same_Some n later.0 (sym (numbered n r x h) ∙ later.2) in
+      let far = later.1 in absurd (omega (arith, same, far)))
 
 module _ {S W Map : Type 0} where
   distinct_once : (ts : List (Entry S W Map)) → HasDistinctPlaces ts → IsOnce ts
@@ -108,9 +108,9 @@ module _ {S W Map : Type 0} where
       pair_once u =
           once_append (only_if (one u) (push_job kind k r t u)) (only_if (other u) (push_job kind k r u t)) (once_only (one u) (push_job kind k r t u)) (once_only (other u) (push_job kind k r u t))
           (λ j a b.
-            let first = from_only (one u) (push_job kind k r t u) j a in
-            let second = from_only (other u) (push_job kind k r u t) j b in
-            apart u second.0 (ap (λ (x : Entry S W Map). x.place) (sym (first_of t u u t j first.1 second.1))))
+          let first = from_only (one u) (push_job kind k r t u) j a in
+          let second = from_only (other u) (push_job kind k r u t) j b in
+          apart u second.0 (ap (λ (x : Entry S W Map). x.place) (sym (first_of t u u t j first.1 second.1))))
 
       pairs_once : IsOnce (pairs_of controls kind ts t k r g h)
       pairs_once = cond_both (may_be_input r g h t) (flat_map (pair_jobs controls kind k r g h t) ts) [] IsOnce
@@ -120,10 +120,10 @@ module _ {S W Map : Type 0} where
       pairs_are j listed =
           let P : List (Job S W Map) → Type 0 = λ js. IsIn j js → (j.rule ≡ Some k) × (j.kind ≡ kind) in
           let made : (a b : Entry S W Map) → push_job kind k r a b ≡ j → (j.rule ≡ Some k) × (j.kind ≡ kind) = λ a b e.
-              (ap (λ (z : Job S W Map). z.rule) (sym e), ap (λ (z : Job S W Map). z.kind) (sym e)) in
+          (ap (λ (z : Job S W Map). z.rule) (sym e), ap (λ (z : Job S W Map). z.kind) (sym e)) in
           cond_both (may_be_input r g h t) (flat_map (pair_jobs controls kind k r g h t) ts) [] P
           (λ _ l. let u = from_flat_map (pair_jobs controls kind k r g h t) j ts l in
-            elim (pair_is u.before j u.is) [ inl e ↦ made t u.before e | inr e ↦ made u.before t e.0 ])
+          elim (pair_is u.before j u.is) [ inl e ↦ made t u.before e | inr e ↦ made u.before t e.0 ])
           (λ _ l. absurd l) listed
 
     push_once : (o : Option (ℕ × ℕ)) → IsOnce (elim o [ None ↦ [] | Some w ↦ pairs_of controls kind ts t k r w.0 w.1 ])
@@ -166,7 +166,7 @@ module _ {S W Map : Type 0} (p : Pushdown S W Map) (ts : List (Entry S W Map)) (
       let stays = pushes PrePushOther in
       once_append (by_rule (step_of t) 0 p.rules) (calls ++ stays) steps_once
       (once_append calls stays (pushes_once PrePushControl) (pushes_once PrePushOther) (λ j a b.
-        let e : PrePushControl ≡ PrePushOther = sym (pushes_are PrePushControl j a) ∙ pushes_are PrePushOther j b in cc))
+      let e : PrePushControl ≡ PrePushOther = sym (pushes_are PrePushControl j a) ∙ pushes_are PrePushOther j b in cc))
       (λ j a b. elim (in_append j calls stays b) [
         | inl c ↦ let e : PreStep ≡ PrePushControl = sym (steps_are j a) ∙ pushes_are PrePushControl j c in cc
         | inr c ↦ let e : PreStep ≡ PrePushOther = sym (steps_are j a) ∙ pushes_are PrePushOther j c in cc

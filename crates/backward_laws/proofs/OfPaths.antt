@@ -131,15 +131,17 @@ module _ {S W Map : Type 0} {operations : S → Operations W Map} {p : Pushdown 
             let home = reads_to_control p.controls edges items d.control d.stack mid low leads.2 in
             let next = from_control valid laws edges mid g to b low is in
             let P : Configuration → Type 0 = λ e. Run p (at_stack from (word ++ g ∷ [])) a e in
-            let there : at_stack d.control (d.stack ++ g ∷ []) ≡ at_stack mid (g ∷ []) = ap₂ (λ n w. at_stack n (w ++ g ∷ [])) home.1 home.0 in
-            ((next.0, run_then p a b (at_stack from (word ++ g ∷ [])) (at_stack mid (g ∷ [])) next.0 (subst P there above) next.1, next.2),
-            joined_value valid laws a b (at_stack from word) d leads.1 home.0)
+            let there : at_stack d.control (d.stack ++ g ∷ []) ≡ at_stack mid (g ∷ []) = ap₂ (λ n w. at_stack n (w ++ g ∷ [])) home.1 home.0 in (
+              (next.0, run_then p a b (at_stack from (word ++ g ∷ [])) (at_stack mid (g ∷ [])) next.0 (subst P there above) next.1, next.2),
+              joined_value valid laws a b (at_stack from word) d leads.1 home.0,
+            )
         | inr high ↦
             let edge = from_item valid laws edges mid g to b high is in
             let P : List ℕ → Type 0 = λ r. LeadsOver p edges from (word ++ g ∷ []) to r in
-            let none : a ++ b ≡ a = ap (λ r. a ++ r) edge.1 ∙ append-nil a in
-            (subst P (sym none) (at_stack d.control (d.stack ++ g ∷ []), above, reads_more edges d.control d.stack mid g to leads.2 edge.0),
-            ap value none ∙ sym (laws.extend-one_right (value a) (fv a)) ∙ ap (s.extend (value a)) (sym (ap value edge.1)))
+            let none : a ++ b ≡ a = ap (λ r. a ++ r) edge.1 ∙ append-nil a in (
+              subst P (sym none) (at_stack d.control (d.stack ++ g ∷ []), above, reads_more edges d.control d.stack mid g to leads.2 edge.0),
+              ap value none ∙ sym (laws.extend-one_right (value a) (fv a)) ∙ ap (s.extend (value a)) (sym (ap value edge.1)),
+            )
       ]
 
   -- What a run over a word and the runs along a path are.

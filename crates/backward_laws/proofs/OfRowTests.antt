@@ -133,7 +133,13 @@ module _ {S W Map : Type 0} (p : Pushdown S W Map) where
         let inputs = and_parts (is_place (option_map place_of first) x) (is_none (option_map place_of second)) parts.0 in
         let t = input_at first x inputs.0 in
         record {
-          number = k; by = r; there = there; top = g; right = e; input = t.0; place = t.2;
+          number = k;
+          by = r;
+          there = there;
+          top = g;
+          right = e;
+          input = t.0;
+          place = t.2;
           is = made PreStep (Some t.0) None t.1 (no_input second inputs.1) (same_place_is goal _ parts.1);
         }
 
@@ -154,7 +160,19 @@ module _ {S W Map : Type 0} (p : Pushdown S W Map) where
         let t = input_at first x inputs.0 in
         let u = input_at second y inputs.1 in
         record {
-          number = k; by = r; there = there; top = g; below = i; right = e; mid = mid_of; callee = t.0; after = u.0; place = t.2; next = u.2; sort = kind; sorted = sorted;
+          number = k;
+          by = r;
+          there = there;
+          top = g;
+          below = i;
+          right = e;
+          mid = mid_of;
+          callee = t.0;
+          after = u.0;
+          place = t.2;
+          next = u.2;
+          sort = kind;
+          sorted = sorted;
           is = made kind (Some t.0) (Some u.0) t.1 u.1 (same_place_is goal _ parts.1);
         }
 

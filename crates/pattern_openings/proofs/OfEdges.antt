@@ -87,9 +87,9 @@ pub edges_few : (items : List Item) → length items ≤ 1000 → All (λ (e : E
 edges_few items few =
     let P : Edge → Type 0 = λ e. (e.from ≤ 1000) × (e.to ≤ 1000) in
     let each : (e : Edge) → IsIn e (edges_of items) → P e = λ e there.
-        let is = between items e there in
-        let a = is.source in
-        let b = is.target in
-        let c = is.within in
-        (omega (arith, a, few), omega (arith, b, c, few)) in
+    let is = between items e there in
+    let a = is.source in
+    let b = is.target in
+    let c = is.within in
+    (omega (arith, a, few), omega (arith, b, c, few)) in
     All-from_recursion P (edges_of items) (all_in P (edges_of items) each)

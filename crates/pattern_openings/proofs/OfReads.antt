@@ -101,21 +101,21 @@ opening_reads pattern controls low d less =
     let f : ℕ → ℕ = state_of controls pattern.control in
     let edges = map (place_of_edge controls pattern.control) (edges_of items) in (
       λ h.
-      let q = h.0 in
-      let final = from_map f q (finals_of_items items) h.2 in
-      let is = (from_filter (is_final_of items) final.before (range_with_len 0 (suc (length items))) final.there).1 in
-      let here = from_pattern controls pattern.control low (edges_of items) d.control d.stack q final.before less final.is h.1 in
-      let R : ℕ → Type 0 = λ n. Reads edges n d.stack q in
-      let back = reads_from controls pattern.control low (edges_of items) 0 d.stack q (subst R here h.1) in
-      let same : final.before ≡ back.to = once controls pattern.control low final.before back.to (final.is ∙ sym back.is) in
-      let T : ℕ → Type 0 = λ n. is_final_of items n ≡ true in
-      let read : IsRead items d.stack = (back.to, back.reads, subst T same is) in
-      and_from (nat_eq d.control pattern.control) (items_match items d.stack) (eq-eqb d.control pattern.control here) ((members_read items d.stack).1 read),
+          let q = h.0 in
+          let final = from_map f q (finals_of_items items) h.2 in
+          let is = (from_filter (is_final_of items) final.before (range_with_len 0 (suc (length items))) final.there).1 in
+          let here = from_pattern controls pattern.control low (edges_of items) d.control d.stack q final.before less final.is h.1 in
+          let R : ℕ → Type 0 = λ n. Reads edges n d.stack q in
+          let back = reads_from controls pattern.control low (edges_of items) 0 d.stack q (subst R here h.1) in
+          let same : final.before ≡ back.to = once controls pattern.control low final.before back.to (final.is ∙ sym back.is) in
+          let T : ℕ → Type 0 = λ n. is_final_of items n ≡ true in
+          let read : IsRead items d.stack = (back.to, back.reads, subst T same is) in
+          and_from (nat_eq d.control pattern.control) (items_match items d.stack) (eq-eqb d.control pattern.control here) ((members_read items d.stack).1 read),
       λ member.
-      let parts = and_parts (nat_eq d.control pattern.control) (items_match items d.stack) member in
-      let here : d.control ≡ pattern.control = eqb-true d.control pattern.control parts.0 in
-      let read : IsRead items d.stack = (members_read items d.stack).0 parts.1 in
-      let i = read.0 in
-      let R : ℕ → Type 0 = λ n. Reads edges n d.stack (f i) in
-      (f i, subst R (sym here) (reads_to controls pattern.control low (edges_of items) 0 d.stack i read.1), in_map f i (finals_of_items items) (is_final items i read.2)),
+          let parts = and_parts (nat_eq d.control pattern.control) (items_match items d.stack) member in
+          let here : d.control ≡ pattern.control = eqb-true d.control pattern.control parts.0 in
+          let read : IsRead items d.stack = (members_read items d.stack).0 parts.1 in
+          let i = read.0 in
+          let R : ℕ → Type 0 = λ n. Reads edges n d.stack (f i) in
+          (f i, subst R (sym here) (reads_to controls pattern.control low (edges_of items) 0 d.stack i read.1), in_map f i (finals_of_items items) (is_final items i read.2)),
     )

@@ -82,11 +82,7 @@ fn final_states(alloc: Global, controls: u32, pattern: &Pattern) -> Result<Vec<u
 
 /// The opening of a pattern: its edges in their order, and its final states. State 0 of the pattern is its control, and
 /// state `i` stands for `controls + i - 1`. It is refused only for want of memory.
-pub fn opening_of(
-    alloc: Global,
-    controls: u32,
-    pattern: &Pattern,
-) -> Result<Opening, OutOfMemory>
+pub fn opening_of(alloc: Global, controls: u32, pattern: &Pattern) -> Result<Opening, OutOfMemory>
     requires { controls ≤ 1000 }
     ensures { IfOk result (λ o. o ≡ opening_of controls pattern.now) }
 {

@@ -61,9 +61,7 @@ impl<'a, S: Semiring> Push<'a, S> {
         ensures { result ≡ are_inputs self.now.controls self.now.kind self.now.rule.now self.now.top self.now.below first.now second.now }
     {
         let state = first.place.to;
-        first
-            .place
-            .is_from(self.rule.to, Label::Symbol(self.top))
+        first.place.is_from(self.rule.to, Label::Symbol(self.top))
             && second.place.is_from(state, Label::Symbol(self.below))
             && self.goes_on(state)
     }
