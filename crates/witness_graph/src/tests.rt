@@ -216,7 +216,7 @@ fn nodes_over_a_graph(rt: HostRuntime) -> Result<(), Fail> {
         lower(Some(0), Some(4), None, Some(2)),
     ];
     assert_eq!(rt; listing.side, Side::Post);
-    assert_eq!(rt; listing.nodes.as_slice(), &nodes);
+    assert_eq!(rt; listing.nodes.as_slice(), nodes.as_slice());
     assert_eq!(rt; base.len(), 2);
     Ok(())
 }
