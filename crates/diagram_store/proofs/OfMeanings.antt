@@ -39,10 +39,10 @@ module _ (a : List Branch) (whole : IsReduced a) (r : ℕ) (n : Branch) (at : no
     pub above_apart : IsAbove b n.var s → Same a n.low a n.high
     above_apart above =
         one_value (λ bits.
-          same (set_bit bits n.var false)
-          ∙ value_above b other n.var s (set_bit bits n.var false) (set_bit bits n.var true) above
-          (λ k h. set_other bits n.var false k (λ e. absurd (omega arith)) ∙ sym (set_other bits n.var true k (λ e. absurd (omega arith))))
-          ∙ sym (same (set_bit bits n.var true)))
+        same (set_bit bits n.var false)
+        ∙ value_above b other n.var s (set_bit bits n.var false) (set_bit bits n.var true) above
+        (λ k h. set_other bits n.var false k (λ e. absurd (omega arith)) ∙ sym (set_other bits n.var true k (λ e. absurd (omega arith))))
+        ∙ sym (same (set_bit bits n.var true)))
 
 module _ (a : List Branch) (whole : IsReduced a) (r : ℕ) (n : Branch) (at : node_at a r ≡ Some n)
     (b : List Branch) (other : IsReduced b) (s : ℕ) (m : Branch) (there : node_at b s ≡ Some m) (same : Same a r b s) (var : n.var ≡ m.var) where
@@ -112,8 +112,8 @@ next_reference nodes all d lower r s h h' w w' same = elim (option_cases (node_a
           let b1 = all.earlier r n.0 n.1 in
           let b2 = all.earlier s m.0 m.1 in
           let e : n.0 ≡ m.0 = from_parts n.0 m.0 var
-              (lower n.0.low m.0.low (omega (arith, b1.0)) (omega (arith, b2.0)) w1.0 w2.0 (same_low nodes all r n.0 n.1 nodes all s m.0 m.1 same var))
-              (lower n.0.high m.0.high (omega (arith, b1.1)) (omega (arith, b2.1)) w1.1 w2.1 (same_high nodes all r n.0 n.1 nodes all s m.0 m.1 same var)) in
+          (lower n.0.low m.0.low (omega (arith, b1.0)) (omega (arith, b2.0)) w1.0 w2.0 (same_low nodes all r n.0 n.1 nodes all s m.0 m.1 same var))
+          (lower n.0.high m.0.high (omega (arith, b1.1)) (omega (arith, b2.1)) w1.1 w2.1 (same_high nodes all r n.0 n.1 nodes all s m.0 m.1 same var)) in
           all.distinct r s n.0 n.1 (m.1 ∙ ap Some (sym e))
       | inr varies ↦ elim (cases_lt n.0.var m.0.var) [
         | inl less ↦ absurd (differ nodes all d lower r n.0 n.1 h (above_apart nodes all r n.0 n.1 nodes all s same (above_node nodes n.0.var s m.0 m.1 less)))

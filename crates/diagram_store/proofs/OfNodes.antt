@@ -3,7 +3,7 @@ use Rattle.std.proofs.Common.{◌≡◌, ℕ, zero, suc, ◌+◌, ◌<◌, ◌�
 use Rattle.std.specs.Prelude.{Option, None, Some, ◌⊎◌, slice_get}
 use Rattle.std.proofs.lemmas.Option.{slice_get_within, slice_get_cases, slice_get_past, same_Some}
 use Rattle.diagram_store.specs.declared.branch.Branch.{Branch}
-use Rattle.diagram_store.specs.Nodes.{node_at}
+use Rattle.diagram_store.specs.Nodes.{node_at, HasVariablesBelow}
 
 pub option_cases : {X : Type 0} (o : Option X) → (o ≡ None) ⊎ ((x : X) × (o ≡ Some x))
 option_cases None = inl refl
@@ -43,3 +43,8 @@ one_node nodes r n m e f = same_Some n m (sym e ∙ f)
 -- what a look-up in a view of the nodes found
 pub node_found : (view nodes : List Branch) (o found : Option Branch) (r : ℕ) → view ≡ nodes → o ≡ node_at view r → o ≡ found → node_at nodes r ≡ found
 node_found view nodes o found r e f g = ap (λ l. node_at l r) (sym e) ∙ sym f ∙ g
+
+pub variables_from_each : (limit : ℕ) (nodes : List Branch) → ((k : ℕ) (n : Branch) → slice_get nodes k ≡ Some n → n.var < limit) → HasVariablesBelow limit nodes
+variables_from_each limit nodes each zero n e = cc
+variables_from_each limit nodes each (suc zero) n e = cc
+variables_from_each limit nodes each (suc (suc k)) n e = each k n e

@@ -54,7 +54,7 @@ leaves_node nodes d turn r t (Some n) at e = elim (option_cases (turn_after node
       cc
   | inr low ↦
       let first : option_and_then (in_turn r) (turn_after nodes d low.0 n.high) ≡ Some t =
-          sym (ap (λ o. option_and_then (in_turn r) (option_and_then (λ m. turn_after nodes d m n.high) o)) low.1) ∙ e in
+      sym (ap (λ o. option_and_then (in_turn r) (option_and_then (λ m. turn_after nodes d m n.high) o)) low.1) ∙ e in
       elim (option_cases (turn_after nodes d low.0 n.high)) [
         | inl none ↦ let f : None ≡ Some t = sym (ap (option_and_then (in_turn r)) none) ∙ first in cc
         | inr high ↦
@@ -203,7 +203,7 @@ canonical_is_one a b r s p q same =
     let one = turn_past a r 2 r (length a + 2) p.post_order in
     let two = turn_past b s 2 s (length b + 2) q.post_order in
     let j = joined a p.reduced b q.reduced r s 2 r s (length a + 2) (length b + 2) p.post_order q.post_order same
-        (λ i below. no_node a i below ∙ sym (no_node b i below)) one.1 two.1 in
+    (λ i below. no_node a i below ∙ sym (no_node b i below)) one.1 two.1 in
     let count : length a + 2 ≡ length b + 2 = j.turn in
     (j.reference, same_list a b (omega arith) (λ k within. j.agree (suc (suc k)) (omega arith)))
 

@@ -92,9 +92,9 @@ module _ (nodes : List Branch) (all : IsReduced nodes) where
   value_above v r bits other above same =
       value_agrees bits other (λ s. IsAbove nodes v s)
       (λ s n e i.
-        let next = all.rises s n e in
-        let first : v < n.var = i n e in
-        (same n.var first, λ m f. let g : n.var < m.var = next.0 m f in omega arith, λ m f. let g : n.var < m.var = next.1 m f in omega arith))
+      let next = all.rises s n e in
+      let first : v < n.var = i n e in
+      (same n.var first, λ m f. let g : n.var < m.var = next.0 m f in omega arith, λ m f. let g : n.var < m.var = next.1 m f in omega arith))
       r r (omega arith) above
 
 pub set_same : (bits : ℕ → Bool) (v : ℕ) (b : Bool) → set_bit bits v b v ≡ b

@@ -1,5 +1,5 @@
 ghost use Rattle.std.specs.Prelude.{◌≡◌, ◌↔◌, IsTrue};
-ghost use Rattle.diagram_store.specs.Nodes.{node_at};
+ghost use Rattle.diagram_store.specs.Nodes.{node_at, HasVariablesBelow};
 
 use std::marker::Model;
 
@@ -74,4 +74,16 @@ pub fn are_same(a: &[Branch], b: &[Branch]) -> bool
     ensures { IsTrue result ↔ (a.now ≡ b.now) }
 {
     a == b
+}
+
+// Whether each variable is below a limit.
+pub fn have_variables_below(nodes: &[Branch], limit: u64) -> bool
+    ensures { IsTrue result ↔ HasVariablesBelow limit nodes.now }
+{
+    for branch in nodes {
+        if u64::from(branch.var) >= limit {
+            return false;
+        }
+    }
+    true
 }

@@ -3,7 +3,7 @@ ghost use Rattle.diagram_store.specs.Canonical.{IsCanonical};
 ghost use Rattle.diagram_store.specs.Meaning.{value_at, bits_of};
 ghost use Rattle.diagram_store.specs.Nodes.{HasVariablesBelow};
 
-use crate::branch::{are_same, node};
+use crate::branch::{are_same, have_variables_below, node};
 use crate::{Branch, BranchList};
 use std::alloc::Global;
 use wpds_port::OutOfMemory;
@@ -72,6 +72,13 @@ impl Diagram {
             };
         }
         at == 1
+    }
+
+    /// Whether each variable is below a limit.
+    pub fn has_variables_below(&self, limit: u64) -> bool
+        ensures { IsTrue result ↔ HasVariablesBelow limit self.now.nodes }
+    {
+        have_variables_below(self.nodes.as_slice(), limit)
     }
 
     /// Whether the two diagrams have equal values on all bits. It compares their parts.

@@ -7,8 +7,8 @@ pub returns-then-not-is_fitting : goal.returns-then-not-is_fitting
 returns-then-not-is_fitting c = (
   λ yes. cc,
   λ all.
-    let fits : c.is_fitting.result ≡ true = c.is_fitting.ensures.1 (fitting_from_reduced c.args.nodes.now all c.loop-k.k) in
-    sym c.if-not-is_fitting.true ∙ fits,
+      let fits : c.is_fitting.result ≡ true = c.is_fitting.ensures.1 (fitting_from_reduced c.args.nodes.now all c.loop-k.k) in
+      sym c.if-not-is_fitting.true ∙ fits,
 )
 
 pub returns : goal.returns
