@@ -1,0 +1,2 @@
+pub mod OfKeeping
+pub mod OfPushes

@@ -1,0 +1,5 @@
+//! Operations on decision diagrams (Bryant 1986; Burch, Clarke, McMillan, Dill, Hwang 1990).
+#![tactic(auto)]
+
+mod scratch;
+mod table;
