@@ -1,2 +1,5 @@
 pub mod OfKeeping
 pub mod OfPushes
+pub mod OfCopies
+pub mod OfCofactors
+pub mod OfApplying

@@ -47,9 +47,9 @@ module _ (old : List Branch) (whole : IsReduced old) (new : List Branch) (other 
   pub keeps_value : (r : ℕ) → r < length old + 2 → (bits : ℕ → Bool) → value_at new r bits ≡ value_at old r bits
   keeps_value r w bits = kept_value r r (omega arith) w bits
 
-  pub stands_kept : (r : ℕ) (meaning : (ℕ → Bool) → Bool) (before : ℕ → Type 0) → Stands old r meaning before → Stands new r meaning before
+  pub stands_kept : (r : ℕ) (meaning : (ℕ → Bool) → Bool → Type 0) (before : ℕ → Type 0) → Stands old r meaning before → Stands new r meaning before
   stands_kept r meaning before s = record {
     within = keeps_within old new k r s.within;
-    means = λ bits. keeps_value r s.within bits ∙ s.means bits;
+    means = λ bits. let M : Bool → Type 0 = meaning bits in subst M (sym (keeps_value r s.within bits)) (s.means bits);
     above = λ v b. keeps_above old new k v r s.within (s.above v b);
   }

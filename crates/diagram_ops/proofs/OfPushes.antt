@@ -11,7 +11,7 @@ use Rattle.diagram_store.proofs.OfNodes.{node_within, one_node}
 use Rattle.diagram_store.proofs.OfValues.{value_at_node}
 use Rattle.diagram_store.proofs.OfMeanings.{from_parts}
 use Rattle.diagram_ops.specs.Tables.{same_key}
-use Rattle.diagram_ops.specs.Scratch.{Keeps, FindsNodes, IsScratch, Stands, choice}
+use Rattle.diagram_ops.specs.Scratch.{Keeps, FindsNodes, IsScratch, Stands, IsChoice}
 use Rattle.diagram_ops.proofs.OfKeeping.{keeps_above}
 
 get_push : {X : Type 0} (xs : List X) (y x : X) (k : ℕ) → slice_get (xs ++ y ∷ []) k ≡ Some x → (slice_get xs k ≡ Some x) ⊎ ((k ≡ length xs) × (y ≡ x))
@@ -97,6 +97,12 @@ key_same m n e =
     let inner = and_parts (nat_eq m.var n.var) (nat_eq m.low n.low) outer.0 in
     from_parts m n (eqb-true m.var n.var inner.0) (eqb-true m.low n.low inner.1) (eqb-true m.high n.high outer.1)
 
+pub key_parts : (x y z a b c : ℕ) → same_key (x, y, z) (a, b, c) ≡ true → (x ≡ a) × (y ≡ b) × (z ≡ c)
+key_parts x y z a b c e =
+    let outer = and_parts (nat_eq x a && nat_eq y b) (nat_eq z c) e in
+    let inner = and_parts (nat_eq x a) (nat_eq y b) outer.0 in
+    (eqb-true x a inner.0, eqb-true y b inner.1, eqb-true z c outer.1)
+
 pub key_itself : (x y z : ℕ) → same_key (x, y, z) (x, y, z) ≡ true
 key_itself x y z = ap₂ (λ a b. a && b) (ap₂ (λ a b. a && b) (eq-eqb x x refl) (eq-eqb y y refl)) (eq-eqb z z refl)
 
@@ -134,7 +140,7 @@ finds_same places next nodes found same = record {
 }
 
 -- a node stands for the choice by its variable
-pub stands_node : (nodes : List Branch) → IsReduced nodes → (r : ℕ) (n : Branch) → node_at nodes r ≡ Some n → Stands nodes r (choice nodes n.var n.low n.high) (λ v. v < n.var)
+pub stands_node : (nodes : List Branch) → IsReduced nodes → (r : ℕ) (n : Branch) → node_at nodes r ≡ Some n → Stands nodes r (IsChoice nodes n.var n.low n.high) (λ v. v < n.var)
 stands_node nodes all r n at = record {
   within = (node_within nodes r n at).1;
   means = λ bits. value_at_node nodes all r n bits at;
@@ -144,7 +150,7 @@ stands_node nodes all r n at = record {
 pub record Pushed (next : ℕ → ℕ → ℕ → Option ℕ) (nodes more : List Branch) (r v l h : ℕ) : Type 0 where
   pub scratch : IsScratch next more
   pub keeps : Keeps nodes more
-  pub stands : Stands more r (choice more v l h) (λ u. u < v)
+  pub stands : Stands more r (IsChoice more v l h) (λ u. u < v)
 
 -- the scratch with a new node, as the code makes it
 pub scratch_push : (places next : ℕ → ℕ → ℕ → Option ℕ) (nodes more : List Branch) (r v l h x y : ℕ) → IsScratch places nodes
@@ -170,8 +176,8 @@ scratch_push places next nodes more r v l h x y s is count low high low_above hi
 
 -- as `Stands` at another name of the reference
 pub stands_found : (places : ℕ → ℕ → ℕ → Option ℕ) (nodes view : List Branch) (r v l h x : ℕ) → IsScratch places nodes → nodes ≡ view → x ≡ v → places x l h ≡ Some r
-    → Stands view r (choice view v l h) (λ u. u < v)
+    → Stands view r (IsChoice view v l h) (λ u. u < v)
 stands_found places nodes view r v l h x s is e at =
     let m : Branch = record { var = v; low = l; high = h } in
-    let P : List Branch → Type 0 = λ k. Stands k r (choice k v l h) (λ u. u < v) in
+    let P : List Branch → Type 0 = λ k. Stands k r (IsChoice k v l h) (λ u. u < v) in
     subst P is (stands_node nodes s.reduced r m (s.found.sound r m (ap (λ k. places k l h) (sym e) ∙ at)))

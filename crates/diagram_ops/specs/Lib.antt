@@ -1,2 +1,4 @@
 pub mod Tables
 pub mod Scratch
+pub mod Copying
+pub mod Applying

@@ -17,12 +17,12 @@ pub record IsScratch (places : ℕ → ℕ → ℕ → Option ℕ) (nodes : List
   pub reduced : IsReduced nodes
   pub found : FindsNodes places nodes
 
--- A reference with a meaning. Its variables come after each that `before` says.
-pub record Stands (nodes : List Branch) (r : ℕ) (meaning : (ℕ → Bool) → Bool) (before : ℕ → Type 0) : Type 0 where
+-- A reference whose value on all bits is as `meaning` says. Its variables come after each that `before` says.
+pub record Stands (nodes : List Branch) (r : ℕ) (meaning : (ℕ → Bool) → Bool → Type 0) (before : ℕ → Type 0) : Type 0 where
   pub within : r < length nodes + 2
-  pub means : (bits : ℕ → Bool) → value_at nodes r bits ≡ meaning bits
+  pub means : (bits : ℕ → Bool) → meaning bits (value_at nodes r bits)
   pub above : (v : ℕ) → before v → IsAbove nodes v r
 
 -- a choice by the bit of a variable
-abbrev pub choice : List Branch → ℕ → ℕ → ℕ → (ℕ → Bool) → Bool
-choice nodes v low high bits = if bits v then value_at nodes high bits else value_at nodes low bits
+abbrev pub IsChoice : List Branch → ℕ → ℕ → ℕ → (ℕ → Bool) → Bool → Type 0
+IsChoice nodes v low high bits b = b ≡ (if bits v then value_at nodes high bits else value_at nodes low bits)

@@ -1,6 +1,6 @@
 ghost use Rattle.std.specs.Prelude.{◌≡◌, ◌+◌, ◌<◌, ◌^◌, ℕ, [], Some, IfOk, length};
 ghost use Rattle.diagram_store.specs.Nodes.{node_at, IsAbove, IsReduced, HasVariablesBelow};
-ghost use Rattle.diagram_ops.specs.Scratch.{Keeps, Stands, choice};
+ghost use Rattle.diagram_ops.specs.Scratch.{Keeps, Stands, IsChoice};
 
 use crate::table::Table;
 use bumpalo::Bump;
@@ -53,8 +53,9 @@ impl<'a> Scratch<'a> {
         requires high { high < length self.old + 2 }
         requires low_above { IsAbove self.old var low }
         requires high_above { IsAbove self.old var high }
+        ensures reduced { IsReduced self.new }
         ensures keeps { Keeps self.old self.new }
-        ensures stands { IfOk result (λ r. Stands self.new r (choice self.new var low high) (λ v. v < var)) }
+        ensures stands { IfOk result (λ r. Stands self.new r (IsChoice self.new var low high) (λ v. v < var)) }
     {
         if low == high {
             return Ok(low);

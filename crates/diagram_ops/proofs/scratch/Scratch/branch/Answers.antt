@@ -32,6 +32,9 @@ pushed c =
 pub invariant_of-self-2 : goal.invariant_of-self-2
 invariant_of-self-2 c = (pushed c).scratch
 
+pub returns-clause-reduced : goal.returns-clause-reduced
+returns-clause-reduced c = (pushed c).scratch.reduced
+
 pub returns-clause-keeps : goal.returns-clause-keeps
 returns-clause-keeps c = let P : List Branch → Type 0 = λ l. Keeps l c.push.new.self.items in subst P c.self.view_is (pushed c).keeps
 
