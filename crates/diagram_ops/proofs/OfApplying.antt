@@ -235,3 +235,29 @@ module _ (table : ℕ) (old : List Branch) (whole : IsReduced old) (x y z v : �
             (high.known a b c q (sym (cond-false (same_key (x, y, z) (a, b, c)) (Some r) (k2 a b c) apart) ∙ sym (noted a b c) ∙ e))
       ];
     }
+
+-- as the code names the operands where the bit is b
+pub record AreCofactors (nodes : List Branch) (v : ℕ) (b : Bool) (x y z i j k : ℕ) : Type 0 where
+  pub first : i ≡ cofactor nodes v b x
+  pub second : j ≡ cofactor nodes v b y
+  pub third : k ≡ cofactor nodes v b z
+
+pub operands_fall : (nodes : List Branch) → IsReduced nodes → (x y z v : ℕ) → IsLowest nodes x y z v → (b : Bool) (i j k : ℕ) → AreCofactors nodes v b x y z i j k → (i + j) + k < (x + y) + z
+operands_fall nodes all x y z v low b i j k c =
+    let f = cofactors_fall nodes all x y z v low b in
+    let p : i ≡ cofactor nodes v b x = c.first in
+    let q : j ≡ cofactor nodes v b y = c.second in
+    let r : k ≡ cofactor nodes v b z = c.third in
+    omega (arith, f)
+
+pub operand_within : (old new : List Branch) → IsReduced old → Keeps old new → (v : ℕ) (b : Bool) (x i : ℕ) → x < length old + 2 → i ≡ cofactor old v b x → i < length new + 2
+operand_within old new all k v b x i w e =
+    let c = cofactor_within old all v b x in
+    keeps_within old new k i (omega (arith, c))
+
+pub applies_at : (table : ℕ) (old new : List Branch) (results : ℕ → ℕ → ℕ → Option ℕ) (nodes : List Branch) (v : ℕ) (b : Bool) (x y z i j k r : ℕ) → AreCofactors nodes v b x y z i j k
+    → Applies table old new results i j k r → Applies table old new results (cofactor nodes v b x) (cofactor nodes v b y) (cofactor nodes v b z) r
+applies_at table old new results nodes v b x y z i j k r c a =
+    let P : ℕ → ℕ → ℕ → Type 0 = λ p q s. Applies table old new results p q s r in
+    subst (λ (s : ℕ). P (cofactor nodes v b x) (cofactor nodes v b y) s) c.third
+    (subst (λ (q : ℕ). P (cofactor nodes v b x) q k) c.second (subst (λ (p : ℕ). P p j k) c.first a))

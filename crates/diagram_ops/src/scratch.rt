@@ -57,6 +57,7 @@ impl<'a> Scratch<'a> {
         ensures keeps { Keeps self.old self.new }
         ensures stands { IfOk result (λ r. Stands self.new r (IsChoice self.new var low high) (λ v. v < var)) }
     {
+        let reference = self.nodes.len() as u64 + 2;
         if low == high {
             return Ok(low);
         }
@@ -64,7 +65,6 @@ impl<'a> Scratch<'a> {
             return Ok(known);
         }
         self.nodes.reserve(1)?;
-        let reference = self.nodes.len() as u64 + 2;
         self.places
             .insert(u64::from(var), low, high, reference)?;
         self.nodes.push(Branch { var, low, high })?;

@@ -18,7 +18,7 @@ pushed c =
     scratch_push (known c.self.inside.places) (known c.insert.new.self) nodes c.push.new.self.items (c.len.result + 2) c.args.var c.args.low c.args.high c.from.result c.from-2.result
     c.self.invariant
     (c.in_ok-push.ensures.items ∙ ap (λ l. l ++ record { var = c.args.var; low = c.args.low; high = c.args.high } ∷ []) c.reserve.ensures.items)
-    (let n : length c.reserve.new.self.items ≡ length nodes = ap length c.reserve.ensures.items in omega arith)
+    (omega arith)
     (subst (W c.args.low) (sym c.self.view_is) c.requires.low)
     (subst (W c.args.high) (sym c.self.view_is) c.requires.high)
     (let P : List Branch → Type 0 = λ l. IsAbove l c.args.var c.args.low in subst P (sym c.self.view_is) c.requires.low_above)
