@@ -37,7 +37,7 @@ stands_constant nodes r b meaning before e means =
       above = λ v h n f. let g : None ≡ Some n = sym (no_node nodes r below) ∙ f in cc;
     }
 
-value3_same : (table : ℕ) (a b c a' b' c' : Bool) → a ≡ a' → b ≡ b' → c ≡ c' → value3_of table a b c ≡ value3_of table a' b' c'
+pub value3_same : (table : ℕ) (a b c a' b' c' : Bool) → a ≡ a' → b ≡ b' → c ≡ c' → value3_of table a b c ≡ value3_of table a' b' c'
 value3_same table a b c a' b' c' p q r = ap₂ (λ x y. value3_of table x y c) p q ∙ ap (λ z. value3_of table a' b' z) r
 
 -- what comes before a reference came before it already

@@ -2,3 +2,5 @@ pub mod Tables
 pub mod Scratch
 pub mod Copying
 pub mod Applying
+pub mod Images
+pub mod Renaming

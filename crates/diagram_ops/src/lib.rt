@@ -1,7 +1,15 @@
 //! Operations on decision diagrams (Bryant 1986; Burch, Clarke, McMillan, Dill, Hwang 1990).
 #![tactic(auto)]
 
+mod applied;
 mod applying;
 mod copying;
+mod loading;
+mod picking;
+mod renaming;
 mod scratch;
 mod table;
+
+pub use applied::{apply_table2, apply_table3, apply2, apply3};
+pub use picking::{Bits, pick};
+pub use renaming::rename;

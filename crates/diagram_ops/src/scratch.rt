@@ -31,7 +31,8 @@ impl<'a> Model for Scratch<'a> {
 
 impl<'a> Scratch<'a> {
     pub fn new(alloc: Global, arena: &'a Bump) -> Scratch<'a>
-        ensures { result ≡ [] }
+        ensures empty { result ≡ [] }
+        ensures reduced { IsReduced result }
     {
         Scratch {
             nodes: Vec::new(arena),
