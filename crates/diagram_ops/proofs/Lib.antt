@@ -6,3 +6,4 @@ pub mod OfApplying
 pub mod OfImages
 pub mod OfRenaming
 pub mod OfTables
+pub mod OfPicking

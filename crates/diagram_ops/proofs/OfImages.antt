@@ -140,11 +140,28 @@ pub root_within : (nodes : List Branch) (root : ℕ) → IsCanonical root nodes 
 root_within nodes root c = (turn_past nodes root 2 root (length nodes + 2) c.post_order).1
 
 -- the image of the root, as the code reads it
-pub root_stands : (view nodes : List Branch) (scratch : List Branch) (places list : List ℕ) (root p k : ℕ) → view ≡ nodes → IsCanonical root nodes → IsImage view (IsValue view) scratch places
-    → length places ≡ k + 2 → length view ≤ k → list ≡ places → p ≡ get_or list root 0 → Stands scratch p (IsValue nodes root) (λ v. IsAbove nodes v root)
-root_stands view nodes scratch places list root p k e c i count all f g =
+pub root_stands : (meaning : List Branch → ℕ → (ℕ → Bool) → Bool → Type 0) (view nodes : List Branch) (scratch : List Branch) (places list : List ℕ) (root p k : ℕ) → view ≡ nodes → IsCanonical root nodes
+    → IsImage view (meaning view) scratch places → length places ≡ k + 2 → length view ≤ k → list ≡ places → p ≡ get_or list root 0
+    → Stands scratch p (meaning nodes root) (λ v. IsAbove nodes v root)
+root_stands meaning view nodes scratch places list root p k e c i count all f g =
     let w = root_within nodes root c in
     let same : length view ≡ length nodes = ap length e in
     let placed : root < length places = omega (arith, w) in
-    let Q : List Branch → Type 0 = λ l. Stands scratch (get_or places root 0) (IsValue l root) (λ v. IsAbove l v root) in
-    stands_at scratch (IsValue nodes root) (λ v. IsAbove nodes v root) p (get_or places root 0) (g ∙ ap (λ l. get_or l root 0) f) (subst Q e (i.each root placed))
+    let Q : List Branch → Type 0 = λ l. Stands scratch (get_or places root 0) (meaning l root) (λ v. IsAbove l v root) in
+    stands_at scratch (meaning nodes root) (λ v. IsAbove nodes v root) p (get_or places root 0) (g ∙ ap (λ l. get_or l root 0) f) (subst Q e (i.each root placed))
+
+pub restricted_by : (nodes : List Branch) → IsReduced nodes → (var : ℕ) (value : Bool) (r : ℕ) (n : Branch) → node_at nodes r ≡ Some n → (n.var ≡ var → ⊥)
+    → (bits : ℕ → Bool) (b low high : Bool) → IsRestricted nodes var value n.low bits low → IsRestricted nodes var value n.high bits high → b ≡ cond (bits n.var) high low → IsRestricted nodes var value r bits b
+restricted_by nodes whole var value r n at apart bits b low high l h is =
+    is
+    ∙ same_cond (bits n.var) high low (value_at nodes n.high (set_bit bits var value)) (value_at nodes n.low (set_bit bits var value)) h l
+    ∙ ap (λ t. cond t (value_at nodes n.high (set_bit bits var value)) (value_at nodes n.low (set_bit bits var value))) (sym (set_other bits var value n.var apart))
+    ∙ sym (value_at_node nodes whole r n (set_bit bits var value) at)
+
+-- the branch that the restriction takes
+pub restricted_to : (nodes : List Branch) → IsReduced nodes → (var : ℕ) (value : Bool) (r : ℕ) (n : Branch) → node_at nodes r ≡ Some n → n.var ≡ var → (bits : ℕ → Bool) (b : Bool)
+    → b ≡ cond value (value_at nodes n.high (set_bit bits var value)) (value_at nodes n.low (set_bit bits var value)) → IsRestricted nodes var value r bits b
+restricted_to nodes whole var value r n at is bits b e =
+    e
+    ∙ ap (λ t. cond t (value_at nodes n.high (set_bit bits var value)) (value_at nodes n.low (set_bit bits var value))) (sym (ap (set_bit bits var value) is ∙ set_same bits var value))
+    ∙ sym (value_at_node nodes whole r n (set_bit bits var value) at)

@@ -3,7 +3,6 @@ use Rattle.std.proofs.Common.{◌≡◌, ℕ, zero, suc, ◌+◌, ◌<◌, ◌�
 use Rattle.std.specs.Prelude.{Option, None, Some, ◌⊎◌, nat_eq, nat_lt, cond, option_map, option_and_then, slice_get, slice_index}
 use Rattle.std.proofs.lemmas.Bool.{cases_lt, cases_eq}
 use Rattle.std.proofs.lemmas.Option.{slice_get-map, same_Some}
-use Rattle.std.proofs.lemmas.List.{length-map}
 use Rattle.diagram_store.specs.declared.branch.Branch.{Branch}
 use Rattle.diagram_store.specs.Nodes.{node_at, IsAbove, IsReduced, HasVariablesBelow}
 use Rattle.diagram_store.specs.Meaning.{value_at, branch_by}
@@ -98,12 +97,16 @@ module _ (names : List ℕ) (nodes : List Branch) where
             ∙ sym (value_at_node nodes all r n.0 other n.1)
       ]
 
+renamed_count : (names : List ℕ) (nodes : List Branch) → length (map (with_variable names) nodes) ≡ length nodes
+renamed_count names [] = refl
+renamed_count names (n ∷ ns) = ap suc (renamed_count names ns)
+
 -- as the code makes the nodes
 pub named_canonical : (names : List ℕ) (view nodes list : List Branch) (root : ℕ) → view ≡ nodes → IsCanonical root nodes → HasVariablesBelow (length names) nodes → Rises names → list ≡ map (with_variable names) view
     → IsCanonical root list
 named_canonical names view nodes list root e c covers rises is =
     let P : List Branch → Type 0 = λ l. IsCanonical root l in
-    let count : length (map (with_variable names) nodes) ≡ length nodes = length-map (with_variable names) nodes in
+    let count : length (map (with_variable names) nodes) ≡ length nodes = renamed_count names nodes in
     subst P (sym (is ∙ ap (map (with_variable names)) e))
     (record {
       reduced = reduced_named names nodes covers rises c.reduced;

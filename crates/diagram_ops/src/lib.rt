@@ -7,9 +7,11 @@ mod copying;
 mod loading;
 mod picking;
 mod renaming;
+mod restricting;
 mod scratch;
 mod table;
 
 pub use applied::{apply_table2, apply_table3, apply2, apply3};
 pub use picking::{Bits, pick};
 pub use renaming::rename;
+pub use restricting::restrict;

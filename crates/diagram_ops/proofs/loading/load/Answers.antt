@@ -40,5 +40,5 @@ place_at-requires c =
 
 pub returns-clause-stands : goal.returns-clause-stands
 returns-clause-stands c =
-    root_stands c.nodes-nodes.result.now c.args.diagram.now.nodes c.loop-k.scratch c.loop-k.places.items c.deref-2.result.now c.args.diagram.now.root c.place_at.result c.loop-k.k
+    root_stands IsValue c.nodes-nodes.result.now c.args.diagram.now.nodes c.loop-k.scratch c.loop-k.places.items c.deref-2.result.now c.args.diagram.now.root c.place_at.result c.loop-k.k
     c.nodes-nodes.ensures c.args.diagram.now.is_canonical c.loop-k.invariant.image c.loop-k.invariant.count c.loop-k-test.false c.deref-2.ensures.value c.place_at.ensures
