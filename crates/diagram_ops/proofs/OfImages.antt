@@ -13,7 +13,7 @@ use Rattle.diagram_store.proofs.OfNodes.{node_within, no_node, one_node}
 use Rattle.diagram_store.proofs.OfValues.{value_at_node, value_at_end, same_cond, set_same, set_other}
 use Rattle.diagram_ops.specs.Scratch.{Keeps, Stands, IsChoice}
 use Rattle.diagram_ops.specs.Images.{IsImage, IsValue, IsRestricted}
-use Rattle.diagram_ops.proofs.OfKeeping.{keeps_within, keeps_above, keeps_value, stands_kept}
+use Rattle.diagram_ops.proofs.OfKeeping.{keeps_same, keeps_within, keeps_above, keeps_value, stands_kept}
 
 get_old : (xs : List ℕ) (y k : ℕ) → k < length xs → get_or (xs ++ y ∷ []) k 0 ≡ get_or xs k 0
 get_old [] y k h = absurd (omega arith)
@@ -165,3 +165,28 @@ restricted_to nodes whole var value r n at is bits b e =
     e
     ∙ ap (λ t. cond t (value_at nodes n.high (set_bit bits var value)) (value_at nodes n.low (set_bit bits var value))) (sym (ap (set_bit bits var value) is ∙ set_same bits var value))
     ∙ sym (value_at_node nodes whole r n (set_bit bits var value) at)
+
+module _ (nodes : List Branch) (whole : IsReduced nodes) (r : ℕ) (n : Branch) (at : node_at nodes r ≡ Some n)
+    (old : List Branch) (places : List ℕ) (room : r ≤ length places) (var : ℕ) (value : Bool) (i : IsImage nodes (IsRestricted nodes var value) old places)
+    (low high : ℕ) (low_is : low ≡ slice_index_or places n.low 0) (high_is : high ≡ slice_index_or places n.high 0) (is : n.var ≡ var) where
+  earlier_above : (u q : ℕ) → u < n.var → IsAbove old n.var q → IsAbove old u q
+  earlier_above u q h above m e = let up : n.var < m.var = above m e in omega arith
+
+  -- the place of the branch that the restriction takes
+  pub takes_high : value ≡ true → Stands old high (IsRestricted nodes var value r) (λ v. IsAbove nodes v r)
+  takes_high v =
+      made_means nodes whole r n at old places room (IsRestricted nodes var value) i low high low_is high_is old i.reduced (keeps_same old) high
+      (high_within nodes whole r n at old places room (IsRestricted nodes var value) i low high low_is high_is)
+      (λ u h. earlier_above u high h (high_above nodes whole r n at old places room (IsRestricted nodes var value) i low high low_is high_is))
+      (λ bits b l h eb el eh ml mh.
+        restricted_to nodes whole var value r n at is bits b
+        (eb ∙ sym eh ∙ mh ∙ sym (cond-true value (value_at nodes n.high (set_bit bits var value)) (value_at nodes n.low (set_bit bits var value)) v)))
+
+  pub takes_low : value ≡ false → Stands old low (IsRestricted nodes var value r) (λ v. IsAbove nodes v r)
+  takes_low v =
+      made_means nodes whole r n at old places room (IsRestricted nodes var value) i low high low_is high_is old i.reduced (keeps_same old) low
+      (low_within nodes whole r n at old places room (IsRestricted nodes var value) i low high low_is high_is)
+      (λ u h. earlier_above u low h (low_above nodes whole r n at old places room (IsRestricted nodes var value) i low high low_is high_is))
+      (λ bits b l h eb el eh ml mh.
+        restricted_to nodes whole var value r n at is bits b
+        (eb ∙ sym el ∙ ml ∙ sym (cond-false value (value_at nodes n.high (set_bit bits var value)) (value_at nodes n.low (set_bit bits var value)) v)))

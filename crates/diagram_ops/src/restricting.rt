@@ -65,10 +65,10 @@ fn restrict_node(
     let node = nodes[k];
     let low = place_at(places, node.low);
     let high = place_at(places, node.high);
-    if node.var == var && value {
-        return Ok(high);
-    }
     if node.var == var {
+        if value {
+            return Ok(high);
+        }
         return Ok(low);
     }
     let place = scratch.branch(node.var, low, high)?;

@@ -1,7 +1,7 @@
 use Rattle.std.proofs.Common.{◌≡◌, ℕ, ◌+◌, ◌<◌, length, get_or, arith}
 use Rattle.diagram_store.specs.declared.branch.Branch.{Branch}
 use Rattle.diagram_ops.specs.Images.{IsRestricted}
-use Rattle.diagram_ops.proofs.OfImages.{node_of_list, low_placed, high_placed, low_within, high_within, low_above, high_above, choice_means, made_means, restricted_by, restricted_to}
+use Rattle.diagram_ops.proofs.OfImages.{node_of_list, low_placed, high_placed, low_within, high_within, low_above, high_above, choice_means, restricted_by, takes_high, takes_low}
 use Rattle.diagram_ops.proofs.restricting.restrict_node.Goals as goal
 
 abbrev blank : Branch
@@ -36,4 +36,16 @@ returns-clause-stands c =
     choice_means c.args.nodes.now c.requires.nodes (c.args.k + 2) (get_or c.args.nodes.now c.args.k blank) (node_of_list c.args.nodes.now c.args.k blank c.requires.k)
     c.args.scratch.now c.args.places.now (omega arith) (IsRestricted c.args.nodes.now c.args.var c.args.value) c.requires.image c.place_at-low.result c.place_at-high.result c.place_at-low.ensures c.place_at-high.ensures
     c.branch-scratch.new.self c.in_ok-place.ensures.reduced c.in_ok-place.ensures.keeps c.in_ok-place.place c.in_ok-place.ensures.stands
-    (restricted_by c.args.nodes.now c.requires.nodes c.args.var c.args.value (c.args.k + 2) (get_or c.args.nodes.now c.args.k blank) (node_of_list c.args.nodes.now c.args.k blank c.requires.k) ?)
+    (restricted_by c.args.nodes.now c.requires.nodes c.args.var c.args.value (c.args.k + 2) (get_or c.args.nodes.now c.args.k blank) (node_of_list c.args.nodes.now c.args.k blank c.requires.k) c.if-node-var.false)
+
+pub returns-then-value-clause-stands : goal.returns-then-value-clause-stands
+returns-then-value-clause-stands c =
+    takes_high c.args.nodes.now c.requires.nodes (c.args.k + 2) (get_or c.args.nodes.now c.args.k blank) (node_of_list c.args.nodes.now c.args.k blank c.requires.k)
+    c.args.scratch.now c.args.places.now (omega arith) c.args.var c.args.value c.requires.image c.place_at-low.result c.place_at-high.result c.place_at-low.ensures c.place_at-high.ensures
+    c.if-node-var.true c.if-value.true
+
+pub returns-then-node-var-clause-stands : goal.returns-then-node-var-clause-stands
+returns-then-node-var-clause-stands c =
+    takes_low c.args.nodes.now c.requires.nodes (c.args.k + 2) (get_or c.args.nodes.now c.args.k blank) (node_of_list c.args.nodes.now c.args.k blank c.requires.k)
+    c.args.scratch.now c.args.places.now (omega arith) c.args.var c.args.value c.requires.image c.place_at-low.result c.place_at-high.result c.place_at-low.ensures c.place_at-high.ensures
+    c.if-node-var.true c.if-value.false
