@@ -7,3 +7,4 @@ pub mod OfImages
 pub mod OfRenaming
 pub mod OfTables
 pub mod OfPicking
+pub mod OfQuantifying

@@ -6,6 +6,7 @@ mod applying;
 mod copying;
 mod loading;
 mod picking;
+mod quantifying;
 mod renaming;
 mod restricting;
 mod scratch;
@@ -13,5 +14,9 @@ mod table;
 
 pub use applied::{apply_table2, apply_table3, apply2, apply3};
 pub use picking::{Bits, pick};
+pub use quantifying::exists;
 pub use renaming::rename;
 pub use restricting::restrict;
+
+#[cfg(test)]
+mod tests;
