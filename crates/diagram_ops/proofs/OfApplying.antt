@@ -32,8 +32,8 @@ stands_constant nodes r b meaning before e means =
     record {
       within = omega arith;
       means = λ bits.
-        let M : Bool → Type 0 = meaning bits in
-        subst M (sym (value_at_end nodes r bits (no_node nodes r below) ∙ ap (λ k. nat_eq k 1) e ∙ byte_is b)) (means bits);
+          let M : Bool → Type 0 = meaning bits in
+          subst M (sym (value_at_end nodes r bits (no_node nodes r below) ∙ ap (λ k. nat_eq k 1) e ∙ byte_is b)) (means bits);
       above = λ v h n f. let g : None ≡ Some n = sym (no_node nodes r below) ∙ f in cc;
     }
 
@@ -53,10 +53,10 @@ module _ (old : List Branch) (whole : IsReduced old) (new : List Branch) (other 
     stands = record {
       within = keeps_within old new k r a.stands.within;
       means = λ bits.
-        keeps_value old whole new other k r a.stands.within bits
-        ∙ a.stands.means bits
-        ∙ sym (value3_same table (value_at new x bits) (value_at new y bits) (value_at new z bits) (value_at old x bits) (value_at old y bits) (value_at old z bits)
-        (keeps_value old whole new other k x a.first bits) (keeps_value old whole new other k y a.second bits) (keeps_value old whole new other k z a.third bits));
+          keeps_value old whole new other k r a.stands.within bits
+          ∙ a.stands.means bits
+          ∙ sym (value3_same table (value_at new x bits) (value_at new y bits) (value_at new z bits) (value_at old x bits) (value_at old y bits) (value_at old z bits)
+          (keeps_value old whole new other k x a.first bits) (keeps_value old whole new other k y a.second bits) (keeps_value old whole new other k z a.third bits));
       above = λ v b. keeps_above old new k v r a.stands.within (a.stands.above v (above_before old new k v x b.0, above_before old new k v y b.1, above_before old new k v z b.2));
     };
   }

@@ -90,10 +90,10 @@ module _ (s : List Branch) (whole : IsReduced s) (r : ℕ) (n : Branch) (at : no
       let other = high.copy.every q m e in
       let c = high.copy.placed other.0 q other.1 in
       let is : other.0 ≡ r = one_reference s whole other.0 r c.from (node_within s r n at).1 (λ bits.
-        sym (c.means bits)
-        ∙ value_at_node out2 high.copy.reduced q m bits e
-        ∙ same_cond (bits n.var) (value_at out2 h bits) (value_at out2 l bits) (value_at s n.high bits) (value_at s n.low bits) (high.copied.means bits) (low_copied.means bits)
-        ∙ sym (value_at_node s whole r n bits at)) in
+      sym (c.means bits)
+      ∙ value_at_node out2 high.copy.reduced q m bits e
+      ∙ same_cond (bits n.var) (value_at out2 h bits) (value_at out2 l bits) (value_at s n.high bits) (value_at s n.low bits) (high.copied.means bits) (low_copied.means bits)
+      ∙ sym (value_at_node s whole r n bits at)) in
       let f : None ≡ Some q = sym absent ∙ ap places2 (sym is) ∙ other.1 in
       cc
 
@@ -116,11 +116,11 @@ module _ (s : List Branch) (whole : IsReduced s) (r : ℕ) (n : Branch) (at : no
     from = (node_within s r n at).1;
     to = (node_within out3 p m there).1;
     means = λ bits.
-      value_at_node out3 reduced3 p m bits there
-      ∙ same_cond (bits n.var) (value_at out3 h bits) (value_at out3 l bits) (value_at s n.high bits) (value_at s n.low bits)
-      (keeps_value out2 high.copy.reduced out3 reduced3 keeps3 h high.copied.to bits ∙ high.copied.means bits)
-      (keeps_value out2 high.copy.reduced out3 reduced3 keeps3 l low_copied.to bits ∙ low_copied.means bits)
-      ∙ sym (value_at_node s whole r n bits at);
+        value_at_node out3 reduced3 p m bits there
+        ∙ same_cond (bits n.var) (value_at out3 h bits) (value_at out3 l bits) (value_at s n.high bits) (value_at s n.low bits)
+        (keeps_value out2 high.copy.reduced out3 reduced3 keeps3 h high.copied.to bits ∙ high.copied.means bits)
+        (keeps_value out2 high.copy.reduced out3 reduced3 keeps3 l low_copied.to bits ∙ low_copied.means bits)
+        ∙ sym (value_at_node s whole r n bits at);
     above = λ v b k e. let is : m ≡ k = one_node out3 p m k there e in subst (λ (x : Branch). v < x.var) is (b n at);
   }
 
@@ -167,8 +167,8 @@ module _ (s : List Branch) (whole : IsReduced s) (r : ℕ) (n : Branch) (at : no
       copy = record { reduced = reduced3; placed = placed3; every = every3 };
       keeps = keeps_both out0 out1 out3 low.keeps (keeps_both out1 out2 out3 high.keeps keeps3);
       others = λ k b.
-        let before = whole.earlier r n at in
-        at_other k (λ is. absurd (omega arith)) ∙ high.others k (omega (arith, before.1)) ∙ low.others k (omega (arith, before.0));
+          let before = whole.earlier r n at in
+          at_other k (λ is. absurd (omega arith)) ∙ high.others k (omega (arith, before.1)) ∙ low.others k (omega (arith, before.0));
       copied = copied3;
       turn = turn3;
     }

@@ -110,9 +110,9 @@ module _ (nodes : List Branch) (whole : IsReduced nodes) (r : ℕ) (n : Branch) 
     made_means new all k p within above by = record {
       within = within;
       means = λ bits.
-        let l = stands_kept old i.reduced new all k low (meaning n.low) (λ v. IsAbove nodes v n.low) low_stands in
-        let h = stands_kept old i.reduced new all k high (meaning n.high) (λ v. IsAbove nodes v n.high) high_stands in
-        by bits (value_at new p bits) (value_at new low bits) (value_at new high bits) refl refl refl (l.means bits) (h.means bits);
+          let l = stands_kept old i.reduced new all k low (meaning n.low) (λ v. IsAbove nodes v n.low) low_stands in
+          let h = stands_kept old i.reduced new all k high (meaning n.high) (λ v. IsAbove nodes v n.high) high_stands in
+          by bits (value_at new p bits) (value_at new low bits) (value_at new high bits) refl refl refl (l.means bits) (h.means bits);
       above = λ v h. above v (h n at);
     }
 
@@ -179,8 +179,8 @@ module _ (nodes : List Branch) (whole : IsReduced nodes) (r : ℕ) (n : Branch) 
       (high_within nodes whole r n at old places room (IsRestricted nodes var value) i low high low_is high_is)
       (λ u h. earlier_above u high h (high_above nodes whole r n at old places room (IsRestricted nodes var value) i low high low_is high_is))
       (λ bits b l h eb el eh ml mh.
-        restricted_to nodes whole var value r n at is bits b
-        (eb ∙ sym eh ∙ mh ∙ sym (cond-true value (value_at nodes n.high (set_bit bits var value)) (value_at nodes n.low (set_bit bits var value)) v)))
+      restricted_to nodes whole var value r n at is bits b
+      (eb ∙ sym eh ∙ mh ∙ sym (cond-true value (value_at nodes n.high (set_bit bits var value)) (value_at nodes n.low (set_bit bits var value)) v)))
 
   pub takes_low : value ≡ false → Stands old low (IsRestricted nodes var value r) (λ v. IsAbove nodes v r)
   takes_low v =
@@ -188,5 +188,5 @@ module _ (nodes : List Branch) (whole : IsReduced nodes) (r : ℕ) (n : Branch) 
       (low_within nodes whole r n at old places room (IsRestricted nodes var value) i low high low_is high_is)
       (λ u h. earlier_above u low h (low_above nodes whole r n at old places room (IsRestricted nodes var value) i low high low_is high_is))
       (λ bits b l h eb el eh ml mh.
-        restricted_to nodes whole var value r n at is bits b
-        (eb ∙ sym el ∙ ml ∙ sym (cond-false value (value_at nodes n.high (set_bit bits var value)) (value_at nodes n.low (set_bit bits var value)) v)))
+      restricted_to nodes whole var value r n at is bits b
+      (eb ∙ sym el ∙ ml ∙ sym (cond-false value (value_at nodes n.high (set_bit bits var value)) (value_at nodes n.low (set_bit bits var value)) v)))

@@ -22,9 +22,9 @@ pub comes_on : (nodes : List Branch) → IsReduced nodes → (root at : ℕ) (n 
 comes_on nodes all root at n there list within comes b child is above f same =
     let set_there : f n.var ≡ b = same n.var above ∙ get_or-set_same list n.var b false within in
     comes f (λ k before.
-      let less : k < n.var = before n there in
-      let other : k ≡ n.var → ⊥ = λ e. absurd (omega arith) in
-      same k (λ m e. let up : n.var < m.var = above m e in omega arith) ∙ get_or-set_other list n.var k b false other)
+    let less : k < n.var = before n there in
+    let other : k ≡ n.var → ⊥ = λ e. absurd (omega arith) in
+    same k (λ m e. let up : n.var < m.var = above m e in omega arith) ∙ get_or-set_other list n.var k b false other)
     ∙ value_at_node nodes all at n f there
     ∙ ap (λ c. cond c (value_at nodes n.high f) (value_at nodes n.low f)) set_there
     ∙ branch nodes n f b

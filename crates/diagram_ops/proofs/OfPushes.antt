@@ -80,12 +80,12 @@ module _ (nodes : List Branch) (all : IsReduced nodes) (m : Branch) (low : m.low
     earlier = at_old_or_last (λ r n. (n.low < r) × (n.high < r)) all.earlier (low, high);
     rises = at_old_or_last (λ r n. IsAbove more n.var n.low × IsAbove more n.var n.high)
         (λ r n e.
-          let up = all.rises r n e in
-          let before = all.earlier r n e in
-          let w = (node_within nodes r n e).1 in (
-            keeps_above nodes more (keeps_push nodes m) n.var n.low (omega (arith, before.0, w)) up.0,
-            keeps_above nodes more (keeps_push nodes m) n.var n.high (omega (arith, before.1, w)) up.1,
-          ))
+        let up = all.rises r n e in
+        let before = all.earlier r n e in
+        let w = (node_within nodes r n e).1 in (
+          keeps_above nodes more (keeps_push nodes m) n.var n.low (omega (arith, before.0, w)) up.0,
+          keeps_above nodes more (keeps_push nodes m) n.var n.high (omega (arith, before.1, w)) up.1,
+        ))
         (keeps_above nodes more (keeps_push nodes m) m.var m.low low low_above, keeps_above nodes more (keeps_push nodes m) m.var m.high high high_above);
     differs = at_old_or_last (λ r n. n.low ≡ n.high → ⊥) all.differs differs;
     distinct = distinct;

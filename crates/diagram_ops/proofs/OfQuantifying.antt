@@ -91,7 +91,7 @@ module _ (nodes : List Branch) (whole : IsReduced nodes) (r : ℕ) (n : Branch) 
       made_means nodes whole r n at old places room (IsQuantified nodes vars) i low high low_is high_is new a.reduced a.keeps p a.applied.stands.within
       (λ u h. a.applied.stands.above u (keeps_above old new a.keeps u low lw (below u low h la), keeps_above old new a.keeps u high hw (below u high h ha), λ m e. cc))
       (λ bits b l h eb el eh ml mh.
-        joined_means nodes whole vars r n at listed bits b l h
-        (eb ∙ a.applied.stands.means bits
-        ∙ value3_same 252 (value_at new low bits) (value_at new high bits) (value_at new 0 bits) l h false (sym el) (sym eh) (value_at_end new 0 bits refl)
-        ∙ or_table l h) ml mh)
+      joined_means nodes whole vars r n at listed bits b l h
+      (eb ∙ a.applied.stands.means bits
+      ∙ value3_same 252 (value_at new low bits) (value_at new high bits) (value_at new 0 bits) l h false (sym el) (sym eh) (value_at_end new 0 bits refl)
+      ∙ or_table l h) ml mh)

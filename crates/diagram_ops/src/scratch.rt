@@ -66,8 +66,7 @@ impl<'a> Scratch<'a> {
             return Ok(known);
         }
         self.nodes.reserve(1)?;
-        self.places
-            .insert(u64::from(var), low, high, reference)?;
+        self.places.insert(u64::from(var), low, high, reference)?;
         self.nodes.push(Branch { var, low, high })?;
         Ok(reference)
     }

@@ -1,4 +1,4 @@
-use crate::{apply_table2, apply_table3, apply2, apply3, exists, pick, restrict};
+use crate::{apply_table2, apply_table3, apply2, apply3, exists, pick, rename, restrict};
 use diagram_store::Diagram;
 use std::test::Fail;
 use truth_tables::{value2, value3};
@@ -45,14 +45,20 @@ fn sixteen_tables(rt: HostRuntime) -> Result<(), Fail> {
         let made = apply_table2(alloc, t, &first, &second)?;
         for k in 0u8..4 {
             let (a, b) = (k & 2 != 0, k & 1 != 0);
-            assert_eq!(rt; value_on(&made, [a, b, false]), (t >> k) & 1 == 1, "table {t}");
+            assert_eq!(rt;
+                value_on(&made, [a, b, false]),
+                (t >> k) & 1 == 1,
+                "table {t}"
+            );
             assert_eq!(rt; value2(t, a, b), (t >> k) & 1 == 1);
         }
     }
     let third = Diagram::literal(alloc, 2)?;
     let choice = apply_table3(alloc, 202, &first, &second, &third)?;
     assert!(rt; choice.same(&apply3::<202>(alloc, &first, &second, &third)?));
-    assert!(rt; apply2::<8>(alloc, &first, &second)?.same(&apply_table2(alloc, 8, &first, &second)?));
+    assert!(rt;
+        apply2::<8>(alloc, &first, &second)?.same(&apply_table2(alloc, 8, &first, &second)?)
+    );
     Ok(())
 }
 
@@ -94,8 +100,16 @@ fn other_operations(rt: HostRuntime) -> Result<(), Fail> {
             let [a, b, c] = row(k);
             let either = value3(t, a, false, c) || value3(t, a, true, c);
             assert_eq!(rt; value_on(&some, [a, b, c]), either, "table {t}");
-            assert_eq!(rt; value_on(&no, [a, b, c]), value3(t, a, b, false), "table {t}");
-            assert_eq!(rt; value_on(&yes, [a, b, c]), value3(t, a, true, c), "table {t}");
+            assert_eq!(rt;
+                value_on(&no, [a, b, c]),
+                value3(t, a, b, false),
+                "table {t}"
+            );
+            assert_eq!(rt;
+                value_on(&yes, [a, b, c]),
+                value3(t, a, true, c),
+                "table {t}"
+            );
         }
         if d.has_variables_below(3) {
             match pick(alloc, &d, 3)? {
@@ -104,5 +118,23 @@ fn other_operations(rt: HostRuntime) -> Result<(), Fail> {
             }
         }
     }
+    Ok(())
+}
+
+// Variables 0, 1 and 2 become 1, 2 and 5.
+#[test]
+fn renaming(rt: HostRuntime) -> Result<(), Fail> {
+    let alloc = rt.alloc();
+    let first = Diagram::literal(alloc, 0)?;
+    let second = Diagram::literal(alloc, 1)?;
+    let third = Diagram::literal(alloc, 2)?;
+    let choice = apply_table3(alloc, 202, &first, &second, &third)?;
+    assert!(rt; choice.has_variables_below(3));
+    let names = [1u32, 2, 5];
+    let renamed = rename(alloc, &choice, &names)?;
+    let one = Diagram::literal(alloc, 1)?;
+    let two = Diagram::literal(alloc, 2)?;
+    let five = Diagram::literal(alloc, 5)?;
+    assert!(rt; renamed.same(&apply_table3(alloc, 202, &one, &two, &five)?));
     Ok(())
 }

@@ -69,11 +69,11 @@ branch-scratch-requires-clause-low t c =
     let nodes : List Branch = c.args.scratch.now in
     let v : ℕ = c.in-Some.var in
     let low = applies_at c.args.table nodes c.apply.new.scratch (known c.apply.new.results) nodes v false c.args.x c.args.y c.args.z
-        c.cofactors-xs.result.0 c.cofactors-ys.result.0 c.cofactors-zs.result.0 c.in_ok-low.low
-        (record { first = c.cofactors-xs.ensures.low; second = c.cofactors-ys.ensures.low; third = c.cofactors-zs.ensures.low }) c.in_ok-low.ensures in
+    c.cofactors-xs.result.0 c.cofactors-ys.result.0 c.cofactors-zs.result.0 c.in_ok-low.low
+    (record { first = c.cofactors-xs.ensures.low; second = c.cofactors-ys.ensures.low; third = c.cofactors-zs.ensures.low }) c.in_ok-low.ensures in
     let high = applies_at c.args.table c.apply.new.scratch c.apply-2.new.scratch (known c.apply-2.new.results) nodes v true c.args.x c.args.y c.args.z
-        c.cofactors-xs.result.1 c.cofactors-ys.result.1 c.cofactors-zs.result.1 c.in_ok-high.high
-        (record { first = c.cofactors-xs.ensures.high; second = c.cofactors-ys.ensures.high; third = c.cofactors-zs.ensures.high }) c.in_ok-high.ensures in
+    c.cofactors-xs.result.1 c.cofactors-ys.result.1 c.cofactors-zs.result.1 c.in_ok-high.high
+    (record { first = c.cofactors-xs.ensures.high; second = c.cofactors-ys.ensures.high; third = c.cofactors-zs.ensures.high }) c.in_ok-high.ensures in
     let lowest = lowest_is nodes c.args.x c.args.y c.args.z v (sym c.lowest.ensures.lowest ∙ c.in-Some.is) in
     low_within c.args.table nodes c.lowest.ensures.reduced c.args.x c.args.y c.args.z v c.requires.x c.requires.y c.requires.z lowest
     c.apply.new.scratch (known c.apply.new.results) c.in_ok-low.low low c.apply-2.new.scratch (known c.apply-2.new.results) c.in_ok-high.high high
@@ -83,11 +83,11 @@ branch-scratch-requires-clause-low_above t c =
     let nodes : List Branch = c.args.scratch.now in
     let v : ℕ = c.in-Some.var in
     let low = applies_at c.args.table nodes c.apply.new.scratch (known c.apply.new.results) nodes v false c.args.x c.args.y c.args.z
-        c.cofactors-xs.result.0 c.cofactors-ys.result.0 c.cofactors-zs.result.0 c.in_ok-low.low
-        (record { first = c.cofactors-xs.ensures.low; second = c.cofactors-ys.ensures.low; third = c.cofactors-zs.ensures.low }) c.in_ok-low.ensures in
+    c.cofactors-xs.result.0 c.cofactors-ys.result.0 c.cofactors-zs.result.0 c.in_ok-low.low
+    (record { first = c.cofactors-xs.ensures.low; second = c.cofactors-ys.ensures.low; third = c.cofactors-zs.ensures.low }) c.in_ok-low.ensures in
     let high = applies_at c.args.table c.apply.new.scratch c.apply-2.new.scratch (known c.apply-2.new.results) nodes v true c.args.x c.args.y c.args.z
-        c.cofactors-xs.result.1 c.cofactors-ys.result.1 c.cofactors-zs.result.1 c.in_ok-high.high
-        (record { first = c.cofactors-xs.ensures.high; second = c.cofactors-ys.ensures.high; third = c.cofactors-zs.ensures.high }) c.in_ok-high.ensures in
+    c.cofactors-xs.result.1 c.cofactors-ys.result.1 c.cofactors-zs.result.1 c.in_ok-high.high
+    (record { first = c.cofactors-xs.ensures.high; second = c.cofactors-ys.ensures.high; third = c.cofactors-zs.ensures.high }) c.in_ok-high.ensures in
     let lowest = lowest_is nodes c.args.x c.args.y c.args.z v (sym c.lowest.ensures.lowest ∙ c.in-Some.is) in
     low_above c.args.table nodes c.lowest.ensures.reduced c.args.x c.args.y c.args.z v c.requires.x c.requires.y c.requires.z lowest
     c.apply.new.scratch (known c.apply.new.results) c.in_ok-low.low low c.apply-2.new.scratch (known c.apply-2.new.results) c.in_ok-high.high high
@@ -97,11 +97,11 @@ branch-scratch-requires-clause-high_above t c =
     let nodes : List Branch = c.args.scratch.now in
     let v : ℕ = c.in-Some.var in
     let low = applies_at c.args.table nodes c.apply.new.scratch (known c.apply.new.results) nodes v false c.args.x c.args.y c.args.z
-        c.cofactors-xs.result.0 c.cofactors-ys.result.0 c.cofactors-zs.result.0 c.in_ok-low.low
-        (record { first = c.cofactors-xs.ensures.low; second = c.cofactors-ys.ensures.low; third = c.cofactors-zs.ensures.low }) c.in_ok-low.ensures in
+    c.cofactors-xs.result.0 c.cofactors-ys.result.0 c.cofactors-zs.result.0 c.in_ok-low.low
+    (record { first = c.cofactors-xs.ensures.low; second = c.cofactors-ys.ensures.low; third = c.cofactors-zs.ensures.low }) c.in_ok-low.ensures in
     let high = applies_at c.args.table c.apply.new.scratch c.apply-2.new.scratch (known c.apply-2.new.results) nodes v true c.args.x c.args.y c.args.z
-        c.cofactors-xs.result.1 c.cofactors-ys.result.1 c.cofactors-zs.result.1 c.in_ok-high.high
-        (record { first = c.cofactors-xs.ensures.high; second = c.cofactors-ys.ensures.high; third = c.cofactors-zs.ensures.high }) c.in_ok-high.ensures in
+    c.cofactors-xs.result.1 c.cofactors-ys.result.1 c.cofactors-zs.result.1 c.in_ok-high.high
+    (record { first = c.cofactors-xs.ensures.high; second = c.cofactors-ys.ensures.high; third = c.cofactors-zs.ensures.high }) c.in_ok-high.ensures in
     let lowest = lowest_is nodes c.args.x c.args.y c.args.z v (sym c.lowest.ensures.lowest ∙ c.in-Some.is) in
     high_above c.args.table nodes c.lowest.ensures.reduced c.args.x c.args.y c.args.z v c.requires.x c.requires.y c.requires.z lowest
     c.apply.new.scratch (known c.apply.new.results) c.in_ok-low.low low c.apply-2.new.scratch (known c.apply-2.new.results) c.in_ok-high.high high
@@ -111,11 +111,11 @@ returns t c =
     let nodes : List Branch = c.args.scratch.now in
     let v : ℕ = c.in-Some.var in
     let low = applies_at c.args.table nodes c.apply.new.scratch (known c.apply.new.results) nodes v false c.args.x c.args.y c.args.z
-        c.cofactors-xs.result.0 c.cofactors-ys.result.0 c.cofactors-zs.result.0 c.in_ok-low.low
-        (record { first = c.cofactors-xs.ensures.low; second = c.cofactors-ys.ensures.low; third = c.cofactors-zs.ensures.low }) c.in_ok-low.ensures in
+    c.cofactors-xs.result.0 c.cofactors-ys.result.0 c.cofactors-zs.result.0 c.in_ok-low.low
+    (record { first = c.cofactors-xs.ensures.low; second = c.cofactors-ys.ensures.low; third = c.cofactors-zs.ensures.low }) c.in_ok-low.ensures in
     let high = applies_at c.args.table c.apply.new.scratch c.apply-2.new.scratch (known c.apply-2.new.results) nodes v true c.args.x c.args.y c.args.z
-        c.cofactors-xs.result.1 c.cofactors-ys.result.1 c.cofactors-zs.result.1 c.in_ok-high.high
-        (record { first = c.cofactors-xs.ensures.high; second = c.cofactors-ys.ensures.high; third = c.cofactors-zs.ensures.high }) c.in_ok-high.ensures in
+    c.cofactors-xs.result.1 c.cofactors-ys.result.1 c.cofactors-zs.result.1 c.in_ok-high.high
+    (record { first = c.cofactors-xs.ensures.high; second = c.cofactors-ys.ensures.high; third = c.cofactors-zs.ensures.high }) c.in_ok-high.ensures in
     let lowest = lowest_is nodes c.args.x c.args.y c.args.z v (sym c.lowest.ensures.lowest ∙ c.in-Some.is) in
     applies_step c.args.table nodes c.lowest.ensures.reduced c.args.x c.args.y c.args.z v c.requires.x c.requires.y c.requires.z lowest
     c.apply.new.scratch (known c.apply.new.results) c.in_ok-low.low low c.apply-2.new.scratch (known c.apply-2.new.results) c.in_ok-high.high high
