@@ -1,0 +1,7 @@
+use Rattle.std.proofs.Common.{◌≡◌, ℕ, ◌+◌, length}
+use Rattle.diagram_ops.specs.Images.{IsImage, IsValue}
+use Rattle.diagram_ops.specs.Scratch.{Keeps}
+use Rattle.diagram_ops.proofs.loading.load.Given as goal
+
+abbrev pub invariant-loop-k : goal.invariant-loop-k
+invariant-loop-k l = record { count : length l.places.items ≡ l.k + 2; image : IsImage l.nodes (IsValue l.nodes) l.scratch l.places.items; keeps : Keeps l.initial.scratch l.scratch }

@@ -1,0 +1,51 @@
+use Rattle.std.proofs.Common.{◌≡◌, ℕ, ◌+◌, ◌<◌, length, get_or, arith}
+use Rattle.diagram_store.specs.declared.branch.Branch.{Branch}
+use Rattle.diagram_ops.specs.Images.{IsRestricted}
+use Rattle.diagram_ops.proofs.OfImages.{node_of_list, low_placed, high_placed, low_within, high_within, low_above, high_above, choice_means, restricted_by, takes_high, takes_low}
+use Rattle.diagram_ops.proofs.restricting.restrict_node.Goals as goal
+
+abbrev blank : Branch
+blank = record { var = 0; low = 0; high = 0 }
+
+pub place_at-low-requires : goal.place_at-low-requires
+place_at-low-requires c = low_placed c.args.nodes.now c.requires.nodes (c.args.k + 2) (get_or c.args.nodes.now c.args.k blank) (node_of_list c.args.nodes.now c.args.k blank c.requires.k)
+    c.args.scratch.now c.args.places.now (omega arith)
+
+pub place_at-high-requires : goal.place_at-high-requires
+place_at-high-requires c = high_placed c.args.nodes.now c.requires.nodes (c.args.k + 2) (get_or c.args.nodes.now c.args.k blank) (node_of_list c.args.nodes.now c.args.k blank c.requires.k)
+    c.args.scratch.now c.args.places.now (omega arith)
+
+pub branch-scratch-requires-clause-low : goal.branch-scratch-requires-clause-low
+branch-scratch-requires-clause-low c = low_within c.args.nodes.now c.requires.nodes (c.args.k + 2) (get_or c.args.nodes.now c.args.k blank) (node_of_list c.args.nodes.now c.args.k blank c.requires.k)
+    c.args.scratch.now c.args.places.now (omega arith) (IsRestricted c.args.nodes.now c.args.var c.args.value) c.requires.image c.place_at-low.result c.place_at-high.result c.place_at-low.ensures c.place_at-high.ensures
+
+pub branch-scratch-requires-clause-high : goal.branch-scratch-requires-clause-high
+branch-scratch-requires-clause-high c = high_within c.args.nodes.now c.requires.nodes (c.args.k + 2) (get_or c.args.nodes.now c.args.k blank) (node_of_list c.args.nodes.now c.args.k blank c.requires.k)
+    c.args.scratch.now c.args.places.now (omega arith) (IsRestricted c.args.nodes.now c.args.var c.args.value) c.requires.image c.place_at-low.result c.place_at-high.result c.place_at-low.ensures c.place_at-high.ensures
+
+pub branch-scratch-requires-clause-low_above : goal.branch-scratch-requires-clause-low_above
+branch-scratch-requires-clause-low_above c = low_above c.args.nodes.now c.requires.nodes (c.args.k + 2) (get_or c.args.nodes.now c.args.k blank) (node_of_list c.args.nodes.now c.args.k blank c.requires.k)
+    c.args.scratch.now c.args.places.now (omega arith) (IsRestricted c.args.nodes.now c.args.var c.args.value) c.requires.image c.place_at-low.result c.place_at-high.result c.place_at-low.ensures c.place_at-high.ensures
+
+pub branch-scratch-requires-clause-high_above : goal.branch-scratch-requires-clause-high_above
+branch-scratch-requires-clause-high_above c = high_above c.args.nodes.now c.requires.nodes (c.args.k + 2) (get_or c.args.nodes.now c.args.k blank) (node_of_list c.args.nodes.now c.args.k blank c.requires.k)
+    c.args.scratch.now c.args.places.now (omega arith) (IsRestricted c.args.nodes.now c.args.var c.args.value) c.requires.image c.place_at-low.result c.place_at-high.result c.place_at-low.ensures c.place_at-high.ensures
+
+pub returns-clause-stands : goal.returns-clause-stands
+returns-clause-stands c =
+    choice_means c.args.nodes.now c.requires.nodes (c.args.k + 2) (get_or c.args.nodes.now c.args.k blank) (node_of_list c.args.nodes.now c.args.k blank c.requires.k)
+    c.args.scratch.now c.args.places.now (omega arith) (IsRestricted c.args.nodes.now c.args.var c.args.value) c.requires.image c.place_at-low.result c.place_at-high.result c.place_at-low.ensures c.place_at-high.ensures
+    c.branch-scratch.new.self c.in_ok-place.ensures.reduced c.in_ok-place.ensures.keeps c.in_ok-place.place c.in_ok-place.ensures.stands
+    (restricted_by c.args.nodes.now c.requires.nodes c.args.var c.args.value (c.args.k + 2) (get_or c.args.nodes.now c.args.k blank) (node_of_list c.args.nodes.now c.args.k blank c.requires.k) c.if-node-var.false)
+
+pub returns-then-value-clause-stands : goal.returns-then-value-clause-stands
+returns-then-value-clause-stands c =
+    takes_high c.args.nodes.now c.requires.nodes (c.args.k + 2) (get_or c.args.nodes.now c.args.k blank) (node_of_list c.args.nodes.now c.args.k blank c.requires.k)
+    c.args.scratch.now c.args.places.now (omega arith) c.args.var c.args.value c.requires.image c.place_at-low.result c.place_at-high.result c.place_at-low.ensures c.place_at-high.ensures
+    c.if-node-var.true c.if-value.true
+
+pub returns-then-node-var-clause-stands : goal.returns-then-node-var-clause-stands
+returns-then-node-var-clause-stands c =
+    takes_low c.args.nodes.now c.requires.nodes (c.args.k + 2) (get_or c.args.nodes.now c.args.k blank) (node_of_list c.args.nodes.now c.args.k blank c.requires.k)
+    c.args.scratch.now c.args.places.now (omega arith) c.args.var c.args.value c.requires.image c.place_at-low.result c.place_at-high.result c.place_at-low.ensures c.place_at-high.ensures
+    c.if-node-var.true c.if-value.false

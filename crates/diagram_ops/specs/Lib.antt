@@ -1,0 +1,6 @@
+pub mod Tables
+pub mod Scratch
+pub mod Copying
+pub mod Applying
+pub mod Images
+pub mod Renaming

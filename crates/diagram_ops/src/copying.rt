@@ -1,0 +1,66 @@
+ghost use Rattle.std.specs.Prelude.{◌≡◌, ◌+◌, ◌<◌, ◌++◌, [], ◌∷◌, ℕ, Bool, Some, IfOk, OnOk, length, cond, nat_eq};
+ghost use Rattle.std.specs.HashMap.{get};
+ghost use Rattle.diagram_store.specs.Meaning.{value_at};
+ghost use Rattle.diagram_ops.specs.Copying.{IsCopy, Copies};
+
+use crate::scratch::Scratch;
+use diagram_store::{Branch, BranchList, Diagram};
+use std::alloc::Global;
+use std::collections::HashMap;
+use wpds_port::OutOfMemory;
+
+// Nodes in canonical order, and the place of each scratch reference that has one.
+#[derive(Drop)]
+struct Copy {
+    nodes: Vec<Branch>,
+    places: HashMap<u64, u64>,
+}
+
+// The diagram with the meaning of a scratch reference.
+pub fn copied_out(alloc: Global, scratch: &Scratch, root: u64) -> Result<Diagram, OutOfMemory>
+    requires { root < length scratch.now + 2 }
+    ensures { IfOk result (λ d. (bits : ℕ → Bool) → value_at d.nodes d.root bits ≡ value_at scratch.now root bits) }
+{
+    let mut copy = Copy {
+        nodes: Vec::new(alloc),
+        places: HashMap::new(alloc),
+    };
+    let place = copy_from(scratch, &mut copy, root)?;
+    Ok(Diagram {
+        root: place,
+        nodes: BranchList::new(copy.nodes),
+    })
+}
+
+// Copies what a reference reaches, low first, and answers its place.
+fn copy_from(scratch: &Scratch, copy: &mut Copy, reference: u64) -> Result<u64, OutOfMemory>
+    requires within { reference < length scratch.now + 2 }
+    requires copy { IsCopy scratch.now (λ k. get nat_eq copy.old.places k) copy.old.nodes.items }
+    ensures { IfOk result (λ p. Copies scratch.now (λ k. get nat_eq copy.old.places k) copy.old.nodes.items (λ k. get nat_eq copy.new.places k) copy.new.nodes.items reference p) }
+{
+    if let Some(place) = copy.places.get(&reference) {
+        return Ok(*place);
+    }
+    match scratch.node(reference) {
+        None => Ok(reference),
+        Some(found) => {
+            let low = copy_from(scratch, copy, found.low)?;
+            let high = copy_from(scratch, copy, found.high)?;
+            let var = found.var;
+            let place = place_node(copy, reference, Branch { var, low, high })?;
+            Ok(place)
+        }
+    }
+}
+
+// Adds the node of a reference, and answers its place.
+fn place_node(copy: &mut Copy, reference: u64, node: Branch) -> Result<u64, OutOfMemory>
+    ensures place { IfOk result (λ p. p ≡ length copy.old.nodes.items + 2) }
+    ensures nodes { OnOk result (copy.new.nodes.items ≡ copy.old.nodes.items ++ node ∷ []) }
+    ensures places { IfOk result (λ p. (k : ℕ) → get nat_eq copy.new.places k ≡ cond (nat_eq reference k) (Some p) (get nat_eq copy.old.places k)) }
+{
+    let place = copy.nodes.len() as u64 + 2;
+    copy.nodes.push(node)?;
+    copy.places.insert(reference, place)?;
+    Ok(place)
+}

@@ -1,0 +1,22 @@
+//! Operations on decision diagrams (Bryant 1986; Burch, Clarke, McMillan, Dill, Hwang 1990).
+#![tactic(auto)]
+
+mod applied;
+mod applying;
+mod copying;
+mod loading;
+mod picking;
+mod quantifying;
+mod renaming;
+mod restricting;
+mod scratch;
+mod table;
+
+pub use applied::{apply_table2, apply_table3, apply2, apply3};
+pub use picking::{Bits, pick};
+pub use quantifying::exists;
+pub use renaming::rename;
+pub use restricting::restrict;
+
+#[cfg(test)]
+mod tests;

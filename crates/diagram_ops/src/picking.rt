@@ -1,0 +1,59 @@
+ghost use Rattle.std.specs.Prelude.{◌≡◌, ℕ, Bool, true, false, IfOk, MatchOption, length};
+ghost use Rattle.diagram_store.specs.Meaning.{value_at, bits_of};
+ghost use Rattle.diagram_store.specs.Nodes.{HasVariablesBelow};
+
+use diagram_store::{Diagram, node};
+use std::alloc::Global;
+use std::marker::Model;
+use wpds_port::OutOfMemory;
+
+/// A list of bits, one for each variable.
+#[derive(Drop)]
+pub struct Bits {
+    bits: Vec<bool>,
+}
+
+impl Model for Bits {
+    ghost use Rattle.std.specs.Prelude.{List, Bool};
+
+    ghost Value = { List Bool };
+
+    ghost view = { λ b. b.bits.items };
+}
+
+impl Bits {
+    /// These bits. It takes no memory.
+    pub fn new(bits: Vec<bool>) -> Bits
+        ensures { result ≡ bits.items }
+    {
+        Bits { bits }
+    }
+
+    /// The bits.
+    pub fn as_slice(&self) -> &[bool]
+        ensures { result.now ≡ self.now }
+    {
+        &self.bits
+    }
+}
+
+/// So many bits on which the diagram is true, or `None` for the false diagram.
+///
+/// Which of several lists of bits it gives is not said.
+pub fn pick(alloc: Global, a: &Diagram, count: u32) -> Result<Option<Bits>, OutOfMemory>
+    requires { HasVariablesBelow count a.now.nodes }
+    ensures { IfOk result (λ o. MatchOption o ((bits : ℕ → Bool) → value_at a.now.nodes a.now.root bits ≡ false)
+        (λ list. (length list ≡ count) × (value_at a.now.nodes a.now.root (bits_of list) ≡ true))) }
+{
+    if a.root == 0 {
+        return Ok(None);
+    }
+    let mut bits = vec![in alloc; false; count as usize]?;
+    let mut at = a.root;
+    while let Some(found) = node(a.nodes(), at) {
+        let high = found.low == 0;
+        bits[found.var as usize] = high;
+        at = if high { found.high } else { found.low };
+    }
+    Ok(Some(Bits::new(bits)))
+}

@@ -1,0 +1,86 @@
+ghost use Rattle.std.specs.Prelude.{◌≡◌, ◌↔◌, ◌+◌, ◌<◌, ℕ, Bool, IsTrue, IfOk, length};
+ghost use Rattle.diagram_store.specs.Meaning.{value_at};
+ghost use Rattle.diagram_store.specs.Nodes.{IsReduced, IsAbove};
+ghost use Rattle.diagram_ops.specs.Applying.{AreApplied};
+ghost use Rattle.diagram_ops.specs.Images.{IsImage, IsQuantified, IsTrueOnSome};
+ghost use Rattle.diagram_ops.specs.Scratch.{Keeps, Stands};
+ghost use Rattle.diagram_ops.specs.Tables.{known};
+
+use crate::applying::apply;
+use crate::copying::copied_out;
+use crate::loading::{first_places, place_at};
+use crate::scratch::Scratch;
+use crate::table::Table;
+use bumpalo::Bump;
+use diagram_store::{Branch, Diagram};
+use std::alloc::Global;
+use wpds_port::OutOfMemory;
+
+// The table of three places that is the first or the second, whatever the third.
+const OR: u8 = 252;
+
+/// The diagram that is true on exactly those bits for which `a` is true on some bits that differ from them
+/// in `vars` at most.
+///
+/// It is one pass: a node of a variable of `vars` becomes the disjunction of its branches.
+pub fn exists(alloc: Global, a: &Diagram, vars: &[u32]) -> Result<Diagram, OutOfMemory>
+    ensures { IfOk result (λ d. (bits : ℕ → Bool) → IsTrue (value_at d.nodes d.root bits) ↔ IsTrueOnSome a.now.nodes vars.now a.now.root bits) }
+{
+    let arena = Bump::new(alloc);
+    let mut scratch = Scratch::new(alloc, &arena);
+    let root = quantified(alloc, &mut scratch, a, vars)?;
+    let made = copied_out(alloc, &scratch, root)?;
+    Ok(made)
+}
+
+// Adds the nodes of a diagram with the variables quantified, and answers the place of its root.
+fn quantified(
+    alloc: Global,
+    scratch: &mut Scratch,
+    diagram: &Diagram,
+    vars: &[u32],
+) -> Result<u64, OutOfMemory>
+    requires { IsReduced scratch.old }
+    ensures reduced { IfOk result (λ _. IsReduced scratch.new) }
+    ensures keeps { IfOk result (λ _. Keeps scratch.old scratch.new) }
+    ensures stands { IfOk result (λ p. Stands scratch.new p (IsQuantified diagram.now.nodes vars.now diagram.now.root) (λ v. IsAbove diagram.now.nodes v diagram.now.root)) }
+{
+    let nodes = diagram.nodes();
+    let mut places = first_places(alloc)?;
+    let mut results = Table::new(alloc);
+    for k in 0..nodes.len() {
+        let place = quantify_node(scratch, &mut results, nodes, &places, k, vars)?;
+        places.push(place)?;
+    }
+    Ok(place_at(&places, diagram.root))
+}
+
+// The place of a node, after those of its branches.
+fn quantify_node(
+    scratch: &mut Scratch,
+    results: &mut Table,
+    nodes: &[Branch],
+    places: &[u64],
+    k: usize,
+    vars: &[u32],
+) -> Result<u64, OutOfMemory>
+    requires nodes { IsReduced nodes.now }
+    requires k { k < length nodes.now }
+    requires places { length places.now ≡ k + 2 }
+    requires image { IsImage nodes.now (IsQuantified nodes.now vars.now) scratch.old places.now }
+    requires results { AreApplied 252 scratch.old (known results.old) }
+    ensures results { IfOk result (λ _. AreApplied 252 scratch.new (known results.new)) }
+    ensures reduced { IfOk result (λ _. IsReduced scratch.new) }
+    ensures keeps { IfOk result (λ _. Keeps scratch.old scratch.new) }
+    ensures stands { IfOk result (λ p. Stands scratch.new p (IsQuantified nodes.now vars.now (k + 2)) (λ v. IsAbove nodes.now v (k + 2))) }
+{
+    let node = nodes[k];
+    let low = place_at(places, node.low);
+    let high = place_at(places, node.high);
+    if vars.contains(&node.var) {
+        let joined = apply(scratch, results, OR, low, high, 0)?;
+        return Ok(joined);
+    }
+    let place = scratch.branch(node.var, low, high)?;
+    Ok(place)
+}

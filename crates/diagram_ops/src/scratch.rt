@@ -1,0 +1,73 @@
+ghost use Rattle.std.specs.Prelude.{◌≡◌, ◌+◌, ◌<◌, ◌^◌, ℕ, [], Some, IfOk, length};
+ghost use Rattle.diagram_store.specs.Nodes.{node_at, IsAbove, IsReduced, HasVariablesBelow};
+ghost use Rattle.diagram_ops.specs.Scratch.{Keeps, Stands, IsChoice};
+
+use crate::table::Table;
+use bumpalo::Bump;
+use diagram_store::{Branch, node};
+use std::alloc::Global;
+use std::marker::Model;
+use wpds_port::OutOfMemory;
+
+// Reduced nodes in an arena, and a table that finds each by its parts.
+#[derive(Drop)]
+pub struct Scratch<'a> {
+    nodes: Vec<Branch, &'a Bump>,
+    places: Table,
+}
+
+impl<'a> Model for Scratch<'a> {
+    ghost use Rattle.std.specs.Prelude.{List};
+    ghost use Rattle.diagram_store.specs.declared.branch.Branch.{Branch as BranchValue};
+    ghost use Rattle.diagram_ops.specs.Scratch.{IsScratch};
+    ghost use Rattle.diagram_ops.specs.Tables.{known};
+
+    ghost Value = { List BranchValue };
+
+    ghost view = { λ s. s.nodes.items };
+
+    ghost invariant = { λ s. IsScratch (known s.places) s.nodes.items };
+}
+
+impl<'a> Scratch<'a> {
+    pub fn new(alloc: Global, arena: &'a Bump) -> Scratch<'a>
+        ensures empty { result ≡ [] }
+        ensures reduced { IsReduced result }
+    {
+        Scratch {
+            nodes: Vec::new(arena),
+            places: Table::new(alloc),
+        }
+    }
+
+    // The node that a reference names.
+    pub fn node(&self, reference: u64) -> Option<Branch>
+        ensures found { result ≡ node_at self.now reference }
+        ensures reduced { IsReduced self.now }
+    {
+        node(&self.nodes, reference)
+    }
+
+    // The choice by a variable that comes before those of both branches.
+    pub fn branch(&mut self, var: u32, low: u64, high: u64) -> Result<u64, OutOfMemory>
+        requires low { low < length self.old + 2 }
+        requires high { high < length self.old + 2 }
+        requires low_above { IsAbove self.old var low }
+        requires high_above { IsAbove self.old var high }
+        ensures reduced { IsReduced self.new }
+        ensures keeps { Keeps self.old self.new }
+        ensures stands { IfOk result (λ r. Stands self.new r (IsChoice self.new var low high) (λ v. v < var)) }
+    {
+        let reference = self.nodes.len() as u64 + 2;
+        if low == high {
+            return Ok(low);
+        }
+        if let Some(known) = self.places.get(u64::from(var), low, high) {
+            return Ok(known);
+        }
+        self.nodes.reserve(1)?;
+        self.places.insert(u64::from(var), low, high, reference)?;
+        self.nodes.push(Branch { var, low, high })?;
+        Ok(reference)
+    }
+}

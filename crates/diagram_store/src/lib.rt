@@ -1,0 +1,15 @@
+//! Reduced ordered decision diagrams (Bryant 1986) as values: a canonical list of nodes, no shared manager.
+#![tactic(auto)]
+
+mod branch;
+mod diagram;
+mod form;
+mod laws;
+
+pub use branch::{Branch, BranchList, node};
+pub use diagram::Diagram;
+pub use form::canonical;
+pub use laws::{independent_variables, one_meaning};
+
+#[cfg(test)]
+mod tests;
