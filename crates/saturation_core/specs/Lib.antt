@@ -8,7 +8,7 @@ pub mod Openings
 pub mod Paths
 pub mod Books
 pub mod Seen
-pub mod Still
+pub mod Gather
 pub mod Plans
 pub mod Finding
 pub mod Worked

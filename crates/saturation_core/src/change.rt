@@ -14,7 +14,7 @@ use weighted_automata::{Place, Transitions};
 use witness_graph::{Graph, Node};
 use wpds_port::OutOfMemory;
 
-// Puts a place last, unless it waits, and makes room for it.
+/// Puts a place last, unless it waits, and makes room for it.
 pub fn queue_up(waiting: &mut VecDeque<Place>, place: Place) -> Result<(), OutOfMemory>
     ensures { OnOk result (waiting.new.items ≡ queued place waiting.old.items) }
 {
@@ -23,7 +23,7 @@ pub fn queue_up(waiting: &mut VecDeque<Place>, place: Place) -> Result<(), OutOf
     Ok(())
 }
 
-// The weight at a place, and zero where there is none.
+/// The weight at a place, and zero where there is none.
 pub fn weight_now<S: Semiring>(
     semiring: &S,
     alloc: Global,
@@ -39,7 +39,7 @@ pub fn weight_now<S: Semiring>(
     }
 }
 
-// The node at a place.
+/// The node at a place.
 pub fn node_now<S: Semiring>(transitions: &Transitions<S>, place: Place) -> Option<u64>
     ensures { result ≡ option_map node_of (entry_at place transitions.now.transitions) }
 {
@@ -49,7 +49,7 @@ pub fn node_now<S: Semiring>(transitions: &Transitions<S>, place: Place) -> Opti
     }
 }
 
-// What a weight makes of the one that is there, where it changes it.
+/// What a weight makes of the one that is there, where it changes it.
 pub fn weight_after<S: Semiring>(
     semiring: &S,
     alloc: Global,
@@ -67,7 +67,7 @@ pub fn weight_after<S: Semiring>(
     Ok(Some(sum))
 }
 
-// Combines the weight of a rule into a place, whose runs get the rule alone. After want of memory the parts are of no use.
+/// Combines the weight of a rule into a place, whose runs get the rule alone. After want of memory the parts are of no use.
 pub fn apply_rule<S: Semiring>(
     semiring: &S,
     alloc: Global,

@@ -6,7 +6,7 @@ use crate::{Holding, SeatSet};
 use semiring_laws::Semiring;
 use weighted_automata::Place;
 
-// Whether no hand is out.
+/// Whether no hand is out.
 pub fn none_out<S: Semiring>(out: &[Option<Holding<S>>]) -> bool
     ensures { IsTrue result ↔ ((seat : ℕ) → hand_at seat out.now ≡ None) }
 {
@@ -18,7 +18,7 @@ pub fn none_out<S: Semiring>(out: &[Option<Holding<S>>]) -> bool
     true
 }
 
-// The seats that have hands.
+/// The seats that have hands.
 pub fn seats_out<S: Semiring>(out: &[Option<Holding<S>>]) -> SeatSet
     requires { length out.now ≤ 64 }
     ensures { result.bits ≡ seat_bits out.now }
@@ -32,6 +32,7 @@ pub fn seats_out<S: Semiring>(out: &[Option<Holding<S>>]) -> SeatSet
     SeatSet { bits }
 }
 
+// One where a hand is out.
 fn seat_bit<S: Semiring>(held: &Option<Holding<S>>) -> u64
     ensures { result ≡ (if is_some held.now then 1 else 0) }
 {
@@ -41,7 +42,7 @@ fn seat_bit<S: Semiring>(held: &Option<Holding<S>>) -> u64
     }
 }
 
-// The place that a seat has taken.
+/// The place that a seat has taken.
 pub fn place_out<S: Semiring>(out: &[Option<Holding<S>>], seat: usize) -> Option<Place>
     ensures { result ≡ option_map (λ h. h.place) (hand_at seat out.now) }
 {
@@ -54,7 +55,7 @@ pub fn place_out<S: Semiring>(out: &[Option<Holding<S>>], seat: usize) -> Option
     }
 }
 
-// Sets what a seat holds.
+/// Sets what a seat holds.
 pub fn put<S: Semiring>(out: &mut Vec<Option<Holding<S>>>, seat: usize, to: Option<Holding<S>>)
     ensures { out.new.items ≡ slice_set out.old.items seat to }
 {

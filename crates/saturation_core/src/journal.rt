@@ -3,7 +3,7 @@ ghost use Rattle.saturation_core.specs.Bound.{takes, takes_of, is_take, is_take_
 
 use crate::Event;
 
-// How many of the events are takes.
+/// How many of the events are takes.
 pub fn count_takes(events: &[Event]) -> u128
     ensures { result ≡ takes events.now }
 {
@@ -16,7 +16,7 @@ pub fn count_takes(events: &[Event]) -> u128
     count
 }
 
-// How many of the events are takes of this seat.
+/// How many of the events are takes of this seat.
 pub fn count_takes_of(events: &[Event], seat: u32) -> u128
     ensures { result ≡ takes_of seat events.now }
 {

@@ -6,6 +6,8 @@ mod book;
 mod change;
 mod direction;
 mod event;
+#[cfg(test)]
+mod gather;
 mod hand;
 mod hands;
 mod job;

@@ -26,7 +26,7 @@ fn goals<S: Semiring>(alloc: Global, plan: &[Planned<S>]) -> Result<Vec<Place>, 
     Ok(places)
 }
 
-// Makes room for the lowerings of a plan, and in the queue for 64 places more. What was found stays as it was.
+/// Makes room for the lowerings of a plan, and in the queue for 64 places more. What was found stays as it was.
 pub fn make_room<S: Semiring>(
     alloc: Global,
     plan: &[Planned<S>],
@@ -79,7 +79,7 @@ fn lower<S: Semiring>(
     enqueue(waiting, step.goal);
 }
 
-// Makes the lowerings of a plan in order, where there is room for them. It takes no memory.
+/// Makes the lowerings of a plan in order, where there is room for them. It takes no memory.
 pub fn lower_all<S: Semiring>(
     alloc: Global,
     plan: Vec<Planned<S>>,

@@ -16,7 +16,7 @@ use weighted_automata::{Entry, Place, Transitions};
 use witness_graph::Node;
 use wpds_port::OutOfMemory;
 
-// A lowering that is still to be made: the goal, its new weight, and the node of its runs.
+/// A lowering that is still to be made: the goal, its new weight, and the node of its runs.
 #[derive(Drop)]
 pub struct Planned<S: Semiring> {
     pub goal: Place,
@@ -156,7 +156,7 @@ fn add<S: Semiring>(plan: &mut Vec<Planned<S>>, step: Option<Planned<S>>) -> Res
     Ok(())
 }
 
-// What jobs of these worths lower, one after the other, where the first new node has the number `nodes`.
+/// What jobs of these worths lower, one after the other, where the first new node has the number `nodes`.
 pub fn plan_jobs<S: Semiring>(
     semiring: &S,
     alloc: Global,

@@ -23,6 +23,7 @@ fn waits(queue: &VecDeque<Place>, x: Place) -> bool
     stands_in(upper, x) || stands_in(lower, x)
 }
 
+// Whether a place is one of these.
 fn stands_in(places: &[Place], x: Place) -> bool
     ensures { result ≡ has_place x places.now }
 {
@@ -34,7 +35,7 @@ fn stands_in(places: &[Place], x: Place) -> bool
     false
 }
 
-// Puts a place last, unless it waits.
+/// Puts a place last, unless it waits.
 pub fn enqueue(queue: &mut VecDeque<Place>, x: Place)
     requires { deque_len queue.old < deque_capacity queue.old }
     ensures items { queue.new.items ≡ queued x queue.old.items }
@@ -46,14 +47,14 @@ pub fn enqueue(queue: &mut VecDeque<Place>, x: Place)
     }
 }
 
-// The place that waits longest.
+/// The place that waits longest.
 pub fn front(queue: &VecDeque<Place>) -> Option<Place>
     ensures { MatchOption result (queue.now.items ≡ []) (λ x. queue.now.items ≡ x ∷ drop 1 queue.now.items) }
 {
     queue.front().copied()
 }
 
-// The jobs of the transition at a place.
+/// The jobs of the transition at a place.
 pub fn list_jobs<S: Semiring, D: Direction<S>>(
     direction: &D,
     alloc: Global,

@@ -10,7 +10,7 @@ use semiring_laws::Semiring;
 use weighted_automata::Entry;
 use witness_graph::Side;
 
-// Whether two sides are one.
+/// Whether two sides are one.
 pub fn same_side(one: Side, other: Side) -> bool
     ensures { IsTrue result ↔ (one ≡ other) }
 {
@@ -63,7 +63,7 @@ fn same_jobs<S: Semiring>(semiring: &S, one: &[Job<S>], other: &[Job<S>]) -> boo
     true
 }
 
-// Whether a seat's hand lists these jobs.
+/// Whether a seat's hand lists these jobs.
 pub fn lists<S: Semiring>(
     semiring: &S,
     out: &[Option<Holding<S>>],
@@ -114,7 +114,7 @@ fn agrees<S: Semiring>(one: &System<S>, other: &System<S>, job: &Job<S>) -> bool
     same_named(one, other, job.rule) && same_named(one, other, job.frame)
 }
 
-// Whether two systems over one semiring have the same rules where one of the jobs names one. No other rule is compared.
+/// Whether two systems over one semiring have the same rules where one of the jobs names one. No other rule is compared.
 pub fn agree<S: Semiring>(one: &System<S>, other: &System<S>, jobs: &[Job<S>]) -> bool
     requires { one.now.semiring ≡ other.now.semiring }
     ensures { IsTrue result ↔ All (AgreeOn one.now other.now) jobs.now }

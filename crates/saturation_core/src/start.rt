@@ -14,7 +14,7 @@ use weighted_automata::{Label, Place, Transitions};
 use witness_graph::{Graph, Node, Side};
 use wpds_port::OutOfMemory;
 
-// A seat for each of 64 workers, without hands.
+/// A seat for each of 64 workers, without hands.
 pub fn no_hands<S: Semiring>(alloc: Global) -> Result<Vec<Option<Holding<S>>>, OutOfMemory>
     ensures { IfOk result (λ v. v.items ≡ replicate 64 None) }
 {
@@ -25,7 +25,7 @@ pub fn no_hands<S: Semiring>(alloc: Global) -> Result<Vec<Option<Holding<S>>>, O
     Ok(out)
 }
 
-// The empty run alone.
+/// The empty run alone.
 pub fn empty_run(alloc: Global, side: Side) -> Result<Graph, OutOfMemory>
     ensures nodes { IfOk result (λ g. g.nodes ≡ Start ∷ []) }
     ensures side { IfOk result (λ g. g.side ≡ side) }
@@ -35,7 +35,7 @@ pub fn empty_run(alloc: Global, side: Side) -> Result<Graph, OutOfMemory>
     Ok(graph)
 }
 
-// Adds the edges, each with weight one and the node of the empty run. After want of memory the parts are of no use.
+/// Adds the edges, each with weight one and the node of the empty run. After want of memory the parts are of no use.
 pub fn add_edges<S: Semiring>(
     semiring: &S,
     alloc: Global,
@@ -98,7 +98,7 @@ fn add_pop<S: Semiring>(
     Ok(())
 }
 
-// Adds the place of each pop rule, with the rule's weight. After want of memory the parts are of no use.
+/// Adds the place of each pop rule, with the rule's weight. After want of memory the parts are of no use.
 pub fn add_pops<S: Semiring>(
     system: &System<S>,
     alloc: Global,
@@ -117,7 +117,7 @@ pub fn add_pops<S: Semiring>(
     Ok(())
 }
 
-// Adds what the side adds to the edges. After want of memory the parts are of no use.
+/// Adds what the side adds to the edges. After want of memory the parts are of no use.
 pub fn add_pops_of<S: Semiring>(
     side: Side,
     system: &System<S>,
