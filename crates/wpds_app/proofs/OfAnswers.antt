@@ -33,6 +33,7 @@ members_are_opened law pattern controls below d = (there, back)
         let same = eqb-true d.control pattern.control (and_parts (nat_eq d.control pattern.control) (items_match pattern.items d.stack) e).0 in
         let within = subst (λ k. k < controls) (sym same) below in
         ((law pattern controls below d within).1 e, within)
+
     back : (IsOpened (opening_of controls pattern) d × (d.control < controls)) → IsTrue (has_member pattern d)
     back both = (law pattern controls below d both.1).0 both.0
 

@@ -127,16 +127,16 @@ told d brief report reported = go reported.answer.value refl
           reached d (listed_runs reported.answer.listing) reported.is_answer.answers.lead (sym e ∙ reported.is_answer.answers.combined),
           (if brief then [] else shown reported.answer.listing),
           reported.text
-          ∙ ap (λ v. query_text 1 brief (reach_text v) reported.answer.listing) e
-          ∙ ap (λ l. l ++ (if brief then [] else shown reported.answer.listing)) (line_is (codes "reachable")),
+              ∙ ap (λ v. query_text 1 brief (reach_text v) reported.answer.listing) e
+              ∙ ap (λ l. l ++ (if brief then [] else shown reported.answer.listing)) (line_is (codes "reachable")),
         )
     go false e =
         inr (
           never d reported.answer.value e (listed_runs reported.answer.listing) reported.is_answer.answers,
           reported.text
-          ∙ ap (λ v. query_text 1 brief (reach_text v) reported.answer.listing) e
-          ∙ unlisted_text brief (codes "unreachable") reported.answer.listing (reported.is_answer.unlisted.1 e)
-          ∙ line_is (codes "unreachable"),
+              ∙ ap (λ v. query_text 1 brief (reach_text v) reported.answer.listing) e
+              ∙ unlisted_text brief (codes "unreachable") reported.answer.listing (reported.is_answer.unlisted.1 e)
+              ∙ line_is (codes "unreachable"),
         )
 
 pub tells : (d : Document) (brief : Bool) (report : List ℕ) → d.weights ≡ Reach → IsReport d brief report → TellsReachability d report

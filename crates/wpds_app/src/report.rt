@@ -64,11 +64,7 @@ fn costs(cap: u64) -> Cost
 }
 
 /// The report on a document.
-pub(crate) fn report(
-    alloc: Global,
-    document: &Document,
-    brief: bool,
-) -> Result<String, OutOfMemory>
+pub(crate) fn report(alloc: Global, document: &Document, brief: bool) -> Result<String, OutOfMemory>
     requires { HasSystem document.now }
     ensures { IfOk result (λ t. IsReport document.now brief (string_bytes t)) }
 {

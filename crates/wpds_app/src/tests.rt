@@ -155,14 +155,7 @@ fn stops_at_each_fault(rt: HostRuntime) -> Result<(), Fail> {
         assert_eq!(rt; ended, Status::WriteFault, "with room for {room}");
         assert!(rt; written.len() <= room && text.starts_with(&written));
     }
-    let (ended, written) = outcome(
-        rt.alloc(),
-        &BRIEF,
-        CALL.as_bytes(),
-        &[],
-        text.len(),
-        &[],
-    )?;
+    let (ended, written) = outcome(rt.alloc(), &BRIEF, CALL.as_bytes(), &[], text.len(), &[])?;
     assert_eq!(rt; ended, Status::Answered);
     assert_eq!(rt; written.as_slice(), text);
     Ok(())
@@ -209,7 +202,10 @@ fn codes_are_told_apart(rt: HostRuntime) {
 
 // The lines of a ladder of so many rungs, each of which is entered twice. Its one run costs 2 to the power of the rungs.
 fn ladder(alloc: Global, rungs: u32) -> Result<String, OutOfMemory> {
-    let mut text = String::from_str(alloc, "wpds 1\nweights cost 1000000000\ncontrols p\nsymbols")?;
+    let mut text = String::from_str(
+        alloc,
+        "wpds 1\nweights cost 1000000000\ncontrols p\nsymbols",
+    )?;
     for k in 0..rungs {
         text.push_str(format!(in alloc; " e{k} m{k} x{k}")?.as_str())?;
     }
@@ -226,7 +222,11 @@ fn ladder(alloc: Global, rungs: u32) -> Result<String, OutOfMemory> {
 
 #[test]
 fn ladders(rt: HostRuntime) -> Result<(), Fail> {
-    for (rungs, text) in [(1, "query 1: 2\n"), (20, "query 1: 1048576\n"), (30, "query 1: 1000000000 or more\n")] {
+    for (rungs, text) in [
+        (1, "query 1: 2\n"),
+        (20, "query 1: 1048576\n"),
+        (30, "query 1: 1000000000 or more\n"),
+    ] {
         let document = ladder(rt.alloc(), rungs)?;
         let (ended, written) = outcome(rt.alloc(), &BRIEF, document.as_bytes(), &[], 100, &[])?;
         assert_eq!(rt; ended, Status::Answered, "{rungs} rungs");
@@ -237,9 +237,12 @@ fn ladders(rt: HostRuntime) -> Result<(), Fail> {
 
 #[test]
 fn costs(rt: HostRuntime) -> Result<(), Fail> {
-    let call = "weights cost 100\ncontrols p q\nsymbols a b\nrule p a -> p b a : 2\nrule p b -> q : 1\n";
-    let steps = "weights cost 5\ncontrols p\nsymbols a b c\nrule p a -> p b : 3\nrule p b -> p c : 3\n";
-    let pushes = "weights cost 100\ncontrols p\nsymbols a\nrule p a -> p a a : 1\nrule p a -> p : 0\n";
+    let call =
+        "weights cost 100\ncontrols p q\nsymbols a b\nrule p a -> p b a : 2\nrule p b -> q : 1\n";
+    let steps =
+        "weights cost 5\ncontrols p\nsymbols a b c\nrule p a -> p b : 3\nrule p b -> p c : 3\n";
+    let pushes =
+        "weights cost 100\ncontrols p\nsymbols a\nrule p a -> p a a : 1\nrule p a -> p : 0\n";
     for (system, query, text) in [
         (call, "query p: a => q: a\n", "query 1: 3\n"),
         // the empty run
@@ -261,10 +264,12 @@ fn costs(rt: HostRuntime) -> Result<(), Fail> {
 
 #[test]
 fn listings(rt: HostRuntime) -> Result<(), Fail> {
-    let system = "wpds 1\nweights cost 100\ncontrols p q\nsymbols a b\nrule p a -> p b a : 2\nrule p b -> q : 1\n";
+    let system =
+        "wpds 1\nweights cost 100\ncontrols p q\nsymbols a b\nrule p a -> p b a : 2\nrule p b -> q : 1\n";
     // Set 0 is the empty run with which a sum begins, and set 2 that of the query's second configuration. Set 1 is the
     // return, and set 3 the call: rule 1, the return, and nothing after it. Sets 4 and 5 read the first configuration.
-    let call = "query 1: 3\n  set 0 = empty\n  set 1 = rule 2\n  set 2 = empty\n  set 3 = rule 1 then set 1 then set 2\n  set 4 = set 0 then set 3\n  set 5 = set 4\n  answer set 5\n";
+    let call =
+        "query 1: 3\n  set 0 = empty\n  set 1 = rule 2\n  set 2 = empty\n  set 3 = rule 1 then set 1 then set 2\n  set 4 = set 0 then set 3\n  set 5 = set 4\n  answer set 5\n";
     for (query, text) in [
         ("query p: a => q: a\n", call),
         ("query q: a => p: a\n", "query 1: unreachable\n"),
@@ -275,8 +280,14 @@ fn listings(rt: HostRuntime) -> Result<(), Fail> {
         ),
     ] {
         let document = format!(in rt.alloc(); "{system}{query}")?;
-        let (ended, written) =
-            outcome(rt.alloc(), &["check"], document.as_bytes(), &[], 1000, &[])?;
+        let (ended, written) = outcome(
+            rt.alloc(),
+            &["check"],
+            document.as_bytes(),
+            &[],
+            1000,
+            &[],
+        )?;
         assert_eq!(rt; ended, Status::Answered, "at {query}");
         assert_eq!(rt; written.as_slice(), text.as_bytes(), "at {query}");
     }
