@@ -11,4 +11,4 @@ rising (suc (suc j)) (suc (suc zero)) h w = absurd (omega arith)
 rising j (suc (suc (suc k))) h w = absurd (omega arith)
 
 pub rename-requires-clause-rises : goal.rename-requires-clause-rises
-rename-requires-clause-rises c = rising
+rename-requires-clause-rises g c = rising
