@@ -8,6 +8,11 @@ fn value_on(d: &Diagram, row: [bool; 3]) -> bool {
     d.has_variables_below(3) && d.value(&row)
 }
 
+// The value on picked bits, false where they are too few.
+fn true_on(d: &Diagram, bits: &[bool]) -> bool {
+    d.has_variables_below(bits.len() as u64) && d.value(bits)
+}
+
 const fn row(k: u8) -> [bool; 3] {
     [k & 4 != 0, k & 2 != 0, k & 1 != 0]
 }
@@ -30,7 +35,7 @@ fn table_202(rt: HostRuntime) -> Result<(), Fail> {
     assert!(rt; restricted.same(&second));
     assert!(rt; choice.has_variables_below(3));
     match pick(alloc, &choice, 3)? {
-        Some(bits) => assert!(rt; choice.value(bits.as_slice())),
+        Some(bits) => assert!(rt; true_on(&choice, bits.as_slice())),
         None => assert!(rt; false),
     }
     Ok(())
@@ -113,7 +118,7 @@ fn other_operations(rt: HostRuntime) -> Result<(), Fail> {
         }
         if d.has_variables_below(3) {
             match pick(alloc, &d, 3)? {
-                Some(bits) => assert!(rt; t != 0 && d.value(bits.as_slice())),
+                Some(bits) => assert!(rt; t != 0 && true_on(&d, bits.as_slice())),
                 None => assert_eq!(rt; t, 0),
             }
         }

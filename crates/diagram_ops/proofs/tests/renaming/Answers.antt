@@ -10,5 +10,5 @@ rising (suc zero) (suc (suc zero)) h w = omega arith
 rising (suc (suc j)) (suc (suc zero)) h w = absurd (omega arith)
 rising j (suc (suc (suc k))) h w = absurd (omega arith)
 
-pub rename-renamed-requires-clause-rises : goal.rename-renamed-requires-clause-rises
-rename-renamed-requires-clause-rises c = rising
+pub rename-requires-clause-rises : goal.rename-requires-clause-rises
+rename-requires-clause-rises g c = rising
