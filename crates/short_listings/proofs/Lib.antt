@@ -1,0 +1,3 @@
+pub mod OfParts
+pub mod OfShorter
+pub mod OfTight

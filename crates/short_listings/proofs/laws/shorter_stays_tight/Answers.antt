@@ -1,0 +1,5 @@
+use Rattle.short_listings.proofs.OfTight.{stays_tight}
+use Rattle.short_listings.proofs.laws.shorter_stays_tight.Goals as goal
+
+pub returns : goal.returns
+returns g c = λ semiring. stays_tight (g.S.Semiring.operations semiring)
