@@ -1,6 +1,7 @@
 ghost use Rattle.std.specs.Prelude.{◌≡◌, ◌<◌, IfOk};
 ghost use Rattle.pattern_openings.specs.PatternOpenings.{IsOver};
-ghost use Rattle.wpds_app.specs.Answering.{IsSaturatedFor, IsAnswer};
+ghost use Rattle.path_sum.specs.Answers.{listed_runs};
+ghost use Rattle.wpds_app.specs.Answering.{IsSaturatedFor, IsShorter, IsAnswer};
 
 use config_patterns::Pattern;
 use path_sum::{Answer, sum};
@@ -9,7 +10,9 @@ use prestar::{Pre, pre_opening};
 use pushdown_rules::System;
 use saturation_core::Book;
 use semiring_laws::Semiring;
+use short_listings::shorter;
 use std::alloc::Global;
+use witness_graph::Listing;
 use worker_pool::saturate_alone;
 use wpds_port::OutOfMemory;
 
@@ -26,8 +29,33 @@ fn saturated<'s, S: Semiring>(
     saturate_alone(alloc, opened)
 }
 
+// A listing made shorter, if there is one.
+fn made_short(alloc: Global, listing: Option<Listing>) -> Result<Option<Listing>, OutOfMemory>
+    ensures shorter { IfOk result (IsShorter listing) }
+    ensures runs { IfOk result (λ l. listed_runs l ≡ listed_runs listing) }
+{
+    match listing {
+        Some(listing) => {
+            let short = shorter(alloc, listing)?;
+            Ok(Some(short))
+        }
+        None => Ok(None),
+    }
+}
+
+// The answer with its listing made shorter.
+fn made_shorter<S: Semiring>(alloc: Global, answer: Answer<S>) -> Result<Answer<S>, OutOfMemory>
+    ensures value { IfOk result (λ a. a.value ≡ answer.value) }
+    ensures shorter { IfOk result (λ a. IsShorter answer.listing a.listing) }
+    ensures runs { IfOk result (λ a. listed_runs a.listing ≡ listed_runs answer.listing) }
+{
+    let Answer { value, listing } = answer;
+    let listing = made_short(alloc, listing)?;
+    Ok(Answer { value, listing })
+}
+
 /// The answer to the query for runs from a pattern to a pattern: backwards from the second, by one worker, and then the
-/// sum over the paths that read the first.
+/// sum over the paths that read the first, with a listing that is made shorter.
 pub(crate) fn answer<S: Semiring>(
     alloc: Global,
     system: &System<S>,
@@ -40,5 +68,6 @@ pub(crate) fn answer<S: Semiring>(
 {
     openings_read_members();
     let book = saturated(alloc, system, to)?;
-    sum(alloc, &book, from)
+    let whole = sum(alloc, &book, from)?;
+    made_shorter(alloc, whole)
 }

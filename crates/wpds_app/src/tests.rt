@@ -266,17 +266,15 @@ fn costs(rt: HostRuntime) -> Result<(), Fail> {
 fn listings(rt: HostRuntime) -> Result<(), Fail> {
     let system =
         "wpds 1\nweights cost 100\ncontrols p q\nsymbols a b\nrule p a -> p b a : 2\nrule p b -> q : 1\n";
-    // Set 0 is the empty run with which a sum begins, and set 2 that of the query's second configuration. Set 1 is the
-    // return, and set 3 the call: rule 1, the return, and nothing after it. Sets 4 and 5 read the first configuration.
+    // set 0 is the return, set 1 the empty run, and set 2 the call: rule 1, the return, and nothing after it
     let call =
-        "query 1: 3\n  set 0 = empty\n  set 1 = rule 2\n  set 2 = empty\n  set 3 = rule 1 then set 1 then set 2\n  set 4 = set 0 then set 3\n  set 5 = set 4\n  answer set 5\n";
+        "query 1: 3\n  set 0 = rule 2\n  set 1 = empty\n  set 2 = rule 1 then set 0 then set 1\n  answer set 2\n";
     for (query, text) in [
         ("query p: a => q: a\n", call),
         ("query q: a => p: a\n", "query 1: unreachable\n"),
-        // a sum over a pattern without symbols adds the empty run and the answer alone
         (
             "query p: => p:\n",
-            "query 1: 0\n  set 0 = empty\n  set 1 = set 0\n  answer set 1\n",
+            "query 1: 0\n  set 0 = empty\n  answer set 0\n",
         ),
     ] {
         let document = format!(in rt.alloc(); "{system}{query}")?;
