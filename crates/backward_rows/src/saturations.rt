@@ -95,6 +95,20 @@ fn saturates(alloc: Global, system: &System<Cost>, target: Target<'_>) -> Result
     Ok(are_closed && has_rows(&alone, rows) && has_rows(&in_turn, rows))
 }
 
+// Saturates for a target at q, by one seat and by two, and compares the transitions.
+fn reaches(
+    alloc: Global,
+    system: &System<Reach>,
+    items: Items<'_>,
+    places: &[Place],
+) -> Result<bool, Fail> {
+    let pattern = pattern_over(alloc, system, 1, items)?;
+    let mut alone = pre_opening(alloc, system, &pattern)?;
+    let mut in_turn = pre_opening(alloc, system, &pattern)?;
+    let are_closed = close_alone(alloc, &mut alone)? && close_in_turn(alloc, &mut in_turn)?;
+    Ok(are_closed && has_places(&alone, places) && has_places(&in_turn, places))
+}
+
 // For `q: a` the pop is met by the edge of the target, to state 2: 2 + 1, and then 0.
 #[test]
 fn a_call_returns(rt: HostRuntime) -> Result<(), Fail> {
@@ -153,16 +167,7 @@ fn a_pop_is_reached(rt: HostRuntime) -> Result<(), Fail> {
         label: Label::Symbol(0),
         to: 2,
     };
-    let targets: [(Items<'_>, &[Place]); 2] = [(&[A], &[edge, pop]), (&[], &[pop])];
-    for (items, places) in targets {
-        let pattern = pattern_over(alloc, &system, 1, items)?;
-        let mut alone = pre_opening(alloc, &system, &pattern)?;
-        let mut in_turn = pre_opening(alloc, &system, &pattern)?;
-        assert!(rt; close_alone(alloc, &mut alone)?);
-        assert!(rt; close_in_turn(alloc, &mut in_turn)?);
-        for book in [&alone, &in_turn] {
-            assert!(rt; has_places(book, places));
-        }
-    }
+    assert!(rt; reaches(alloc, &system, &[A], &[edge, pop])?);
+    assert!(rt; reaches(alloc, &system, &[], &[pop])?);
     Ok(())
 }
