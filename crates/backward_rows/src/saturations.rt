@@ -1,0 +1,173 @@
+use crate::patterns::{A, C, Items, pattern_over};
+use crate::seats::{close_alone, close_in_turn};
+use cost_weights::Cost;
+use prestar::pre_opening;
+use pushdown_rules::{RuleFault, System};
+use saturation_core::{Book, Direction};
+use semiring_laws::{Reach, Semiring};
+use std::alloc::Global;
+use std::test::Fail;
+use weighted_automata::{Entry, Label, Place};
+
+// A transition from a state over a symbol to a state, and its weight.
+type Row = (u32, u32, u32, u64);
+
+// A target by its control and its items, and the transitions of its saturation.
+type Target<'a> = (u32, Items<'a>, &'a [Row]);
+
+// Controls p and q, symbols a and b: p a -> p b a at 2, and p b -> q at 1.
+fn calls(alloc: Global, cost: Cost) -> Result<System<Cost>, RuleFault> {
+    let mut system = System::new(alloc, cost, 2, 2);
+    system.add_rule(alloc, 0, 0, 0, &[1, 0], cost.number(2), None)?;
+    system.add_rule(alloc, 0, 1, 1, &[], cost.number(1), None)?;
+    Ok(system)
+}
+
+/// Control p, symbol a: p a -> p a a at 1, and p a -> p at 0.
+pub fn grows(alloc: Global, cost: Cost) -> Result<System<Cost>, RuleFault> {
+    let mut system = System::new(alloc, cost, 1, 1);
+    system.add_rule(alloc, 0, 0, 0, &[0, 0], cost.number(1), None)?;
+    system.add_rule(alloc, 0, 0, 0, &[], cost.number(0), None)?;
+    Ok(system)
+}
+
+// Control p, symbols a, b and c: p a -> p b at 3, and p b -> p c at 3.
+fn steps(alloc: Global, cost: Cost) -> Result<System<Cost>, RuleFault> {
+    let mut system = System::new(alloc, cost, 1, 3);
+    system.add_rule(alloc, 0, 0, 0, &[1], cost.number(3), None)?;
+    system.add_rule(alloc, 0, 1, 0, &[2], cost.number(3), None)?;
+    Ok(system)
+}
+
+// The transition at a place, if the book has one.
+fn entry_at<'b, S: Semiring, D: Direction<S>>(
+    book: &'b Book<'_, S, D>,
+    place: Place,
+) -> Option<&'b Entry<S>> {
+    let transitions = book.transitions();
+    match transitions.find(place) {
+        Some(k) if k < transitions.len() => Some(transitions.entry(k)),
+        _ => None,
+    }
+}
+
+// Whether the book has these transitions with these weights, and no others.
+fn has_rows<D: Direction<Cost>>(book: &Book<'_, Cost, D>, rows: &[Row]) -> bool {
+    if book.transitions().len() != rows.len() as u64 {
+        return false;
+    }
+    for (from, symbol, to, cost) in rows {
+        let place = Place {
+            from: *from,
+            label: Label::Symbol(*symbol),
+            to: *to,
+        };
+        let Some(entry) = entry_at(book, place) else {
+            return false;
+        };
+        if entry.weight != Some(*cost) {
+            return false;
+        }
+    }
+    true
+}
+
+// Whether the book has these transitions, each reached, and no others.
+fn has_places<D: Direction<Reach>>(book: &Book<'_, Reach, D>, places: &[Place]) -> bool {
+    if book.transitions().len() != places.len() as u64 {
+        return false;
+    }
+    for place in places {
+        if !entry_at(book, *place).is_some_and(|entry| entry.weight) {
+            return false;
+        }
+    }
+    true
+}
+
+// Saturates for a target, by one seat and by two, and compares the transitions.
+fn saturates(alloc: Global, system: &System<Cost>, target: Target<'_>) -> Result<bool, Fail> {
+    let (control, items, rows) = target;
+    let pattern = pattern_over(alloc, system, control, items)?;
+    let mut alone = pre_opening(alloc, system, &pattern)?;
+    let mut in_turn = pre_opening(alloc, system, &pattern)?;
+    let are_closed = close_alone(alloc, &mut alone)? && close_in_turn(alloc, &mut in_turn)?;
+    Ok(are_closed && has_rows(&alone, rows) && has_rows(&in_turn, rows))
+}
+
+// Saturates for a target at q, by one seat and by two, and compares the transitions.
+fn reaches(
+    alloc: Global,
+    system: &System<Reach>,
+    items: Items<'_>,
+    places: &[Place],
+) -> Result<bool, Fail> {
+    let pattern = pattern_over(alloc, system, 1, items)?;
+    let mut alone = pre_opening(alloc, system, &pattern)?;
+    let mut in_turn = pre_opening(alloc, system, &pattern)?;
+    let are_closed = close_alone(alloc, &mut alone)? && close_in_turn(alloc, &mut in_turn)?;
+    Ok(are_closed && has_places(&alone, places) && has_places(&in_turn, places))
+}
+
+// For `q: a` the pop is met by the edge of the target, to state 2: 2 + 1, and then 0.
+#[test]
+fn a_call_returns(rt: HostRuntime) -> Result<(), Fail> {
+    let alloc = rt.alloc();
+    let system = calls(alloc, Cost::new(100)?)?;
+    let rows: &[Row] = &[(1, 0, 2, 0), (0, 1, 1, 1), (0, 0, 2, 3)];
+    assert!(rt; saturates(alloc, &system, (1, &[A], rows))?);
+    Ok(())
+}
+
+// For `p: a a a`, by the states 1, 2 and 3, a second symbol costs one push, and a third two. For `p:` popping costs
+// nothing, and pushing first gains nothing.
+#[test]
+fn growth_costs(rt: HostRuntime) -> Result<(), Fail> {
+    let alloc = rt.alloc();
+    let system = grows(alloc, Cost::new(100)?)?;
+    let three: &[Row] = &[
+        (0, 0, 1, 0),
+        (1, 0, 2, 0),
+        (2, 0, 3, 0),
+        (0, 0, 0, 0),
+        (0, 0, 2, 1),
+        (0, 0, 3, 2),
+    ];
+    assert!(rt; saturates(alloc, &system, (0, &[A, A, A], three))?);
+    assert!(rt; saturates(alloc, &system, (0, &[], &[(0, 0, 0, 0)]))?);
+    Ok(())
+}
+
+// For `p: c` it is 3 from b, and 6 from a: 5 where the cap is 5.
+#[test]
+fn costs_are_cut(rt: HostRuntime) -> Result<(), Fail> {
+    let alloc = rt.alloc();
+    for (cap, cost) in [(5, 5u64), (100, 6)] {
+        let system = steps(alloc, Cost::new(cap)?)?;
+        let rows: &[Row] = &[(0, 2, 1, 0), (0, 1, 1, 3), (0, 0, 1, cost)];
+        assert!(rt; saturates(alloc, &system, (0, &[C], rows))?);
+    }
+    Ok(())
+}
+
+// p b -> q. For `q: a`, by state 2, nothing is found but the edge and the pop, so p a has no run there. For `q:` the pop
+// alone is found.
+#[test]
+fn a_pop_is_reached(rt: HostRuntime) -> Result<(), Fail> {
+    let alloc = rt.alloc();
+    let mut system = System::new(alloc, Reach, 2, 2);
+    system.add_rule(alloc, 0, 1, 1, &[], true, None)?;
+    let pop = Place {
+        from: 0,
+        label: Label::Symbol(1),
+        to: 1,
+    };
+    let edge = Place {
+        from: 1,
+        label: Label::Symbol(0),
+        to: 2,
+    };
+    assert!(rt; reaches(alloc, &system, &[A], &[edge, pop])?);
+    assert!(rt; reaches(alloc, &system, &[], &[pop])?);
+    Ok(())
+}
