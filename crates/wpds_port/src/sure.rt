@@ -57,7 +57,9 @@ pub struct SureSink;
 
 impl SureSink {
     /// A sink that takes whatever it is given.
-    pub fn new() -> SureSink {
+    pub fn new() -> SureSink
+        ensures { result ≡ record {} }
+    {
         SureSink
     }
 }

@@ -42,6 +42,7 @@ impl Text {
         self.bytes
     }
 
+    /// The bytes, as a slice.
     pub fn as_bytes(&self) -> &[u8]
         ensures { result.now ≡ self.now }
     {

@@ -142,6 +142,7 @@ impl TokenList {
         self.tokens
     }
 
+    /// The tokens, as a slice.
     pub fn as_slice(&self) -> &[Token]
         ensures { result.now ≡ self.now }
     {
