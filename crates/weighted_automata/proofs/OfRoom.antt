@@ -1,5 +1,5 @@
 -- Lists of places, and what waits.
-use Rattle.std.proofs.Common.{suc, ◌≡◌, ℕ, ◌+◌, ◌<◌, ◌≤◌, true, false, List, [], ◌∷◌, ◌++◌, length, get_or, take, drop, map, refl, sym, ap, ◌∙◌, arith}
+use Rattle.std.proofs.Common.{zero, suc, ◌≡◌, ℕ, ◌+◌, ◌<◌, ◌≤◌, true, false, List, [], ◌∷◌, ◌++◌, length, get_or, take, drop, map, refl, sym, ap, ◌∙◌, arith}
 use Rattle.std.specs.Prelude.{Option, None, Some, cond, option_map, ◌||◌, ◌⊎◌, is_some, Result, Ok, Err, OnErr}
 use Rattle.std.proofs.Common.{inl, inr}
 use Rattle.std.proofs.lemmas.Bool.{cond-true, cond-false, cond_both, cases_Bool}
@@ -140,6 +140,59 @@ module _ {S W Map : Type 0} (x : Place) (w : W) (n : ℕ) where
         | inr waits ↦ or_right (has_place z (places_of (lowered x w n ts))) (has_place z waiting) waits
       ]
 
+  -- and no other place has room
+  pub lowered_only : (z : Place) (ts : List (Entry S W Map)) → has_place z (places_of (lowered x w n ts)) ≡ true → has_place z (x ∷ places_of ts) ≡ true
+  lowered_only z [] = λ e. e
+  lowered_only z (t ∷ ts) =
+      cond_both (same_place t.place x) (record { place = x; weight = w; node = n } ∷ ts) (t ∷ lowered x w n ts) (λ us. has_place z (places_of us) ≡ true → has_place z (x ∷ places_of (t ∷ ts)) ≡ true)
+      (λ is e. elim (or_cases (same_place x z) (has_place z (places_of ts)) e) [
+        | inl here ↦ or_left (same_place x z) (has_place z (places_of (t ∷ ts))) here
+        | inr there ↦ or_right (same_place x z) (has_place z (places_of (t ∷ ts))) (or_right (same_place t.place z) (has_place z (places_of ts)) there)
+      ])
+      (λ differs e. elim (or_cases (same_place t.place z) (has_place z (places_of (lowered x w n ts))) e) [
+        | inl here ↦ or_right (same_place x z) (has_place z (places_of (t ∷ ts))) (or_left (same_place t.place z) (has_place z (places_of ts)) here)
+        | inr there ↦ elim (or_cases (same_place x z) (has_place z (places_of ts)) (lowered_only z ts there)) [
+          | inl is ↦ or_left (same_place x z) (has_place z (places_of (t ∷ ts))) is
+          | inr before ↦ or_right (same_place x z) (has_place z (places_of (t ∷ ts))) (or_right (same_place t.place z) (has_place z (places_of ts)) before)
+        ]
+      ])
+
+  pub room_only : (z : Place) (ts : List (Entry S W Map)) (waiting left : List Place) → (has_place z left ≡ true → has_place z waiting ≡ true)
+      → has_place z (places_of (lowered x w n ts) ++ left) ≡ true → has_place z (x ∷ (places_of ts ++ waiting)) ≡ true
+  room_only z ts waiting left waited e =
+      let all : has_place z (places_of ts ++ waiting) ≡ (has_place z (places_of ts) || has_place z waiting) = has_place-append z (places_of ts) waiting in
+      elim (or_cases (has_place z (places_of (lowered x w n ts))) (has_place z left) (sym (has_place-append z (places_of (lowered x w n ts)) left) ∙ e)) [
+        | inl there ↦ elim (or_cases (same_place x z) (has_place z (places_of ts)) (lowered_only z ts there)) [
+          | inl is ↦ or_left (same_place x z) (has_place z (places_of ts ++ waiting)) is
+          | inr before ↦ or_right (same_place x z) (has_place z (places_of ts ++ waiting)) (all ∙ or_left (has_place z (places_of ts)) (has_place z waiting) before)
+        ]
+        | inr waits ↦ or_right (same_place x z) (has_place z (places_of ts ++ waiting)) (all ∙ or_right (has_place z (places_of ts)) (has_place z waiting) (waited waits))
+      ]
+
+pub without_only : (x z : Place) (ys : List Place) → has_place z (without x ys) ≡ true → has_place z ys ≡ true
+without_only x z [] = λ e. e
+without_only x z (y ∷ ys) =
+    cond_both (same_place y x) ys (y ∷ without x ys) (λ zs. has_place z zs ≡ true → has_place z (y ∷ ys) ≡ true)
+    (λ _ e. or_right (same_place y z) (has_place z ys) e)
+    (λ _ e. elim (or_cases (same_place y z) (has_place z (without x ys)) e) [
+      | inl here ↦ or_left (same_place y z) (has_place z ys) here
+      | inr there ↦ or_right (same_place y z) (has_place z ys) (without_only x z ys there)
+    ])
+
+-- the place at an index is one of the list
+has_place-at : (z : Place) (xs : List Place) (i : ℕ) (d : Place) → i < length xs → same_place (get_or xs i d) z ≡ true → has_place z xs ≡ true
+has_place-at z [] i d within e = absurd (omega arith)
+has_place-at z (x ∷ xs) zero d within e = or_left (same_place x z) (has_place z xs) e
+has_place-at z (x ∷ xs) (suc i) d within e = or_right (same_place x z) (has_place z xs) (has_place-at z xs i d (omega arith) e)
+
+-- what has room once the place at an index has it: one of the list, or what had room
+pub made_only : (z : Place) (xs now before : List Place) (i : ℕ) (d : Place) → i < length xs → (has_place z now ≡ true → has_place z (xs ++ before) ≡ true)
+    → has_place z (get_or xs i d ∷ now) ≡ true → has_place z (xs ++ before) ≡ true
+made_only z xs now before i d within so e = elim (or_cases (same_place (get_or xs i d) z) (has_place z now) e) [
+  | inl here ↦ has_place-append z xs before ∙ or_left (has_place z xs) (has_place z before) (has_place-at z xs i d within here)
+  | inr there ↦ so there
+]
+
 -- what is there has room, and what waits
 pub found_has : {S W Map : Type 0} (x : Place) (ts : List (Entry S W Map)) (k : ℕ) → index_where (λ (t : Entry S W Map). same_place t.place x) ts ≡ Some k → has_place x (places_of ts) ≡ true
 found_has x [] k e = cc
@@ -173,6 +226,15 @@ module _ (places waiting : List Place) (x : Place) where
 
   pub room_more : (z : Place) → has_place z (places ++ waiting) ≡ true → has_place z (places ++ (waiting ++ x ∷ [])) ≡ true
   room_more z e = one_more z ∙ or_left (has_place z (places ++ waiting)) (same_place x z || false) e
+
+  pub room_no_more : (z : Place) → has_place z (places ++ (waiting ++ x ∷ [])) ≡ true → has_place z (x ∷ (places ++ waiting)) ≡ true
+  room_no_more z e = elim (or_cases (has_place z (places ++ waiting)) (same_place x z || false) (sym (one_more z) ∙ e)) [
+    | inl before ↦ or_right (same_place x z) (has_place z (places ++ waiting)) before
+    | inr here ↦ elim (or_cases (same_place x z) false here) [
+      | inl is ↦ or_left (same_place x z) (has_place z (places ++ waiting)) is
+      | inr f ↦ cc
+    ]
+  ]
 
 -- the first places of a list, and one more
 pub has_place-take_more : (z : Place) (xs : List Place) (i : ℕ) (d : Place) → i < length xs
