@@ -8,3 +8,5 @@ pub mod OfRenaming
 pub mod OfTables
 pub mod OfPicking
 pub mod OfQuantifying
+pub mod OfComposing
+pub mod OfRelations

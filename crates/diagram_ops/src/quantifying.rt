@@ -6,7 +6,7 @@ ghost use Rattle.diagram_ops.specs.Images.{IsImage, IsQuantified, IsTrueOnSome};
 ghost use Rattle.diagram_ops.specs.Scratch.{Keeps, Stands};
 ghost use Rattle.diagram_ops.specs.Tables.{known};
 
-use crate::applying::apply;
+use crate::applying::{OR, apply};
 use crate::copying::copied_out;
 use crate::loading::{first_places, place_at};
 use crate::scratch::Scratch;
@@ -15,9 +15,6 @@ use bumpalo::Bump;
 use diagram_store::{Branch, Diagram};
 use std::alloc::Global;
 use wpds_port::OutOfMemory;
-
-// The table of three places that is the first or the second, whatever the third.
-const OR: u8 = 252;
 
 /// The diagram that is true on exactly those bits for which `a` is true on some bits that differ from them
 /// in `vars` at most.
