@@ -70,12 +70,12 @@ module _ (nodes : List Branch) (all : IsReduced nodes) (results joins : ℕ → 
       stands = record {
         within = omega arith;
         means = λ bits. (
-            λ yes. let f : false ≡ true = sym (false_constant nodes 0 bits refl) ∙ yes in cc,
-            λ o. elim one [
-              | inl e ↦ let f : false ≡ true = sym (false_constant nodes x (λ v. o.0 (position First v)) e) ∙ o.2 in cc
-              | inr e ↦ let f : false ≡ true = sym (false_constant nodes y (λ v. o.0 (position Second v)) e) ∙ o.3 in cc
-            ],
-          );
+          λ yes. let f : false ≡ true = sym (false_constant nodes 0 bits refl) ∙ yes in cc,
+          λ o. elim one [
+            | inl e ↦ let f : false ≡ true = sym (false_constant nodes x (λ v. o.0 (position First v)) e) ∙ o.2 in cc
+            | inr e ↦ let f : false ≡ true = sym (false_constant nodes y (λ v. o.0 (position Second v)) e) ∙ o.3 in cc
+          ],
+        );
         above = λ v b n e. cc;
       };
     };
@@ -104,11 +104,11 @@ module _ (nodes : List Branch) (all : IsReduced nodes) (results joins : ℕ → 
             means = λ bits.
                 let spread : ℕ → Bool = λ p. bits (p / 2) in (
                   λ yes. (
-                      spread,
-                      λ v. let is : 2 * v / 2 ≡ v = omega arith in ap bits is,
-                      value_at_end nodes x (λ v. spread (position First v)) ex ∙ eq-eqb x 1 ix,
-                      value_at_end nodes y (λ v. spread (position Second v)) ey ∙ eq-eqb y 1 iy,
-                    ),
+                    spread,
+                    λ v. let is : 2 * v / 2 ≡ v = omega arith in ap bits is,
+                    value_at_end nodes x (λ v. spread (position First v)) ex ∙ eq-eqb x 1 ix,
+                    value_at_end nodes y (λ v. spread (position Second v)) ey ∙ eq-eqb y 1 iy,
+                  ),
                   λ o. value_at_end nodes 1 bits refl,
                 );
             above = λ v b n f. cc;

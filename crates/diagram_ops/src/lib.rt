@@ -21,4 +21,6 @@ pub use renaming::rename;
 pub use restricting::restrict;
 
 #[cfg(test)]
+mod table_tests;
+#[cfg(test)]
 mod tests;

@@ -22,20 +22,20 @@ returns-in-Some-get t c =
 pub compose-requires-2 : goal.compose-requires-2
 compose-requires-2 t c = (
   subst (λ (m : ℕ). c.branches-xs.result.1 + c.branches-ys.result.1 < m) c.decreases (branches_fall c.args.scratch.now c.lowest.ensures.reduced c.args.x c.args.y c.in-Some.place c.requires.x c.requires.y
-    (lowest_place c.args.scratch.now c.args.x c.args.y c.in-Some.place (sym c.lowest.ensures.lowest ∙ c.in-Some.is))
-    true c.branches-xs.result.1 c.branches-ys.result.1 (record { first = c.branches-xs.ensures.high; second = c.branches-ys.ensures.high })),
+      (lowest_place c.args.scratch.now c.args.x c.args.y c.in-Some.place (sym c.lowest.ensures.lowest ∙ c.in-Some.is))
+      true c.branches-xs.result.1 c.branches-ys.result.1 (record { first = c.branches-xs.ensures.high; second = c.branches-ys.ensures.high })),
   (
     c.in_ok-low.ensures.reduced,
     (
-    first_within c.args.scratch.now c.lowest.ensures.reduced c.args.x c.args.y c.in-Some.place c.requires.x c.requires.y
-    (lowest_place c.args.scratch.now c.args.x c.args.y c.in-Some.place (sym c.lowest.ensures.lowest ∙ c.in-Some.is))
-    c.compose.new.scratch c.in_ok-low.ensures.keeps true c.branches-xs.result.1 c.branches-xs.ensures.high,
-    (
-      second_within c.args.scratch.now c.lowest.ensures.reduced c.args.x c.args.y c.in-Some.place c.requires.x c.requires.y
-    (lowest_place c.args.scratch.now c.args.x c.args.y c.in-Some.place (sym c.lowest.ensures.lowest ∙ c.in-Some.is))
-      c.compose.new.scratch c.in_ok-low.ensures.keeps true c.branches-ys.result.1 c.branches-ys.ensures.high,
-      (c.in_ok-low.ensures.known, c.in_ok-low.ensures.applied),
-    ),
+      first_within c.args.scratch.now c.lowest.ensures.reduced c.args.x c.args.y c.in-Some.place c.requires.x c.requires.y
+          (lowest_place c.args.scratch.now c.args.x c.args.y c.in-Some.place (sym c.lowest.ensures.lowest ∙ c.in-Some.is))
+          c.compose.new.scratch c.in_ok-low.ensures.keeps true c.branches-xs.result.1 c.branches-xs.ensures.high,
+      (
+        second_within c.args.scratch.now c.lowest.ensures.reduced c.args.x c.args.y c.in-Some.place c.requires.x c.requires.y
+            (lowest_place c.args.scratch.now c.args.x c.args.y c.in-Some.place (sym c.lowest.ensures.lowest ∙ c.in-Some.is))
+            c.compose.new.scratch c.in_ok-low.ensures.keeps true c.branches-ys.result.1 c.branches-ys.ensures.high,
+        (c.in_ok-low.ensures.known, c.in_ok-low.ensures.applied),
+      ),
     ),
   ),
 )
