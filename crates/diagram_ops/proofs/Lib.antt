@@ -10,3 +10,4 @@ pub mod OfPicking
 pub mod OfQuantifying
 pub mod OfComposing
 pub mod OfRelations
+pub mod OfVariables

@@ -13,10 +13,10 @@ use Rattle.diagram_ops.specs.Composing.{position, placed_value, IsTrueBetween, I
 apart : (k m : ℕ) → (k ≡ m → ⊥) → nat_eq k m ≡ false
 apart k m h = false_from_ne_true (nat_eq k m) (λ e. h (eqb-true k m e))
 
-old_value : (old new : ℕ → Bool) (v : ℕ) → v % 2 ≡ 0 → of_states old new v ≡ old (v / 2)
+pub old_value : (old new : ℕ → Bool) (v : ℕ) → v % 2 ≡ 0 → of_states old new v ≡ old (v / 2)
 old_value old new v e = cond-true (nat_eq (v % 2) 0) (old (v / 2)) (new (v / 2)) (eq-eqb (v % 2) 0 e)
 
-new_value : (old new : ℕ → Bool) (v : ℕ) → (v % 2 ≡ 0 → ⊥) → of_states old new v ≡ new (v / 2)
+pub new_value : (old new : ℕ → Bool) (v : ℕ) → (v % 2 ≡ 0 → ⊥) → of_states old new v ≡ new (v / 2)
 new_value old new v e = cond-false (nat_eq (v % 2) 0) (old (v / 2)) (new (v / 2)) (apart (v % 2) 0 e)
 
 -- bits at places by three states
@@ -41,7 +41,7 @@ module _ (old middle new all : ℕ → Bool) (stays : (v : ℕ) → all (2 * v) 
         ap all is ∙ stays v ∙ new_value old new v odd ∙ sym (new_value middle new v odd)
   ]
 
-same_bits : (nodes : List Branch) → IsReduced nodes → (r : ℕ) (bits other : ℕ → Bool) → ((v : ℕ) → bits v ≡ other v) → value_at nodes r bits ≡ value_at nodes r other
+pub same_bits : (nodes : List Branch) → IsReduced nodes → (r : ℕ) (bits other : ℕ → Bool) → ((v : ℕ) → bits v ≡ other v) → value_at nodes r bits ≡ value_at nodes r other
 same_bits nodes all r bits other same = value_agrees nodes all bits other (λ s. s ≡ s) (λ s n e i. (same n.var, refl, refl)) r r (omega arith) refl
 
 -- each place by three states

@@ -31,8 +31,9 @@ pub fn compose_relations(
 ) -> Result<Diagram, OutOfMemory>
     requires first { HasVariablesBelow (2 * n) a.now.nodes }
     requires second { HasVariablesBelow (2 * n) b.now.nodes }
-    ensures { IfOk result (λ d. (old new : ℕ → Bool) → IsTrue (relates d.nodes d.root old new)
+    ensures relates { IfOk result (λ d. (old new : ℕ → Bool) → IsTrue (relates d.nodes d.root old new)
         ↔ ((middle : ℕ → Bool) × IsTrue (relates a.now.nodes a.now.root old middle) × IsTrue (relates b.now.nodes b.now.root middle new))) }
+    ensures variables { IfOk result (λ d. HasVariablesBelow (2 * n) d.nodes) }
 {
     let arena = Bump::new(alloc);
     let mut scratch = Scratch::new(alloc, &arena);

@@ -1,6 +1,6 @@
 ghost use Rattle.std.specs.Prelude.{◌≡◌, ◌↔◌, ◌+◌, ◌<◌, ℕ, Bool, IsTrue, IfOk, length};
 ghost use Rattle.diagram_store.specs.Meaning.{value_at};
-ghost use Rattle.diagram_store.specs.Nodes.{IsReduced, IsAbove};
+ghost use Rattle.diagram_store.specs.Nodes.{IsReduced, IsAbove, HasVariablesBelow};
 ghost use Rattle.diagram_ops.specs.Applying.{AreApplied};
 ghost use Rattle.diagram_ops.specs.Images.{IsImage, IsQuantified, IsTrueOnSome};
 ghost use Rattle.diagram_ops.specs.Scratch.{Keeps, Stands};
@@ -21,7 +21,8 @@ use wpds_port::OutOfMemory;
 ///
 /// It is one pass: a node of a variable of `vars` becomes the disjunction of its branches.
 pub fn exists(alloc: Global, a: &Diagram, vars: &[u32]) -> Result<Diagram, OutOfMemory>
-    ensures { IfOk result (λ d. (bits : ℕ → Bool) → IsTrue (value_at d.nodes d.root bits) ↔ IsTrueOnSome a.now.nodes vars.now a.now.root bits) }
+    ensures value { IfOk result (λ d. (bits : ℕ → Bool) → IsTrue (value_at d.nodes d.root bits) ↔ IsTrueOnSome a.now.nodes vars.now a.now.root bits) }
+    ensures variables { IfOk result (λ d. (limit : ℕ) → HasVariablesBelow limit a.now.nodes → HasVariablesBelow limit d.nodes) }
 {
     let arena = Bump::new(alloc);
     let mut scratch = Scratch::new(alloc, &arena);
