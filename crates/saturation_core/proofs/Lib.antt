@@ -22,3 +22,4 @@ pub mod Planning
 pub mod LowerSteps
 pub mod Settles
 pub mod OfAll
+pub mod WorkedRows

@@ -6,6 +6,7 @@ ghost use Rattle.saturation_core.specs.Bound.{takes, takes_of};
 ghost use Rattle.saturation_core.specs.Books.{IsBook, Makes, IsClosed, AnswersTake, HandWorks};
 ghost use Rattle.saturation_core.specs.Settled.{IsWorkedBy, CanSettle};
 
+use crate::copies::copy_jobs;
 use crate::hands::{none_out, place_out, put, seats_out};
 use crate::journal::{count_takes, count_takes_of};
 use crate::lower::{lower_all, make_room};
@@ -197,8 +198,8 @@ impl<'s, S: Semiring, D: Direction<S>> Book<'s, S, D> {
             None => Ok(Taken::Idle(seats_out(&self.out))),
             Some(place) => {
                 let (direction, system) = (&self.direction, self.system);
-                let kept = list_jobs(direction, alloc, system, &self.transitions, place)?;
                 let jobs = list_jobs(direction, alloc, system, &self.transitions, place)?;
+                let kept = copy_jobs(system.semiring(), alloc, jobs.as_slice())?;
                 // For this event, and for one more of each hand.
                 self.journal.reserve(65)?;
                 self.waiting.pop_front();

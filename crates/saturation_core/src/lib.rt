@@ -4,6 +4,7 @@
 
 mod book;
 mod change;
+mod copies;
 mod direction;
 mod event;
 #[cfg(test)]
@@ -24,6 +25,8 @@ mod tests;
 mod work;
 
 pub use book::Book;
+pub use change::{node_now, queue_up, weight_after, weight_now};
+pub use copies::copy_input;
 pub use direction::Direction;
 pub use event::Event;
 pub use hand::{Done, Hand, Holding, Lowered, SeatSet, SettleFault, Taken, WeightList, WorkFault};

@@ -1,13 +1,15 @@
 use Rattle.std.proofs.Common.{◌≡◌, ◌<◌, sym, ap, ◌∙◌, subst, length, List, ◌++◌, ◌∷◌, [], arith}
+use Rattle.std.specs.Prelude.{All}
 use Rattle.std.specs.VecDeque.{deque_len}
 use Rattle.weighted_automata.specs.Entries.{entry_at}
 use Rattle.saturation_core.specs.declared.event.Event.TheVariants.{Take}
 use Rattle.saturation_core.specs.declared.job.Job.{Job}
 use Rattle.saturation_core.specs.declared.hand.Hand.{Hand}
+use Rattle.saturation_core.specs.Jobs.{InputsFit}
 use Rattle.saturation_core.specs.States.{hand_at, jobs_at}
 use Rattle.saturation_core.specs.Books.{BookValue, Makes, CanWork}
 use Rattle.saturation_core.specs.Seen.{seen}
-use Rattle.saturation_core.proofs.Kept.{book_fits, event_keeps, taken_works}
+use Rattle.saturation_core.proofs.Kept.{book_fits, book_lists, event_keeps, taken_works}
 use Rattle.saturation_core.proofs.Made.{after, taken}
 use Rattle.saturation_core.proofs.OfHands.{hands_out-seats, hands_out-set, popped}
 use Rattle.saturation_core.proofs.book.Book.take.Goals as goal
@@ -24,7 +26,7 @@ made g c =
     (ap (λ b. hand_at c.args.seat b.state.hands) c.self.view_is ∙ c.requires.free)
     (c.in-Some.ensures ∙ ap (λ q. c.in-Some.place ∷ q) (sym c.pop_front.ensures.rest))
     c.in_ok-kept-in-Some.kept
-    c.in_ok-kept-in-Some.ensures
+    (c.in_ok-kept-in-Some.ensures ∙ c.as_slice.ensures ∙ c.in_ok-jobs-in-Some.ensures)
     c.put.ensures
     (c.push_reserved.ensures.items ∙ ap (λ es. es ++ Take c.args.seat c.in-Some.place ∷ []) c.in_ok-reserve-in-Some.ensures.items)
 
@@ -61,10 +63,13 @@ list_jobs-requires-clause-weights g c =
     book_fits g.S.Semiring.operations g.S.Semiring.laws g.D.Direction.tables g.D.Direction.fits_opening g.D.Direction.places g.D.Direction.runs g.met.D.Direction.laws
     (seen c.self.inside) c.self.invariant.0
 
-pub list_jobs-requires-in-Some-clause-weights : goal.list_jobs-requires-in-Some-clause-weights
-list_jobs-requires-in-Some-clause-weights g c =
-    book_fits g.S.Semiring.operations g.S.Semiring.laws g.D.Direction.tables g.D.Direction.fits_opening g.D.Direction.places g.D.Direction.runs g.met.D.Direction.laws
-    (seen c.self.inside) c.self.invariant.0
+pub copy_jobs-requires : goal.copy_jobs-requires
+copy_jobs-requires g c =
+    let P : List (Job g.row.S.Denot g.row.S-W.Denot g.row.S-Ret.Denot) → g.row.S.Denot → Type 0 = λ js x. All (InputsFit (g.S.Semiring.operations x)) js in
+    let b = seen c.self.inside in
+    let fit = book_lists g.S.Semiring.operations g.S.Semiring.laws g.D.Direction.tables g.D.Direction.fits_opening g.D.Direction.places g.D.Direction.runs g.met.D.Direction.laws
+    b c.self.invariant.0 c.in-Some.place in
+    subst (λ x. P c.as_slice.result.now x) (sym c.semiring.ensures.value) (subst (λ js. P js b.system.semiring) (sym (c.as_slice.ensures ∙ c.in_ok-jobs-in-Some.ensures)) fit)
 
 pub returns-in_ok-reserve-in-Some-clause-works : goal.returns-in_ok-reserve-in-Some-clause-works
 returns-in_ok-reserve-in-Some-clause-works g c =
@@ -74,4 +79,4 @@ returns-in_ok-reserve-in-Some-clause-works g c =
     (taken_works g.S.Semiring.operations g.S.Semiring.laws g.D.Direction.tables g.D.Direction.fits_opening g.D.Direction.places g.D.Direction.runs g.met.D.Direction.laws
     (seen c.self.inside) c.self.invariant.0 c.args.seat c.in-Some.place c.pop_front.new.self.items c.put.new.out.items c.push_reserved.new.self.items
     (made g c) (omega (arith, seats, seat)) c.in_ok-kept-in-Some.kept c.in_ok-jobs-in-Some.jobs c.put.ensures
-    (c.in_ok-jobs-in-Some.ensures ∙ sym c.in_ok-kept-in-Some.ensures))
+    (sym (c.in_ok-kept-in-Some.ensures ∙ c.as_slice.ensures)))

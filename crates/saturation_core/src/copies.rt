@@ -1,0 +1,72 @@
+ghost use Rattle.std.specs.Prelude.{◌≡◌, All, IfOk, IfSome};
+ghost use Rattle.semiring_laws.specs.Semiring.{Fits};
+ghost use Rattle.saturation_core.specs.Jobs.{InputsFit};
+
+use crate::{Input, Job, JobList};
+use semiring_laws::Semiring;
+use std::alloc::Global;
+use weighted_automata::Entry;
+use wpds_port::OutOfMemory;
+
+/// A copy of an input.
+pub fn copy_input<S: Semiring>(
+    semiring: &S,
+    alloc: Global,
+    input: &Input<S>,
+) -> Result<Input<S>, OutOfMemory>
+    requires { Fits (S.operations semiring.now) input.now.weight }
+    ensures { IfOk result (λ copy. copy ≡ input.now) }
+{
+    let weight = semiring.copy(alloc, &input.weight)?;
+    Ok(Entry {
+        place: input.place,
+        weight,
+        node: input.node,
+    })
+}
+
+// The same of an input that may be missing.
+fn copy_if_there<S: Semiring>(
+    semiring: &S,
+    alloc: Global,
+    input: &Option<Input<S>>,
+) -> Result<Option<Input<S>>, OutOfMemory>
+    requires { IfSome input.now (λ t. Fits (S.operations semiring.now) t.weight) }
+    ensures { IfOk result (λ copy. copy ≡ input.now) }
+{
+    match input {
+        Some(input) => Ok(Some(copy_input(semiring, alloc, input)?)),
+        None => Ok(None),
+    }
+}
+
+// A copy of a job.
+fn copy_job<S: Semiring>(semiring: &S, alloc: Global, job: &Job<S>) -> Result<Job<S>, OutOfMemory>
+    requires { InputsFit (S.operations semiring.now) job.now }
+    ensures { IfOk result (λ copy. copy ≡ job.now) }
+{
+    Ok(Job {
+        kind: job.kind,
+        rule: job.rule,
+        frame: job.frame,
+        first: copy_if_there(semiring, alloc, &job.first)?,
+        second: copy_if_there(semiring, alloc, &job.second)?,
+        goal: job.goal,
+    })
+}
+
+/// A copy of each job, in order.
+pub fn copy_jobs<S: Semiring>(
+    semiring: &S,
+    alloc: Global,
+    jobs: &[Job<S>],
+) -> Result<JobList<S>, OutOfMemory>
+    requires { All (InputsFit (S.operations semiring.now)) jobs.now }
+    ensures { IfOk result (λ copies. copies ≡ jobs.now) }
+{
+    let mut copies = Vec::new(alloc);
+    for job in jobs {
+        copies.push(copy_job(semiring, alloc, job)?)?;
+    }
+    Ok(JobList::new(copies))
+}
