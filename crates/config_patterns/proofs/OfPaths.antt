@@ -2,13 +2,12 @@
 use Rattle.std.proofs.Common.{◌≡◌, inl, inr, ℕ, Bool, true, false, List, [], ◌∷◌, refl, sym, ap, ap₂, ◌∙◌, subst}
 use Rattle.std.specs.Prelude.{◌↔◌, ◌||◌, ◌&&◌, nat_eq, IsTrue}
 use Rattle.std.specs.List.{list_any}
-use Rattle.std.proofs.lemmas.Bool.{eq-eqb, eqb-true, false≢true}
+use Rattle.std.proofs.lemmas.Bool.{and_parts, eq-eqb, eqb-true, false≢true}
 use Rattle.config_patterns.specs.declared.item.Item.{Item}
 use Rattle.config_patterns.specs.declared.edge.Edge.{Edge}
 use Rattle.config_patterns.specs.Membership.{items_match}
 use Rattle.config_patterns.specs.Edges.{edges_of, is_final_of}
 use Rattle.config_patterns.specs.Paths.{IsIn, Reads, IsRead}
-use Rattle.config_patterns.proofs.OfTests.{left_of, right_of}
 use Rattle.config_patterns.proofs.OfMembers.{state_matches, state_goes, state_ends}
 
 -- An edge that passes a test.
@@ -49,10 +48,10 @@ module _ (items : List Item) where
       let test = λ (e : Edge). nat_eq e.from k && (nat_eq e.symbol g && state_matches items e.to word) in
       let found = passing test (edges_of items) (state_goes items k g word ∙ h) in
       let e = found.edge in
-      let from : e.from ≡ k = eqb-true e.from k (left_of _ _ found.passes) in
-      let rest : (nat_eq e.symbol g && state_matches items e.to word) ≡ true = right_of (nat_eq e.from k) _ found.passes in
-      let symbol : e.symbol ≡ g = eqb-true e.symbol g (left_of _ _ rest) in
-      let on = accepts word e.to (right_of (nat_eq e.symbol g) _ rest) in
+      let from : e.from ≡ k = eqb-true e.from k (and_parts _ _ found.passes).0 in
+      let rest : (nat_eq e.symbol g && state_matches items e.to word) ≡ true = (and_parts (nat_eq e.from k) _ found.passes).1 in
+      let symbol : e.symbol ≡ g = eqb-true e.symbol g (and_parts _ _ rest).0 in
+      let on = accepts word e.to (and_parts (nat_eq e.symbol g) _ rest).1 in
       let same : e ≡ record { from = k; symbol = g; to = e.to } = ap₂ (λ n h. let d : Edge = record { from = n; symbol = h; to = e.to } in d) from symbol in
       let P : Edge → Type 0 = λ d. IsIn d (edges_of items) in
       record { to = on.to; path = (e.to, subst P same found.there, on.path); final = on.final }

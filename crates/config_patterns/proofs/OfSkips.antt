@@ -1,13 +1,12 @@
 -- Which edges there are.
 use Rattle.std.proofs.Common.{◌≡◌, ◌⊎◌, inl, inr, ℕ, zero, suc, ◌+◌, Bool, true, false, List, [], ◌∷◌, ◌++◌, drop, refl, sym, ap, ap₂, ◌∙◌, subst, arith}
 use Rattle.std.specs.Prelude.{◌↔◌, ◌||◌, ◌&&◌, nat_eq, if◌then◌else◌}
-use Rattle.std.proofs.lemmas.Bool.{eq-eqb, eqb-true, false≢true}
+use Rattle.std.proofs.lemmas.Bool.{and_parts, eq-eqb, eqb-true, or_left, or_right, false≢true}
 use Rattle.config_patterns.specs.declared.item.Item.{Item}
 use Rattle.config_patterns.specs.declared.edge.Edge.{Edge}
 use Rattle.config_patterns.specs.Membership.{has_symbol}
 use Rattle.config_patterns.specs.Edges.{edges_into, edges_on, edges_back, edges_from, edges_of, leads_to, stays_on}
 use Rattle.config_patterns.specs.Paths.{IsIn, IsEdge}
-use Rattle.config_patterns.proofs.OfTests.{left_of, right_of}
 
 abbrev edge : ℕ → ℕ → ℕ → Edge
 edge from g to = record { from = from; symbol = g; to = to }
@@ -35,14 +34,6 @@ pub record IsInto (from to : ℕ) (set : List ℕ) (e : Edge) : Type 0 where
   pub source : e.from ≡ from
   pub target : e.to ≡ to
   pub symbol : has_symbol e.symbol set ≡ true
-
-or_right : (a b : Bool) → b ≡ true → (a || b) ≡ true
-or_right true b h = refl
-or_right false b h = h
-
-or_left : (a b : Bool) → a ≡ true → (a || b) ≡ true
-or_left true b h = refl
-or_left false b h = absurd (false≢true h)
 
 pub is_into : (from to : ℕ) (set : List ℕ) (e : Edge) → IsIn e (edges_into from to set) → IsInto from to set e
 is_into from to [] e h = elim h [ ]
@@ -90,7 +81,7 @@ has_on from to (x ∷ xs) (suc k) g h =
     let P : ℕ → Type 0 = λ n. IsIn (edge from g n) (edges_on from to (x ∷ xs)) in
     let at : suc to + k ≡ to + suc k = omega arith in
     let Q : Bool → Type 0 = λ b. IsIn (edge from g (suc to + k)) (if b then edges_on from (suc to) xs else []) in
-    let there : Q x.star = subst Q (sym (left_of x.star _ h)) (has_on from (suc to) xs k g (right_of x.star _ h)) in
+    let there : Q x.star = subst Q (sym (and_parts x.star _ h).0) (has_on from (suc to) xs k g (and_parts x.star _ h).1) in
     subst P at (in_right (edge from g (suc to + k)) (edges_into from to x.set) (if x.star then edges_on from (suc to) xs else []) there)
 
 -- An edge from an item: to itself, or to one above.
@@ -129,7 +120,7 @@ has_back at (x ∷ xs) zero g h =
     let P : ℕ → Type 0 = λ n. IsIn (edge n g n) (edges_from at (x ∷ xs)) in
     let here : at ≡ at + 0 = omega arith in
     let Q : Bool → Type 0 = λ b. IsIn (edge at g at) (if b then edges_into at at x.set else []) in
-    let back : Q x.star = subst Q (sym (left_of x.star _ h)) (has_into at at x.set g (right_of x.star _ h)) in
+    let back : Q x.star = subst Q (sym (and_parts x.star _ h).0) (has_into at at x.set g (and_parts x.star _ h).1) in
     subst P here (in_left (edge at g at) (edges_back at x ++ edges_on at (suc at) xs) (edges_from (suc at) xs) (in_left (edge at g at) (edges_back at x) (edges_on at (suc at) xs) back))
 has_back at (x ∷ xs) (suc k) g h =
     let P : ℕ → Type 0 = λ n. IsIn (edge n g n) (edges_from at (x ∷ xs)) in

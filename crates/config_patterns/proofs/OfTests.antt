@@ -1,16 +1,7 @@
 -- Equations of tests, each by all its cases.
 use Rattle.std.proofs.Common.{◌≡◌, Bool, true, false, refl, sym}
 use Rattle.std.specs.Prelude.{◌||◌, ◌&&◌, not, if◌then◌else◌}
-use Rattle.std.proofs.lemmas.Bool.{false≢true}
-
--- both of a test
-pub left_of : (a b : Bool) → (a && b) ≡ true → a ≡ true
-left_of true b h = refl
-left_of false b h = absurd (false≢true h)
-
-pub right_of : (a b : Bool) → (a && b) ≡ true → b ≡ true
-right_of true b h = h
-right_of false b h = absurd (false≢true h)
+use Rattle.std.proofs.lemmas.Bool.{and_parts, false≢true}
 
 -- Tests that were decided by their first part.
 pub or_then : (a b c : Bool) → a ≡ true → c ≡ true → c ≡ (a || b)
@@ -52,8 +43,8 @@ abbrev all₇ : (Bool → Bool → Bool → Bool → Bool → Bool → Bool → 
 all₇ f = all₁ (λ a. all₆ (f a))
 
 at₁ : (f : Bool → Bool) → all₁ f ≡ true → (a : Bool) → f a ≡ true
-at₁ f h true = left_of (f true) (f false) h
-at₁ f h false = right_of (f true) (f false) h
+at₁ f h true = (and_parts (f true) (f false) h).0
+at₁ f h false = (and_parts (f true) (f false) h).1
 
 at₂ : (f : Bool → Bool → Bool) → all₂ f ≡ true → (a b : Bool) → f a b ≡ true
 at₂ f h a b = at₁ (f a) (at₁ (λ x. all₁ (f x)) h a) b

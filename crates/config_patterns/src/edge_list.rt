@@ -44,7 +44,7 @@ fn push_back(edges: &mut Vec<Edge>, at: u32, item: &Item) -> Result<(), OutOfMem
     Ok(())
 }
 
-// The edges of the items, for which there is space from the start.
+/// The edges of the items, for which there is space from the start.
 pub fn list_edges(alloc: Global, items: &[Item], count: u64) -> Result<Vec<Edge>, OutOfMemory>
     requires { length items.now ≤ 1000 }
     ensures { IfOk result (λ edges. edges.items ≡ edges_of items.now) }

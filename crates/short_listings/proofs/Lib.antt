@@ -1,3 +1,4 @@
 pub mod OfParts
 pub mod OfShorter
 pub mod OfTight
+pub mod OfLength

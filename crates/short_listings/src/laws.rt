@@ -1,4 +1,4 @@
-ghost use Rattle.std.specs.Prelude.{ℕ, List};
+ghost use Rattle.std.specs.Prelude.{◌≤◌, ℕ, List, length};
 ghost use Rattle.witness_graph.specs.declared.node.Node.{Node as NodeValue};
 ghost use Rattle.witness_graph.specs.declared.node.Side.{Side as SideValue};
 ghost use Rattle.witness_graph.specs.Nodes.{IsListing};
@@ -11,4 +11,9 @@ use semiring_laws::Semiring;
 pub fn shorter_stays_tight<S: Semiring>()
     ensures { (semiring : S) (value : List ℕ → S.W) (side : SideValue) (nodes : List NodeValue) → IsListing nodes → IsTight (S.operations semiring) value side nodes
         → IsTight (S.operations semiring) value side (shortened nodes) }
+{}
+
+/// A listing that is made shorter has no more nodes than it had.
+pub fn shorter_has_no_more_nodes()
+    ensures { (nodes : List NodeValue) → IsListing nodes → length (shortened nodes) ≤ length nodes }
 {}

@@ -4,7 +4,7 @@
 mod laws;
 mod shortening;
 
-pub use laws::shorter_stays_tight;
+pub use laws::{shorter_has_no_more_nodes, shorter_stays_tight};
 pub use shortening::shorter;
 
 #[cfg(test)]

@@ -1,4 +1,5 @@
-use crate::shorter;
+use crate::{shorter, shorter_has_no_more_nodes, shorter_stays_tight};
+use semiring_laws::Reach;
 use std::alloc::Global;
 use std::test::Fail;
 use witness_graph::{Graph, Listing, Node, Side};
@@ -78,5 +79,7 @@ fn listings(rt: HostRuntime) -> Result<(), Fail> {
         rule.nodes.as_slice(),
         [lower(None, Some(3), None, None)].as_slice()
     );
+    shorter_has_no_more_nodes();
+    shorter_stays_tight::<Reach>();
     Ok(())
 }

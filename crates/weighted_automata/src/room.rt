@@ -7,7 +7,7 @@ use crate::{Entry, Place};
 use semiring_laws::Semiring;
 use wpds_port::OutOfMemory;
 
-// Where a place stands first.
+/// Where a place stands first.
 pub fn position(places: &[Place], place: Place) -> Option<usize>
     ensures { result ≡ index_where (λ y. same_place y place) places.now }
 {
@@ -19,7 +19,7 @@ pub fn position(places: &[Place], place: Place) -> Option<usize>
     None
 }
 
-// Takes a place out of those that wait for their transition, and says whether it was there.
+/// Takes a place out of those that wait for their transition, and says whether it was there.
 pub fn take_out(waiting: &mut Vec<Place>, place: Place) -> bool
     ensures taken { result ≡ has_place place waiting.old.items }
     ensures left { waiting.new.items ≡ without place waiting.old.items }
@@ -48,7 +48,7 @@ fn make_space<S: Semiring>(
     Ok(())
 }
 
-// Adds a transition, and keeps room for each place that waits. Where its own place waited, there is room.
+/// Adds a transition, and keeps room for each place that waits. Where its own place waited, there is room.
 pub fn add<S: Semiring>(
     entries: &mut Vec<Entry<S>>,
     waiting: &mut Vec<Place>,
@@ -69,7 +69,7 @@ pub fn add<S: Semiring>(
     Ok(())
 }
 
-// Writes a transition over another.
+/// Writes a transition over another.
 pub fn replace<S: Semiring>(entries: &mut Vec<Entry<S>>, k: usize, entry: Entry<S>)
     ensures set { entries.new.items ≡ slice_set entries.old.items k entry }
     ensures len { vec_len entries.new ≡ vec_len entries.old }
@@ -80,7 +80,7 @@ pub fn replace<S: Semiring>(entries: &mut Vec<Entry<S>>, k: usize, entry: Entry<
     }
 }
 
-// Makes room for a transition at one more place.
+/// Makes room for a transition at one more place.
 pub fn wait<S: Semiring>(
     entries: &mut Vec<Entry<S>>,
     waiting: &mut Vec<Place>,

@@ -95,7 +95,7 @@ fn post_order(alloc: Global, nodes: &NodeParts, root: u64) -> Result<Visited, Ou
     Ok(Visited { order, places })
 }
 
-// The listing of a root, and what it is.
+/// The listing of a root, and what it is.
 pub fn list_nodes(alloc: Global, nodes: &NodeParts, root: u64) -> Result<Vec<Node>, OutOfMemory>
     requires root { root < length nodes.now }
     requires nodes { AreNodes nodes.now }

@@ -1,0 +1,5 @@
+use Rattle.short_listings.proofs.OfLength.{no_longer}
+use Rattle.short_listings.proofs.laws.shorter_has_no_more_nodes.Goals as goal
+
+pub returns : goal.returns
+returns c = no_longer
