@@ -11,3 +11,4 @@ pub mod OfQuantifying
 pub mod OfComposing
 pub mod OfRelations
 pub mod OfVariables
+pub mod OfShortCuts

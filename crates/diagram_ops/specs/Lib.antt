@@ -6,3 +6,4 @@ pub mod Images
 pub mod Renaming
 pub mod Relations
 pub mod Composing
+pub mod ShortCuts

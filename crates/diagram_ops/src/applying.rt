@@ -5,14 +5,15 @@ ghost use Rattle.diagram_ops.specs.Applying as applying;
 ghost use Rattle.diagram_ops.specs.Tables.{known};
 
 use crate::scratch::Scratch;
+use crate::short_cuts::short_cut;
 use crate::table::Table;
 use truth_tables::value3;
 use wpds_port::OutOfMemory;
 
-// The table of three places that is the first or the second, whatever the third.
+/// The table of three places that is the first or the second, whatever the third.
 pub const OR: u8 = 252;
 
-// The operator with this table at three references, by their lowest variable. Each triple is worked out once.
+/// The operator with this table at three references, by their lowest variable. Each triple is worked out once.
 pub fn apply(
     scratch: &mut Scratch,
     results: &mut Table,
@@ -30,6 +31,9 @@ pub fn apply(
     let Some(var) = lowest(scratch, x, y, z) else {
         return Ok(u64::from(value3(table, x == 1, y == 1, z == 1)));
     };
+    if let Some(answer) = short_cut(table, x, y, z) {
+        return Ok(answer);
+    }
     if let Some(result) = results.get(x, y, z) {
         return Ok(result);
     }

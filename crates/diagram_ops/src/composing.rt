@@ -46,7 +46,7 @@ pub fn compose_relations(
     Ok(made)
 }
 
-// One of the two relations. The new values of the first are the old ones of the second.
+/// One of the two relations. The new values of the first are the old ones of the second.
 #[derive(Clone, Copy)]
 pub enum Side {
     First,

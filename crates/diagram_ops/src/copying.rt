@@ -16,7 +16,7 @@ struct Copy {
     places: HashMap<u64, u64>,
 }
 
-// The diagram with the meaning of a scratch reference.
+/// The diagram with the meaning of a scratch reference.
 pub fn copied_out(alloc: Global, scratch: &Scratch, root: u64) -> Result<Diagram, OutOfMemory>
     requires { root < length scratch.now + 2 }
     ensures { IfOk result (λ d. (bits : ℕ → Bool) → value_at d.nodes d.root bits ≡ value_at scratch.now root bits) }

@@ -11,6 +11,7 @@ mod quantifying;
 mod renaming;
 mod restricting;
 mod scratch;
+mod short_cuts;
 mod table;
 
 pub use applied::{apply_table2, apply_table3, apply2, apply3};

@@ -8,7 +8,7 @@ use diagram_store::{Branch, Diagram};
 use std::alloc::Global;
 use wpds_port::OutOfMemory;
 
-// The places of the constants.
+/// The places of the constants.
 pub fn first_places(alloc: Global) -> Result<Vec<u64>, OutOfMemory>
     ensures { IfOk result (λ p. p.items ≡ 0 ∷ 1 ∷ []) }
 {
@@ -18,7 +18,7 @@ pub fn first_places(alloc: Global) -> Result<Vec<u64>, OutOfMemory>
     Ok(places)
 }
 
-// Adds the nodes of a diagram, and answers the place of its root.
+/// Adds the nodes of a diagram, and answers the place of its root.
 pub fn load(alloc: Global, scratch: &mut Scratch, diagram: &Diagram) -> Result<u64, OutOfMemory>
     requires { IsReduced scratch.old }
     ensures reduced { IfOk result (λ _. IsReduced scratch.new) }
@@ -56,7 +56,7 @@ fn load_node(
     Ok(place)
 }
 
-// The place of a reference.
+/// The place of a reference.
 pub fn place_at(places: &[u64], reference: u64) -> u64
     requires { reference < length places.now }
     ensures { result ≡ slice_index_or places.now reference 0 }

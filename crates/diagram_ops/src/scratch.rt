@@ -9,7 +9,7 @@ use std::alloc::Global;
 use std::marker::Model;
 use wpds_port::OutOfMemory;
 
-// Reduced nodes in an arena, and a table that finds each by its parts.
+/// Reduced nodes in an arena, and a table that finds each by its parts.
 #[derive(Drop)]
 pub struct Scratch<'a> {
     nodes: Vec<Branch, &'a Bump>,
@@ -30,6 +30,7 @@ impl<'a> Model for Scratch<'a> {
 }
 
 impl<'a> Scratch<'a> {
+    /// No nodes yet. The nodes lie in the arena.
     pub fn new(alloc: Global, arena: &'a Bump) -> Scratch<'a>
         ensures empty { result ≡ [] }
         ensures reduced { IsReduced result }
@@ -40,7 +41,7 @@ impl<'a> Scratch<'a> {
         }
     }
 
-    // The node that a reference names.
+    /// The node that a reference names.
     pub fn node(&self, reference: u64) -> Option<Branch>
         ensures found { result ≡ node_at self.now reference }
         ensures reduced { IsReduced self.now }
@@ -48,7 +49,7 @@ impl<'a> Scratch<'a> {
         node(&self.nodes, reference)
     }
 
-    // The choice by a variable that comes before those of both branches.
+    /// The choice by a variable that comes before those of both branches.
     pub fn branch(&mut self, var: u32, low: u64, high: u64) -> Result<u64, OutOfMemory>
         requires low { low < length self.old + 2 }
         requires high { high < length self.old + 2 }

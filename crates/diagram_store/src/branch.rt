@@ -62,21 +62,21 @@ pub fn node(nodes: &[Branch], reference: u64) -> Option<Branch>
     }
 }
 
-// Whether the nodes are equal.
+/// Whether the nodes are equal.
 pub fn is_same(a: &Branch, b: &Branch) -> bool
     ensures { IsTrue result ↔ (a.now ≡ b.now) }
 {
     a == b
 }
 
-// Whether the lists are equal.
+/// Whether the lists are equal.
 pub fn are_same(a: &[Branch], b: &[Branch]) -> bool
     ensures { IsTrue result ↔ (a.now ≡ b.now) }
 {
     a == b
 }
 
-// Whether each variable is below a limit.
+/// Whether each variable is below a limit.
 pub fn have_variables_below(nodes: &[Branch], limit: u64) -> bool
     ensures { IsTrue result ↔ HasVariablesBelow limit nodes.now }
 {

@@ -5,6 +5,7 @@ use Rattle.diagram_ops.specs.Tables.{known}
 use Rattle.diagram_ops.specs.Applying.{cofactor, Applies}
 use Rattle.diagram_ops.proofs.OfKeeping.{keeps_same}
 use Rattle.diagram_ops.proofs.OfApplying.{IsLowest, applies_constant, applies_known, lowest_is, AreCofactors, operands_fall, operand_within, applies_at, low_above, low_within, high_above, applies_step}
+use Rattle.diagram_ops.proofs.OfShortCuts.{applies_at_once}
 use Rattle.diagram_ops.proofs.applying.+apply.Goals as goal
 
 pub returns-in_default : goal.returns-in_default
@@ -16,6 +17,11 @@ pub returns-in-Some-get : goal.returns-in-Some-get
 returns-in-Some-get t c =
     applies_known c.args.table c.args.scratch.now (known c.args.results.now) c.args.x c.args.y c.args.z c.in-Some-get.result
     c.lowest.ensures.reduced c.requires.results (sym c.get.ensures ∙ c.in-Some-get.is)
+
+pub returns-in-Some-short_cut : goal.returns-in-Some-short_cut
+returns-in-Some-short_cut t c =
+    applies_at_once c.args.table c.args.scratch.now (known c.args.results.now) c.args.x c.args.y c.args.z c.in-Some-short_cut.answer
+    c.lowest.ensures.reduced c.requires.results c.requires.x c.requires.y c.requires.z c.in-Some-short_cut.ensures
 
 -- the operands where the bit is false
 pub apply-requires : goal.apply-requires

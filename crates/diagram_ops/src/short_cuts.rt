@@ -1,0 +1,69 @@
+ghost use Rattle.std.specs.Prelude.{◌≡◌, ◌<◌, ℕ, Bool, true, false, IsTrue, IfSome};
+ghost use Rattle.truth_tables.specs.Tables.{value_bit, value3_of};
+ghost use Rattle.diagram_ops.specs.ShortCuts.{IsShortCut, IsValuation};
+
+// The rows of a table of three places on which its first, its second and its third place is true.
+const FIRST: u8 = 240;
+const SECOND: u8 = 204;
+const THIRD: u8 = 170;
+const ALL: u8 = 255;
+
+// A constant or one of the references, if it has the table's value on each row that they leave.
+pub fn short_cut(table: u8, x: u64, y: u64, z: u64) -> Option<u64>
+    ensures { IfSome result (λ r. IsShortCut table x y z r) }
+{
+    let rows = possible_rows(x, y, z);
+    if are_same_on(rows, table, 0) {
+        return Some(0);
+    }
+    if are_same_on(rows, table, ALL) {
+        return Some(1);
+    }
+    if are_same_on(rows, table, FIRST) {
+        return Some(x);
+    }
+    if are_same_on(rows, table, SECOND) {
+        return Some(y);
+    }
+    if are_same_on(rows, table, THIRD) {
+        return Some(z);
+    }
+    None
+}
+
+// Whether two tables have the same value on these rows.
+fn are_same_on(rows: u8, table: u8, other: u8) -> bool
+    ensures { IsTrue result → (k : ℕ) → value_bit rows k ≡ true → value_bit table k ≡ value_bit other k }
+{
+    (table ^ other) & rows == 0
+}
+
+// The rows that three references leave.
+fn possible_rows(x: u64, y: u64, z: u64) -> u8
+    ensures { (bit : ℕ → Bool) → IsValuation bit → value3_of result (bit x) (bit y) (bit z) ≡ true }
+{
+    rows_of(FIRST, x)
+        & rows_of(SECOND, y)
+        & rows_of(THIRD, z)
+        & rows_of_both(FIRST, SECOND, x, y)
+        & rows_of_both(FIRST, THIRD, x, z)
+        & rows_of_both(SECOND, THIRD, y, z)
+}
+
+// The rows that a reference leaves, by those on which its place is true.
+fn rows_of(place: u8, reference: u64) -> u8
+    ensures { (bit : ℕ → Bool) → IsValuation bit → (k : ℕ) → k < 8 → value_bit place k ≡ bit reference → value_bit result k ≡ true }
+{
+    match reference {
+        0 => place ^ ALL,
+        1 => place,
+        _ => ALL,
+    }
+}
+
+// The rows that two references leave where they are equal, by those on which their places are true.
+fn rows_of_both(first: u8, second: u8, x: u64, y: u64) -> u8
+    ensures { (bit : ℕ → Bool) (k : ℕ) → k < 8 → value_bit first k ≡ bit x → value_bit second k ≡ bit y → value_bit result k ≡ true }
+{
+    if x == y { first ^ second ^ ALL } else { ALL }
+}
