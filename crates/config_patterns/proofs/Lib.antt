@@ -7,3 +7,4 @@ pub mod OfItems
 pub mod OfSets
 pub mod OfSkips
 pub mod OfOnce
+pub mod Rows

@@ -97,6 +97,14 @@ impl Pattern {
         self.control
     }
 
+    /// How many symbols there are: those of its items are below it.
+    pub fn symbols(&self) -> u32
+        ensures value { result ≡ self.now.symbols }
+        ensures valid { IsPattern self.now }
+    {
+        self.symbols
+    }
+
     /// How many items it has.
     pub fn items(&self) -> u32
         ensures value { result ≡ length self.now.items }

@@ -6,6 +6,9 @@ ghost use Rattle.semiring_laws.specs.Semiring.{Fits};
 ghost use Rattle.cost_weights.specs.Cost.{cost_operations};
 ghost use Rattle.cost_weights.specs.CostLaws.{cost_laws};
 
+mod laws;
+
+pub use laws::below_is_no_dearer;
 use semiring_laws::{NoMap, Semiring};
 use std::alloc::Global;
 use std::marker::Model;

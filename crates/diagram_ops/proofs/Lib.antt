@@ -8,3 +8,6 @@ pub mod OfRenaming
 pub mod OfTables
 pub mod OfPicking
 pub mod OfQuantifying
+pub mod OfComposing
+pub mod OfRelations
+pub mod OfVariables

@@ -1,4 +1,5 @@
--- The lowest variable of references, and where the walk goes on from them by its bit.
+-- The lowest place of references in an order of their variables, and where the walk goes on from them by the
+-- bit there.
 use Rattle.std.proofs.Common.{◌≡◌, ℕ, zero, suc, ◌+◌, ◌<◌, ◌≤◌, Bool, true, false, List, length, refl, sym, ap, ◌∙◌, subst, inl, inr, arith}
 use Rattle.std.specs.Prelude.{Option, None, Some, ◌⊎◌, nat_eq, nat_le, cond, option_map}
 use Rattle.std.proofs.lemmas.Bool.{cond-true, cond-false, cond_both, cases_Bool, eqb-true, eq-eqb, false_from_ne_true, leb-true, le-leb}
@@ -8,24 +9,31 @@ use Rattle.diagram_store.specs.Nodes.{node_at, IsAbove, IsReduced}
 use Rattle.diagram_store.specs.Meaning.{value_at}
 use Rattle.diagram_store.proofs.OfNodes.{option_cases, one_node}
 use Rattle.diagram_store.proofs.OfValues.{value_at_node}
-use Rattle.diagram_ops.specs.Applying.{variable, lower, cofactor_of, cofactor}
+use Rattle.diagram_ops.specs.Applying.{variable, place, lower, cofactor_of, cofactor_at, cofactor}
+use Rattle.diagram_ops.specs.Scratch.{IsPast}
 
 pub variable_of : (nodes : List Branch) (r : ℕ) (n : Branch) → node_at nodes r ≡ Some n → variable nodes r ≡ Some n.var
 variable_of nodes r n e = ap (option_map (λ k. k.var)) e
 
-node_of : (o : Option Branch) (v : ℕ) → option_map (λ n. n.var) o ≡ Some v → (n : Branch) × (o ≡ Some n) × (n.var ≡ v)
-node_of None v e = cc
-node_of (Some n) v e = (n, refl, same_Some n.var v e)
+node_of : (order : ℕ → ℕ) (o : Option Branch) (p : ℕ) → option_map (λ n. order n.var) o ≡ Some p → (n : Branch) × (o ≡ Some n) × (order n.var ≡ p)
+node_of order None p e = cc
+node_of order (Some n) p e = (n, refl, same_Some (order n.var) p e)
+
+pub node_of_place : (order : ℕ → ℕ) (nodes : List Branch) (r p : ℕ) → place order nodes r ≡ Some p → (n : Branch) × (node_at nodes r ≡ Some n) × (order n.var ≡ p)
+node_of_place order nodes r p e = node_of order (node_at nodes r) p e
 
 pub node_of_variable : (nodes : List Branch) (r v : ℕ) → variable nodes r ≡ Some v → (n : Branch) × (node_at nodes r ≡ Some n) × (n.var ≡ v)
-node_of_variable nodes r v e = node_of (node_at nodes r) v e
+node_of_variable nodes r v e = node_of (λ k. k) (node_at nodes r) v e
 
-none_of : (o : Option Branch) → option_map (λ n. n.var) o ≡ None → o ≡ None
-none_of None e = refl
-none_of (Some n) e = cc
+none_of : (order : ℕ → ℕ) (o : Option Branch) → option_map (λ n. order n.var) o ≡ None → o ≡ None
+none_of order None e = refl
+none_of order (Some n) e = cc
+
+pub none_of_place : (order : ℕ → ℕ) (nodes : List Branch) (r : ℕ) → place order nodes r ≡ None → node_at nodes r ≡ None
+none_of_place order nodes r e = none_of order (node_at nodes r) e
 
 pub none_of_variable : (nodes : List Branch) (r : ℕ) → variable nodes r ≡ None → node_at nodes r ≡ None
-none_of_variable nodes r e = none_of (node_at nodes r) e
+none_of_variable nodes r e = none_of (λ k. k) (node_at nodes r) e
 
 -- a lower bound of a variable that there may be
 abbrev pub Bounds : ℕ → Option ℕ → Type 0
@@ -71,18 +79,21 @@ lower_none (Some x) (Some y) e = elim (cases_Bool (nat_le x y)) [
   | inr more ↦ let f : Some y ≡ None = sym (cond-false (nat_le x y) (Some x) (Some y) more) ∙ e in cc
 ]
 
-module _ (nodes : List Branch) (all : IsReduced nodes) (v : ℕ) where
-  -- a reference whose node, if it is one, has another variable, or this one
-  cofactor_cases : (b : Bool) (r : ℕ) → ((cofactor nodes v b r ≡ r) × ((n : Branch) → node_at nodes r ≡ Some n → n.var ≡ v → ⊥))
-      ⊎ ((n : Branch) × (node_at nodes r ≡ Some n) × (n.var ≡ v) × (cofactor nodes v b r ≡ cond b n.high n.low))
+module _ (order : ℕ → ℕ) (rises : (v w : ℕ) → v < w → order v < order w) (nodes : List Branch) (all : IsReduced nodes) (p : ℕ) where
+  -- a reference whose node, if it is one, has another place, or this one
+  cofactor_cases : (b : Bool) (r : ℕ) → ((cofactor_at order nodes p b r ≡ r) × ((n : Branch) → node_at nodes r ≡ Some n → order n.var ≡ p → ⊥))
+      ⊎ ((n : Branch) × (node_at nodes r ≡ Some n) × (order n.var ≡ p) × (cofactor_at order nodes p b r ≡ cond b n.high n.low))
   cofactor_cases b r = elim (option_cases (node_at nodes r)) [
-    | inl none ↦ inl (ap (cofactor_of v b r) none, λ n e is. let f : None ≡ Some n = sym none ∙ e in cc)
-    | inr n ↦ elim (cases_Bool (nat_eq n.0.var v)) [
-      | inl is ↦ inr (n.0, n.1, eqb-true n.0.var v is, ap (cofactor_of v b r) n.1 ∙ cond-true (nat_eq n.0.var v) (cond b n.0.high n.0.low) r is)
+    | inl none ↦ inl (ap (cofactor_of order p b r) none, λ n e is. let f : None ≡ Some n = sym none ∙ e in cc)
+    | inr n ↦ elim (cases_Bool (nat_eq (order n.0.var) p)) [
+      | inl is ↦ inr (n.0, n.1, eqb-true (order n.0.var) p is, ap (cofactor_of order p b r) n.1 ∙ cond-true (nat_eq (order n.0.var) p) (cond b n.0.high n.0.low) r is)
       | inr apart ↦
           inl (
-            ap (cofactor_of v b r) n.1 ∙ cond-false (nat_eq n.0.var v) (cond b n.0.high n.0.low) r apart,
-            λ m e is. let f : n.0 ≡ m = one_node nodes r n.0 m n.1 e in let g : true ≡ false = sym (eq-eqb n.0.var v (ap (λ k. k.var) f ∙ is)) ∙ apart in cc,
+            ap (cofactor_of order p b r) n.1 ∙ cond-false (nat_eq (order n.0.var) p) (cond b n.0.high n.0.low) r apart,
+            λ m e is.
+                let f : n.0 ≡ m = one_node nodes r n.0 m n.1 e in
+                let g : true ≡ false = sym (eq-eqb (order n.0.var) p (ap (λ k. order k.var) f ∙ is)) ∙ apart in
+                cc,
           )
     ]
   ]
@@ -91,28 +102,30 @@ module _ (nodes : List Branch) (all : IsReduced nodes) (v : ℕ) where
   value_by_bit n bits true = refl
   value_by_bit n bits false = refl
 
-  pub cofactor_value : (r : ℕ) (bits : ℕ → Bool) (b : Bool) → bits v ≡ b → value_at nodes r bits ≡ value_at nodes (cofactor nodes v b r) bits
-  cofactor_value r bits b e = elim (cofactor_cases b r) [
-    | inl h ↦ ap (λ k. value_at nodes k bits) (sym h.0)
-    | inr h ↦
-        value_at_node nodes all r h.0 bits h.1
-        ∙ ap (λ k. cond k (value_at nodes h.0.high bits) (value_at nodes h.0.low bits)) (ap bits h.2 ∙ e)
-        ∙ value_by_bit h.0 bits b
-        ∙ ap (λ k. value_at nodes k bits) (sym h.3)
-  ]
+  pub place_value : (r : ℕ) (bits : ℕ → Bool) (b : Bool) → bits p ≡ b → value_at nodes r (λ v. bits (order v)) ≡ value_at nodes (cofactor_at order nodes p b r) (λ v. bits (order v))
+  place_value r bits b e =
+      let seen : ℕ → Bool = λ v. bits (order v) in
+      elim (cofactor_cases b r) [
+        | inl h ↦ ap (λ k. value_at nodes k seen) (sym h.0)
+        | inr h ↦
+            value_at_node nodes all r h.0 seen h.1
+            ∙ ap (λ k. cond k (value_at nodes h.0.high seen) (value_at nodes h.0.low seen)) (ap bits h.2 ∙ e)
+            ∙ value_by_bit h.0 seen b
+            ∙ ap (λ k. value_at nodes k seen) (sym h.3)
+      ]
 
   by_bit : (P : ℕ → Type 0) (b : Bool) (x y : ℕ) → P x → P y → P (cond b x y)
   by_bit P b x y p q = cond_both b x y P (λ _. p) (λ _. q)
 
-  pub cofactor_smaller : (b : Bool) (r : ℕ) → variable nodes r ≡ Some v → cofactor nodes v b r < r
-  cofactor_smaller b r e = elim (cofactor_cases b r) [
-    | inl h ↦ let n = node_of_variable nodes r v e in absurd (h.1 n.0 n.1 n.2)
+  pub place_smaller : (b : Bool) (r : ℕ) → place order nodes r ≡ Some p → cofactor_at order nodes p b r < r
+  place_smaller b r e = elim (cofactor_cases b r) [
+    | inl h ↦ let n = node_of_place order nodes r p e in absurd (h.1 n.0 n.1 n.2)
     | inr h ↦ let before = all.earlier r h.0 h.1 in subst (λ (k : ℕ). k < r) (sym h.3) (by_bit (λ k. k < r) b h.0.high h.0.low before.1 before.0)
   ]
 
-  pub cofactor_within : (b : Bool) (r : ℕ) → cofactor nodes v b r ≤ r
-  cofactor_within b r = elim (cofactor_cases b r) [
-    | inl h ↦ let e : cofactor nodes v b r ≡ r = h.0 in omega arith
+  pub place_within : (b : Bool) (r : ℕ) → cofactor_at order nodes p b r ≤ r
+  place_within b r = elim (cofactor_cases b r) [
+    | inl h ↦ let e : cofactor_at order nodes p b r ≡ r = h.0 in omega arith
     | inr h ↦
         let before = all.earlier r h.0 h.1 in
         let low : h.0.low ≤ r = omega (arith, before.0) in
@@ -120,14 +133,30 @@ module _ (nodes : List Branch) (all : IsReduced nodes) (v : ℕ) where
         subst (λ (k : ℕ). k ≤ r) (sym h.3) (by_bit (λ k. k ≤ r) b h.0.high h.0.low high low)
   ]
 
-  -- past the variable where that is the lowest
-  pub cofactor_above : (b : Bool) (r : ℕ) → Bounds v (variable nodes r) → IsAbove nodes v (cofactor nodes v b r)
-  cofactor_above b r bounds = elim (cofactor_cases b r) [
+  -- past the place where that is the lowest
+  pub place_past : (b : Bool) (r : ℕ) → Bounds p (place order nodes r) → IsPast order nodes p (cofactor_at order nodes p b r)
+  place_past b r bounds = elim (cofactor_cases b r) [
     | inl h ↦
-        subst (λ (k : ℕ). IsAbove nodes v k) (sym h.0)
-        (λ n e. let le : v ≤ n.var = bounds n.var (variable_of nodes r n e) in let apart : n.var ≡ v → ⊥ = h.1 n e in omega arith)
+        subst (λ (k : ℕ). IsPast order nodes p k) (sym h.0)
+        (λ n e. let le : p ≤ order n.var = bounds (order n.var) (ap (option_map (λ k. order k.var)) e) in let apart : order n.var ≡ p → ⊥ = h.1 n e in omega arith)
     | inr h ↦
         let up = all.rises r h.0 h.1 in
-        let P : ℕ → Type 0 = λ k. IsAbove nodes k (cond b h.0.high h.0.low) in
-        subst (λ (k : ℕ). IsAbove nodes v k) (sym h.3) (subst P h.2 (by_bit (λ k. IsAbove nodes h.0.var k) b h.0.high h.0.low up.1 up.0))
+        let past : (q : ℕ) → IsAbove nodes h.0.var q → IsPast order nodes (order h.0.var) q = λ q above n e. rises h.0.var n.var (above n e) in
+        let P : ℕ → Type 0 = λ k. IsPast order nodes k (cond b h.0.high h.0.low) in
+        subst (λ (k : ℕ). IsPast order nodes p k) (sym h.3)
+        (subst P h.2 (by_bit (λ k. IsPast order nodes (order h.0.var) k) b h.0.high h.0.low (past h.0.high up.1) (past h.0.low up.0)))
   ]
+
+-- in the order of the variables themselves
+module _ (nodes : List Branch) (all : IsReduced nodes) (v : ℕ) where
+  pub cofactor_value : (r : ℕ) (bits : ℕ → Bool) (b : Bool) → bits v ≡ b → value_at nodes r bits ≡ value_at nodes (cofactor nodes v b r) bits
+  cofactor_value r bits b e = place_value (λ k. k) (λ j k h. h) nodes all v r bits b e
+
+  pub cofactor_smaller : (b : Bool) (r : ℕ) → variable nodes r ≡ Some v → cofactor nodes v b r < r
+  cofactor_smaller b r e = place_smaller (λ k. k) (λ j k h. h) nodes all v b r e
+
+  pub cofactor_within : (b : Bool) (r : ℕ) → cofactor nodes v b r ≤ r
+  cofactor_within b r = place_within (λ k. k) (λ j k h. h) nodes all v b r
+
+  pub cofactor_above : (b : Bool) (r : ℕ) → Bounds v (variable nodes r) → IsAbove nodes v (cofactor nodes v b r)
+  cofactor_above b r bounds = place_past (λ k. k) (λ j k h. h) nodes all v b r bounds

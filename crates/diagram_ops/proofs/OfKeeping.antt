@@ -7,7 +7,7 @@ use Rattle.diagram_store.specs.Nodes.{node_at, IsAbove, IsReduced}
 use Rattle.diagram_store.specs.Meaning.{value_at}
 use Rattle.diagram_store.proofs.OfNodes.{option_cases, node_within, node_there, no_node, constant_below, one_node}
 use Rattle.diagram_store.proofs.OfValues.{value_at_end, value_at_node, same_cond}
-use Rattle.diagram_ops.specs.Scratch.{Keeps, Stands}
+use Rattle.diagram_ops.specs.Scratch.{Keeps, Stands, IsPast}
 
 pub keeps_same : (nodes : List Branch) → Keeps nodes nodes
 keeps_same nodes = record { each = λ r n e. e }
@@ -21,14 +21,17 @@ keeps_within old new k r w = elim (cases_lt r 2) [
   | inr node ↦ let n = node_there old r node w in (node_within new r n.0 (k.each r n.0 n.1)).1
 ]
 
-pub keeps_above : (old new : List Branch) → Keeps old new → (v r : ℕ) → r < length old + 2 → IsAbove old v r → IsAbove new v r
-keeps_above old new k v r w above n e = elim (cases_lt r 2) [
+pub keeps_past : (order : ℕ → ℕ) (old new : List Branch) → Keeps old new → (p r : ℕ) → r < length old + 2 → IsPast order old p r → IsPast order new p r
+keeps_past order old new k p r w past n e = elim (cases_lt r 2) [
   | inl small ↦ let f : None ≡ Some n = sym (no_node new r small) ∙ e in cc
   | inr node ↦
       let m = node_there old r node w in
       let is : m.0 ≡ n = one_node new r m.0 n (k.each r m.0 m.1) e in
-      subst (λ (x : Branch). v < x.var) is (above m.0 m.1)
+      subst (λ (x : Branch). p < order x.var) is (past m.0 m.1)
 ]
+
+pub keeps_above : (old new : List Branch) → Keeps old new → (v r : ℕ) → r < length old + 2 → IsAbove old v r → IsAbove new v r
+keeps_above old new k v r w above = keeps_past (λ x. x) old new k v r w above
 
 module _ (old : List Branch) (whole : IsReduced old) (new : List Branch) (other : IsReduced new) (k : Keeps old new) where
   kept_value : (d r : ℕ) → r ≤ d → r < length old + 2 → (bits : ℕ → Bool) → value_at new r bits ≡ value_at old r bits

@@ -22,15 +22,15 @@ never_quantified nodes vars bits = (λ e. cc, λ h. let f : true ≡ false = sym
 pub always_quantified : (nodes : List Branch) (vars : List ℕ) (bits : ℕ → Bool) → IsQuantified nodes vars 1 bits true
 always_quantified nodes vars bits = (λ e. (bits, λ k off. refl, value_at_end nodes 1 bits refl), λ h. refl)
 
-or_left : (a b : Bool) → a ≡ true → (a || b) ≡ true
+pub or_left : (a b : Bool) → a ≡ true → (a || b) ≡ true
 or_left true b e = refl
 or_left false b e = cc
 
-or_right : (a b : Bool) → b ≡ true → (a || b) ≡ true
+pub or_right : (a b : Bool) → b ≡ true → (a || b) ≡ true
 or_right true b e = refl
 or_right false b e = e
 
-or_cases : (a b : Bool) → (a || b) ≡ true → (a ≡ true) ⊎ (b ≡ true)
+pub or_cases : (a b : Bool) → (a || b) ≡ true → (a ≡ true) ⊎ (b ≡ true)
 or_cases true b e = inl refl
 or_cases false b e = inr e
 

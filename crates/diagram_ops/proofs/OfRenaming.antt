@@ -117,3 +117,10 @@ pub named_value : (names : List ℕ) (view nodes list : List Branch) (root : ℕ
     → (bits : ℕ → Bool) → value_at list root bits ≡ value_at nodes root (λ v. bits (slice_index names v))
 named_value names view nodes list root e c covers rises is bits =
     ap (λ l. value_at l root bits) (is ∙ ap (map (with_variable names)) e) ∙ value_named names nodes covers rises c.reduced bits root root (omega arith)
+
+-- each variable is one of the names
+pub named_below : (names : List ℕ) (view nodes list : List Branch) → view ≡ nodes → HasVariablesBelow (length names) nodes → list ≡ map (with_variable names) view
+    → (limit : ℕ) → ((k : ℕ) → k < length names → slice_index names k < limit) → HasVariablesBelow limit list
+named_below names view nodes list e covers is limit below =
+    let P : List Branch → Type 0 = λ l. HasVariablesBelow limit l in
+    subst P (sym (is ∙ ap (map (with_variable names)) e)) (by_old names nodes (λ r k. k.var < limit) (λ r n at. below n.var (covers r n at)))

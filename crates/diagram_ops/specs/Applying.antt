@@ -16,13 +16,21 @@ lower None b = b
 lower (Some v) None = Some v
 lower (Some v) (Some w) = if nat_le v w then Some v else Some w
 
-abbrev pub cofactor_of : ℕ → Bool → ℕ → Option Branch → ℕ
-cofactor_of v b r None = r
-cofactor_of v b r (Some n) = if nat_eq n.var v then (if b then n.high else n.low) else r
+-- the place of a reference's variable in an order, if it is a node
+abbrev pub place : (ℕ → ℕ) → List Branch → ℕ → Option ℕ
+place order nodes r = option_map (λ n. order n.var) (node_at nodes r)
+
+abbrev pub cofactor_of : (ℕ → ℕ) → ℕ → Bool → ℕ → Option Branch → ℕ
+cofactor_of order p b r None = r
+cofactor_of order p b r (Some n) = if nat_eq (order n.var) p then (if b then n.high else n.low) else r
+
+-- where the walk goes on from a reference by the bit of the variable at a place
+abbrev pub cofactor_at : (ℕ → ℕ) → List Branch → ℕ → Bool → ℕ → ℕ
+cofactor_at order nodes p b r = cofactor_of order p b r (node_at nodes r)
 
 -- where the walk goes on from a reference by the bit of a variable
 abbrev pub cofactor : List Branch → ℕ → Bool → ℕ → ℕ
-cofactor nodes v b r = cofactor_of v b r (node_at nodes r)
+cofactor nodes v b r = cofactor_at (λ k. k) nodes v b r
 
 -- the value of the table at three references
 abbrev pub IsTableOf : ℕ → List Branch → ℕ → ℕ → ℕ → (ℕ → Bool) → Bool → Type 0

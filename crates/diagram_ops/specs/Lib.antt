@@ -4,3 +4,5 @@ pub mod Copying
 pub mod Applying
 pub mod Images
 pub mod Renaming
+pub mod Relations
+pub mod Composing

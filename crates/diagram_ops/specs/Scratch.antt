@@ -17,6 +17,10 @@ pub record IsScratch (places : ℕ → ℕ → ℕ → Option ℕ) (nodes : List
   pub reduced : IsReduced nodes
   pub found : FindsNodes places nodes
 
+-- the reference names a constant, or a node of a later place in an order of variables
+abbrev pub IsPast : (ℕ → ℕ) → List Branch → ℕ → ℕ → Type 0
+IsPast order nodes p r = (n : Branch) → node_at nodes r ≡ Some n → p < order n.var
+
 -- A reference whose value on all bits is as `meaning` says. Its variables come after each that `before` says.
 pub record Stands (nodes : List Branch) (r : ℕ) (meaning : (ℕ → Bool) → Bool → Type 0) (before : ℕ → Type 0) : Type 0 where
   pub within : r < length nodes + 2

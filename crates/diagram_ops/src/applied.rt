@@ -24,8 +24,9 @@ pub fn apply3<const T: u8>(
     b: &Diagram,
     c: &Diagram,
 ) -> Result<Diagram, OutOfMemory>
-    ensures { IfOk result (λ d. (bits : ℕ → Bool) → value_at d.nodes d.root bits
+    ensures value { IfOk result (λ d. (bits : ℕ → Bool) → value_at d.nodes d.root bits
         ≡ value3_of T (value_at a.now.nodes a.now.root bits) (value_at b.now.nodes b.now.root bits) (value_at c.now.nodes c.now.root bits)) }
+    ensures variables { IfOk result (λ d. (limit : ℕ) → HasVariablesBelow limit a.now.nodes → HasVariablesBelow limit b.now.nodes → HasVariablesBelow limit c.now.nodes → HasVariablesBelow limit d.nodes) }
 {
     applied(alloc, T, a, b, c)
 }
@@ -38,8 +39,9 @@ fn applied(
     b: &Diagram,
     c: &Diagram,
 ) -> Result<Diagram, OutOfMemory>
-    ensures { IfOk result (λ d. (bits : ℕ → Bool) → value_at d.nodes d.root bits
+    ensures value { IfOk result (λ d. (bits : ℕ → Bool) → value_at d.nodes d.root bits
         ≡ value3_of table (value_at a.now.nodes a.now.root bits) (value_at b.now.nodes b.now.root bits) (value_at c.now.nodes c.now.root bits)) }
+    ensures variables { IfOk result (λ d. (limit : ℕ) → HasVariablesBelow limit a.now.nodes → HasVariablesBelow limit b.now.nodes → HasVariablesBelow limit c.now.nodes → HasVariablesBelow limit d.nodes) }
 {
     let arena = Bump::new(alloc);
     let mut scratch = Scratch::new(alloc, &arena);
@@ -60,8 +62,9 @@ pub fn apply_table3(
     b: &Diagram,
     c: &Diagram,
 ) -> Result<Diagram, OutOfMemory>
-    ensures { IfOk result (λ d. (bits : ℕ → Bool) → value_at d.nodes d.root bits
+    ensures value { IfOk result (λ d. (bits : ℕ → Bool) → value_at d.nodes d.root bits
         ≡ value3_of table (value_at a.now.nodes a.now.root bits) (value_at b.now.nodes b.now.root bits) (value_at c.now.nodes c.now.root bits)) }
+    ensures variables { IfOk result (λ d. (limit : ℕ) → HasVariablesBelow limit a.now.nodes → HasVariablesBelow limit b.now.nodes → HasVariablesBelow limit c.now.nodes → HasVariablesBelow limit d.nodes) }
 {
     applied(alloc, table, a, b, c)
 }
@@ -71,7 +74,8 @@ pub fn apply_table3(
 /// Each pair of references of the operands is worked out once, so there is at most one scratch node for each.
 pub fn apply2<const T: u8>(alloc: Global, a: &Diagram, b: &Diagram) -> Result<Diagram, OutOfMemory>
     requires { T < 16 }
-    ensures { IfOk result (λ d. (bits : ℕ → Bool) → value_at d.nodes d.root bits ≡ value2_of T (value_at a.now.nodes a.now.root bits) (value_at b.now.nodes b.now.root bits)) }
+    ensures value { IfOk result (λ d. (bits : ℕ → Bool) → value_at d.nodes d.root bits ≡ value2_of T (value_at a.now.nodes a.now.root bits) (value_at b.now.nodes b.now.root bits)) }
+    ensures variables { IfOk result (λ d. (limit : ℕ) → HasVariablesBelow limit a.now.nodes → HasVariablesBelow limit b.now.nodes → HasVariablesBelow limit d.nodes) }
 {
     apply_table2(alloc, T, a, b)
 }
@@ -84,7 +88,8 @@ pub fn apply_table2(
     b: &Diagram,
 ) -> Result<Diagram, OutOfMemory>
     requires { table < 16 }
-    ensures { IfOk result (λ d. (bits : ℕ → Bool) → value_at d.nodes d.root bits ≡ value2_of table (value_at a.now.nodes a.now.root bits) (value_at b.now.nodes b.now.root bits)) }
+    ensures value { IfOk result (λ d. (bits : ℕ → Bool) → value_at d.nodes d.root bits ≡ value2_of table (value_at a.now.nodes a.now.root bits) (value_at b.now.nodes b.now.root bits)) }
+    ensures variables { IfOk result (λ d. (limit : ℕ) → HasVariablesBelow limit a.now.nodes → HasVariablesBelow limit b.now.nodes → HasVariablesBelow limit d.nodes) }
 {
     let never = Diagram::constant(alloc, false);
     let made = applied(alloc, widened(table), a, b, &never)?;

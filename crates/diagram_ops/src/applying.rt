@@ -9,6 +9,9 @@ use crate::table::Table;
 use truth_tables::value3;
 use wpds_port::OutOfMemory;
 
+// The table of three places that is the first or the second, whatever the third.
+pub const OR: u8 = 252;
+
 // The operator with this table at three references, by their lowest variable. Each triple is worked out once.
 pub fn apply(
     scratch: &mut Scratch,

@@ -3,6 +3,7 @@
 
 mod applied;
 mod applying;
+mod composing;
 mod copying;
 mod loading;
 mod picking;
@@ -13,10 +14,13 @@ mod scratch;
 mod table;
 
 pub use applied::{apply_table2, apply_table3, apply2, apply3};
+pub use composing::compose_relations;
 pub use picking::{Bits, pick};
 pub use quantifying::exists;
 pub use renaming::rename;
 pub use restricting::restrict;
 
+#[cfg(test)]
+mod table_tests;
 #[cfg(test)]
 mod tests;

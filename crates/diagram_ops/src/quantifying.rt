@@ -1,12 +1,12 @@
 ghost use Rattle.std.specs.Prelude.{◌≡◌, ◌↔◌, ◌+◌, ◌<◌, ℕ, Bool, IsTrue, IfOk, length};
 ghost use Rattle.diagram_store.specs.Meaning.{value_at};
-ghost use Rattle.diagram_store.specs.Nodes.{IsReduced, IsAbove};
+ghost use Rattle.diagram_store.specs.Nodes.{IsReduced, IsAbove, HasVariablesBelow};
 ghost use Rattle.diagram_ops.specs.Applying.{AreApplied};
 ghost use Rattle.diagram_ops.specs.Images.{IsImage, IsQuantified, IsTrueOnSome};
 ghost use Rattle.diagram_ops.specs.Scratch.{Keeps, Stands};
 ghost use Rattle.diagram_ops.specs.Tables.{known};
 
-use crate::applying::apply;
+use crate::applying::{OR, apply};
 use crate::copying::copied_out;
 use crate::loading::{first_places, place_at};
 use crate::scratch::Scratch;
@@ -16,15 +16,13 @@ use diagram_store::{Branch, Diagram};
 use std::alloc::Global;
 use wpds_port::OutOfMemory;
 
-// The table of three places that is the first or the second, whatever the third.
-const OR: u8 = 252;
-
 /// The diagram that is true on exactly those bits for which `a` is true on some bits that differ from them
 /// in `vars` at most.
 ///
 /// It is one pass: a node of a variable of `vars` becomes the disjunction of its branches.
 pub fn exists(alloc: Global, a: &Diagram, vars: &[u32]) -> Result<Diagram, OutOfMemory>
-    ensures { IfOk result (λ d. (bits : ℕ → Bool) → IsTrue (value_at d.nodes d.root bits) ↔ IsTrueOnSome a.now.nodes vars.now a.now.root bits) }
+    ensures value { IfOk result (λ d. (bits : ℕ → Bool) → IsTrue (value_at d.nodes d.root bits) ↔ IsTrueOnSome a.now.nodes vars.now a.now.root bits) }
+    ensures variables { IfOk result (λ d. (limit : ℕ) → HasVariablesBelow limit a.now.nodes → HasVariablesBelow limit d.nodes) }
 {
     let arena = Bump::new(alloc);
     let mut scratch = Scratch::new(alloc, &arena);

@@ -13,7 +13,8 @@ use wpds_port::OutOfMemory;
 pub fn rename(alloc: Global, a: &Diagram, map: &[u32]) -> Result<Diagram, OutOfMemory>
     requires covers { HasVariablesBelow (length map.now) a.now.nodes }
     requires rises { Rises map.now }
-    ensures { IfOk result (λ d. (bits : ℕ → Bool) → value_at d.nodes d.root bits ≡ value_at a.now.nodes a.now.root (λ v. bits (slice_index map.now v))) }
+    ensures value { IfOk result (λ d. (bits : ℕ → Bool) → value_at d.nodes d.root bits ≡ value_at a.now.nodes a.now.root (λ v. bits (slice_index map.now v))) }
+    ensures variables { IfOk result (λ d. (limit : ℕ) → ((k : ℕ) → k < length map.now → slice_index map.now k < limit) → HasVariablesBelow limit d.nodes) }
 {
     let nodes = renamed(alloc, a.nodes(), map)?;
     Ok(Diagram {

@@ -1,6 +1,6 @@
 ghost use Rattle.std.specs.Prelude.{◌≡◌, ◌+◌, ◌<◌, ℕ, Bool, IfOk, length};
 ghost use Rattle.diagram_store.specs.Meaning.{value_at, set_bit};
-ghost use Rattle.diagram_store.specs.Nodes.{IsReduced, IsAbove};
+ghost use Rattle.diagram_store.specs.Nodes.{IsReduced, IsAbove, HasVariablesBelow};
 ghost use Rattle.diagram_ops.specs.Images.{IsImage, IsRestricted};
 ghost use Rattle.diagram_ops.specs.Scratch.{Keeps, Stands};
 
@@ -14,7 +14,8 @@ use wpds_port::OutOfMemory;
 
 /// The diagram whose value on all bits is that of `a` on the bits with `var` set to `value`.
 pub fn restrict(alloc: Global, a: &Diagram, var: u32, value: bool) -> Result<Diagram, OutOfMemory>
-    ensures { IfOk result (λ d. (bits : ℕ → Bool) → value_at d.nodes d.root bits ≡ value_at a.now.nodes a.now.root (set_bit bits var value)) }
+    ensures value { IfOk result (λ d. (bits : ℕ → Bool) → value_at d.nodes d.root bits ≡ value_at a.now.nodes a.now.root (set_bit bits var value)) }
+    ensures variables { IfOk result (λ d. (limit : ℕ) → HasVariablesBelow limit a.now.nodes → HasVariablesBelow limit d.nodes) }
 {
     let arena = Bump::new(alloc);
     let mut scratch = Scratch::new(alloc, &arena);

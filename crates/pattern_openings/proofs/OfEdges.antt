@@ -1,17 +1,19 @@
 -- The edges and final states of a pattern's opening.
-use Rattle.std.proofs.Common.{◌≡◌, ◌⊎◌, inl, inr, ℕ, zero, suc, ◌+◌, ◌<◌, ◌≤◌, true, List, [], ◌∷◌, length, drop, refl, ap, arith}
+use Rattle.std.proofs.Common.{◌≡◌, ◌⊎◌, inl, inr, ℕ, zero, suc, ◌+◌, ◌<◌, ◌≤◌, true, List, [], ◌∷◌, length, drop, refl, ap, subst, arith}
 use Rattle.std.specs.Prelude.{nat_le}
 use Rattle.std.specs.List.{AllByRecursion, All, list_all, range_with_len}
 use Rattle.std.proofs.lemmas.Bool.{and_parts, and_from, le-leb}
 use Rattle.std.proofs.lemmas.List.{drop_all}
 use Rattle.std.proofs.lemmas.List.Elements.{All-from_recursion}
+use Rattle.weighted_automata.specs.declared.place.Place.{Place}
 use Rattle.config_patterns.specs.declared.item.Item.{Item}
 use Rattle.config_patterns.specs.declared.edge.Edge.{Edge}
+use Rattle.config_patterns.specs.Membership.{Described}
 use Rattle.config_patterns.specs.Edges.{edges_of, is_final_of, is_starred, leads_to, stays_on}
 use Rattle.config_patterns.proofs.OfSkips.{edges_are}
 use Rattle.saturation_core.specs.Lists.{IsIn}
-use Rattle.saturation_core.proofs.InLists.{from_filter, from_range}
-use Rattle.pattern_openings.specs.PatternOpenings.{state_of, place_of_edge, finals_of_items, IsEdgeOf}
+use Rattle.saturation_core.proofs.InLists.{in_map, from_map, from_filter, from_range}
+use Rattle.pattern_openings.specs.PatternOpenings.{state_of, place_of_edge, finals_of_items, opening_of, IsEdgeOf}
 use Rattle.pattern_openings.proofs.OfReads.{in_edges, is_final}
 
 leads_within : (items : List Item) (k g : ℕ) → leads_to items k g ≡ true → k < length items
@@ -77,6 +79,23 @@ pub last_is_final : (items : List Item) → IsIn (length items) (finals_of_items
 last_is_final items =
     is_final items (length items) (and_from (nat_le (length items) (length items)) (list_all is_starred (drop (length items) items)) (le-leb (length items) (length items) (omega arith))
     (ap (list_all is_starred) (drop_all (length items) items (omega arith))))
+
+-- as they stand in an opening
+module _ (pattern : Described) (controls : ℕ) where
+  pub opening_edge : (x : Place) → IsIn x (opening_of controls pattern).edges → IsEdgeOf controls pattern.control (length pattern.items) x
+  opening_edge x there =
+      let e = from_map (place_of_edge controls pattern.control) x (edges_of pattern.items) there in
+      let P : Place → Type 0 = IsEdgeOf controls pattern.control (length pattern.items) in
+      subst P e.is (edge_is controls pattern.control pattern.items e.before e.there)
+
+  pub opening_final : (q : ℕ) → pattern.control < controls → IsIn q (opening_of controls pattern).finals → q < controls + length pattern.items
+  opening_final q low there =
+      let i = from_map (state_of controls pattern.control) q (finals_of_items pattern.items) there in
+      let P : ℕ → Type 0 = λ n. n < controls + length pattern.items in
+      subst P i.is (final_is_state controls pattern.control pattern.items low i.before i.there)
+
+  pub opening_last : IsIn (state_of controls pattern.control (length pattern.items)) (opening_of controls pattern).finals
+  opening_last = in_map (state_of controls pattern.control) (length pattern.items) (finals_of_items pattern.items) (last_is_final pattern.items)
 
 all_in : (P : Edge → Type 0) (es : List Edge) → ((e : Edge) → IsIn e es → P e) → AllByRecursion P es
 all_in P [] each = tt

@@ -4,6 +4,8 @@
 
 mod laws;
 mod opening;
+mod over;
 
-pub use laws::openings_read_members;
+pub use laws::{openings_join_states, openings_read_members};
 pub use opening::opening_of;
+pub use over::is_over;

@@ -6,6 +6,7 @@ pub mod OfFiring
 pub mod OfMachines
 pub mod OfValues
 pub mod OfSplits
+pub mod OfPlainRuns
 pub mod Walks
 pub mod OfRuns
 pub mod OfAnswers

@@ -21,24 +21,25 @@ map_each Q f each [] = tt
 map_each Q f each (x ∷ xs) = (each x, map_each Q f each xs)
 
 module _ {S W Map : Type 0} (operations : S → Operations W Map) (laws : (x : S) → IsSemiring (operations x)) (p : Pushdown S W Map) (valid : IsSystem operations p) where
-  below_other : (from to : Configuration → Bool) (v w : W) (xs ys : List (List ℕ)) → Answers (operations p.semiring) p from to v xs → Answers (operations p.semiring) p from to w ys
-      → Fits (operations p.semiring) v → Below (operations p.semiring) v w
-  below_other from to v w xs ys one other fit =
-      let s = operations p.semiring in
-      let each : AllByRecursion (Below s v) (map (value_of s p) ys) = map_all (Leads s p from to) (Below s v) (value_of s p) one.below ys other.lead in
-      let P : W → Type 0 = λ x. Below s v x in
-      subst P (sym other.combined) (below_combination (laws p.semiring) v (map (value_of s p) ys) fit (map_each (Fits s) (value_of s p) (value_fits valid (laws p.semiring)) ys) each)
-
-  answer_fits : (from to : Configuration → Bool) (v : W) (xs : List (List ℕ)) → Answers (operations p.semiring) p from to v xs → Fits (operations p.semiring) v
+  pub answer_fits : (from to : Configuration → Bool) (v : W) (xs : List (List ℕ)) → Answers (operations p.semiring) p from to v xs → Fits (operations p.semiring) v
   answer_fits from to v xs answer =
       let s = operations p.semiring in
       subst (Fits s) (sym answer.combined) (fits (laws p.semiring) (map (value_of s p) xs) (map_each (Fits s) (value_of s p) (value_fits valid (laws p.semiring)) xs))
+
+  -- what is below the value of each run is below the answer
+  pub greatest_below : (from to : Configuration → Bool) (v w : W) (xs : List (List ℕ)) → Answers (operations p.semiring) p from to v xs → Fits (operations p.semiring) w
+      → ((run : List ℕ) → Leads (operations p.semiring) p from to run → Below (operations p.semiring) w (value_of (operations p.semiring) p run)) → Below (operations p.semiring) w v
+  greatest_below from to v w xs answer fit low =
+      let s = operations p.semiring in
+      let each : AllByRecursion (Below s w) (map (value_of s p) xs) = map_all (Leads s p from to) (Below s w) (value_of s p) low xs answer.lead in
+      let P : W → Type 0 = λ x. Below s w x in
+      subst P (sym answer.combined) (below_combination (laws p.semiring) w (map (value_of s p) xs) fit (map_each (Fits s) (value_of s p) (value_fits valid (laws p.semiring)) xs) each)
 
   pub one_answer : (from to : Configuration → Bool) (v w : W) (xs ys : List (List ℕ)) → Answers (operations p.semiring) p from to v xs → Answers (operations p.semiring) p from to w ys → v ≡ w
   one_answer from to v w xs ys one other =
       let fit = answer_fits from to v xs one in
       let fit' = answer_fits from to w ys other in
-      below_each_other (laws p.semiring) v w fit fit' (below_other from to v w xs ys one other fit) (below_other from to w v ys xs other one fit')
+      below_each_other (laws p.semiring) v w fit fit' (greatest_below from to w v ys other fit one.below) (greatest_below from to v w xs one fit' other.below)
 
   -- where the answer is zero, so is the value of each run
   pub zero_for_each : (from to : Configuration → Bool) (v : W) (xs : List (List ℕ)) → Answers (operations p.semiring) p from to v xs → v ≡ (operations p.semiring).zero

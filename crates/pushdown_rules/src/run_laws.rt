@@ -3,6 +3,8 @@ ghost use Rattle.pushdown_rules.specs.declared.rule.Rule.{Rule as RuleValue};
 ghost use Rattle.pushdown_rules.specs.Configuration.{Configuration, at_stack};
 ghost use Rattle.pushdown_rules.specs.Pushdown.{Pushdown, IsSystem};
 ghost use Rattle.pushdown_rules.specs.Firing.{Run, end_of};
+ghost use Rattle.std.specs.List.{AllByRecursion};
+ghost use Rattle.pushdown_rules.specs.RunValue.{weights_product, HasPlainMap};
 ghost use Rattle.pushdown_rules.specs.Values.{rules_of, value_of, LeavesNoCall};
 ghost use Rattle.pushdown_rules.specs.Splits.{Falls, Stays};
 
@@ -58,4 +60,12 @@ pub fn calls_return<S: Semiring>()
     ensures open_call { (p : Pushdown S S.W S.Ret) (k : ℕ) (r : RuleValue S S.W S.Ret) (h : S.Ret) (c d : Configuration) (a : List ℕ) → IsSystem S.operations p →
         slice_get p.rules k ≡ Some r → r.map ≡ Some h → Run p c a d → length c.stack ≡ 1 → (d.stack ≡ [] → ⊥) →
         value_of (S.operations p.semiring) p (k ∷ a) ≡ (S.operations p.semiring).extend r.weight (value_of (S.operations p.semiring) p a) }
+{}
+
+/// Where no rule of a run has another return map than the plain one, the value of the run is the product of its rules'
+/// weights (Reps, Schwoon, Jha, Melski 2005).
+pub fn plain_runs_multiply<S: Semiring>()
+    ensures { (p : Pushdown S S.W S.Ret) (run : List ℕ) → IsSystem S.operations p →
+        AllByRecursion (HasPlainMap (S.operations p.semiring)) (rules_of (S.operations p.semiring) p run) →
+        value_of (S.operations p.semiring) p run ≡ weights_product (S.operations p.semiring) (rules_of (S.operations p.semiring) p run) }
 {}

@@ -1,3 +1,4 @@
 pub mod Semiring
 pub mod Reach
 pub mod Combination
+pub mod Chains

@@ -1,7 +1,8 @@
-ghost use Rattle.std.specs.Prelude.{◌≡◌, List, ◌∷◌, ◌++◌, All, map, IsPermutation};
+ghost use Rattle.std.specs.Prelude.{◌≡◌, ◌<◌, ◌≤◌, ◌≢◌, List, ◌∷◌, ◌++◌, All, length, map, IsPermutation};
 ghost use Rattle.std.specs.List.{Contains};
 ghost use Rattle.semiring_laws.specs.Semiring.{Fits, FitsMap, Below};
 ghost use Rattle.semiring_laws.specs.Combination.{combination};
+ghost use Rattle.semiring_laws.specs.Chains.{IsFalling};
 
 use crate::Semiring;
 
@@ -59,4 +60,14 @@ pub fn operations_distribute<S: Semiring>()
         (S.operations x).extend (combination (S.operations x) ws) b ≡ combination (S.operations x) (map (λ w. (S.operations x).extend w b) ws) }
     ensures after { (x : S) (h : S.Ret) (ws : List S.W) → FitsMap (S.operations x) h → All (Fits (S.operations x)) ws →
         (S.operations x).after h (combination (S.operations x) ws) ≡ combination (S.operations x) (map (λ w. (S.operations x).after h w) ws) }
+{}
+
+/// Weights fall only finitely often: no rank is over the top one, and a weight can be lowered at most as often as its
+/// rank says.
+pub fn chains_are_short<S: Semiring>()
+    ensures rank { (x : S) (a : S.W) → Fits (S.operations x) a → (S.operations x).rank a ≤ (S.operations x).top_rank }
+    ensures falls { (x : S) (a b : S.W) → Fits (S.operations x) a → Fits (S.operations x) b → Below (S.operations x) b a → b ≢ a →
+        (S.operations x).rank b < (S.operations x).rank a }
+    ensures chain { (x : S) (a : S.W) (bs : List S.W) → Fits (S.operations x) a → IsFalling (S.operations x) a bs →
+        length bs ≤ (S.operations x).rank a }
 {}

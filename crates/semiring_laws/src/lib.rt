@@ -10,7 +10,7 @@ mod tests;
 
 pub use combination::combine_all;
 pub use laws::{
-    below_is_an_order, combination_is_greatest_below, combination_is_of_members,
+    below_is_an_order, chains_are_short, combination_is_greatest_below, combination_is_of_members,
     combine_is_greatest_below, operations_distribute, operations_keep_below,
 };
 pub use reach::{NoMap, Reach};

@@ -1,4 +1,6 @@
-use crate::{Label, Place, Transitions};
+use crate::{
+    Label, Place, Transitions, lowering_changes_one_place, places_are_told_apart, places_stand_once,
+};
 use semiring_laws::Reach;
 use std::test::Fail;
 
@@ -71,5 +73,8 @@ fn room_first(rt: HostRuntime) -> Result<(), Fail> {
         assert!(rt; transitions.has_room(at));
     }
     assert!(rt; !transitions.has_room(place(0, B, 1)));
+    places_are_told_apart();
+    places_stand_once::<Reach>();
+    lowering_changes_one_place::<Reach>();
     Ok(())
 }

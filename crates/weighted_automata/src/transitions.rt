@@ -129,6 +129,8 @@ impl<S: Semiring> Transitions<S> {
         ensures kept { (x : PlaceValue) → IsTrue (has_place x self.old.room) → IsTrue (has_place x self.new.room) }
         ensures present { IsSome (entry_at place self.old.transitions) → IsOk result }
         ensures room { IsTrue (has_place place self.old.room) → IsOk result }
+        ensures only { (x : PlaceValue) → IsTrue (has_place x self.new.room) → IsTrue (has_place x (place ∷ self.old.room)) }
+        ensures room_stays { OnErr result (self.new.room ≡ self.old.room) }
     {
         let entry = Entry {
             place,
@@ -153,6 +155,7 @@ impl<S: Semiring> Transitions<S> {
         ensures transitions { self.new.transitions ≡ self.old.transitions }
         ensures named { OnOk result ((x : PlaceValue) → IsTrue (has_place x places.now) → IsTrue (has_place x self.new.room)) }
         ensures kept { (x : PlaceValue) → IsTrue (has_place x self.old.room) → IsTrue (has_place x self.new.room) }
+        ensures only { (x : PlaceValue) → IsTrue (has_place x self.new.room) → IsTrue (has_place x (places.now ++ self.old.room)) }
     {
         for place in places {
             self.make_room(*place)?;
@@ -172,6 +175,7 @@ impl<S: Semiring> Transitions<S> {
         ensures transitions { self.new.transitions ≡ self.old.transitions }
         ensures named { OnOk result (IsTrue (has_place place self.new.room)) }
         ensures kept { (x : PlaceValue) → IsTrue (has_place x self.old.room) → IsTrue (has_place x self.new.room) }
+        ensures only { (x : PlaceValue) → IsTrue (has_place x self.new.room) → IsTrue (has_place x (place ∷ self.old.room)) }
     {
         if self.has_room(place) {
             return Ok(());

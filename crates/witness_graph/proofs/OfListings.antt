@@ -1,6 +1,6 @@
 -- A listing has the runs of its root.
 use Rattle.std.proofs.Common.{◌≡◌, ℕ, suc, ◌+◌, ◌-◌, ◌<◌, true, List, [], ◌∷◌, ◌++◌, length, get_or, take, drop, map, refl, sym, ap, ◌∙◌, subst, inl, inr, arith}
-use Rattle.std.specs.Prelude.{Option, None, Some, IfSome, is_some, ◌||◌, option_map, option_and_then, ◌⊎◌}
+use Rattle.std.specs.Prelude.{Option, None, Some, IfSome, is_some, ◌||◌, option_map, option_and_then, slice_get, ◌⊎◌}
 use Rattle.std.specs.List.{AllByRecursion}
 use Rattle.std.specs.Prelude.{All}
 use Rattle.std.proofs.lemmas.List.Elements.{All-from_recursion}
@@ -55,7 +55,7 @@ kept_node (Lower before rule first second) =
     ∙ ap (λ s. Lower before rule first s) (kept_option second)
 
 -- more nodes leave the runs of those that were
-runs_of-append : (side : Side) (ns ms : List Node) (k : ℕ) → k < length ns → runs_of side (ns ++ ms) k ≡ runs_of side ns k
+pub runs_of-append : (side : Side) (ns ms : List Node) (k : ℕ) → k < length ns → runs_of side (ns ++ ms) k ≡ runs_of side ns k
 runs_of-append side ns [] k within = ap (λ l. runs_of side l k) (append-nil ns)
 runs_of-append side ns (m ∷ ms) k within =
     ap (λ l. runs_of side l k) (sym (append_assoc ns (m ∷ []) ms))
@@ -82,6 +82,13 @@ runs_of-node side nodes all k within =
     ∙ ap (runs_over side (runs_of side nodes)) (kept_node n)
 
 -- Lists of numbers: each of a list is listed, and nodes that name listed ones alone keep their new names.
+-- as a graph's node at a number has it
+pub runs_of-at : (side : Side) (nodes : List Node) → AreNodes nodes → (k : ℕ) (n : Node) → slice_get nodes k ≡ Some n → runs_of side nodes k ≡ runs_over side (runs_of side nodes) n
+runs_of-at side nodes all k n at =
+    let within : k < length nodes = slice_get_within nodes k n at in
+    let is : node_at nodes k ≡ n = same_Some (node_at nodes k) n (sym (slice_get-get_or nodes k Start within) ∙ at) in
+    runs_of-node side nodes all k within ∙ ap (runs_over side (runs_of side nodes)) is
+
 pub members_from : (pre xs : List ℕ) → AllByRecursion (λ x. is_listed (pre ++ xs) x ≡ true) xs
 members_from pre [] = tt
 members_from pre (x ∷ xs) =

@@ -1,4 +1,7 @@
-use crate::{Graph, Node, Overlay, Side, listing_stays_tight, post_order_has_the_reached};
+use crate::{
+    Graph, Node, Overlay, Side, listing_stays_tight, post_order_has_the_reached,
+    runs_are_those_of_parts,
+};
 use semiring_laws::Reach;
 use std::alloc::Global;
 use std::test::Fail;
@@ -124,6 +127,7 @@ fn listings(rt: HostRuntime) -> Result<(), Fail> {
     }
     listing_stays_tight::<Reach>();
     post_order_has_the_reached();
+    runs_are_those_of_parts();
     Ok(())
 }
 

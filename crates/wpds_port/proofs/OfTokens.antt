@@ -45,6 +45,9 @@ has_first (Number []) h = cc
 has_first (Number (b ∷ bs)) h = record { first = b; more = bs; text = refl; not_blank = digit_is_not_blank b (and_parts (is_digit b) (list_all is_digit bs) h).0 }
 has_first (Sign m) h = mark_first m
 
+pub word_some : (w : Word) → is_word w ≡ true → 1 ≤ length (word_text w)
+word_some w h = let f = has_first w h in omega (arith, ap length f.text)
+
 -- ---- from the relation to the function
 
 skipped : (place : ℕ) (xs rest : List ℕ) → tokens_from place (length xs) (xs ++ rest) ≡ tokens_from (place + length xs) 0 rest

@@ -1,5 +1,5 @@
 -- How a line is cut into tokens.
-use Rattle.std.specs.Prelude.{◌≡◌, ◌++◌, IsTrue, ◌≢◌, ℕ, zero, suc, ◌+◌, ◌-◌, Bool, true, false, not, ◌||◌, ◌&&◌, ◌==◌, nat_le, nat_eq, if◌then◌else◌, List, [], ◌∷◌, length, find, Option, Some, None, option_map, codes, cond}
+use Rattle.std.specs.Prelude.{◌≡◌, ◌++◌, IsTrue, ◌≢◌, ℕ, zero, suc, ◌+◌, ◌-◌, ◌≤◌, ◌<◌, Bool, true, false, not, ◌||◌, ◌&&◌, ◌==◌, nat_le, nat_eq, if◌then◌else◌, List, [], ◌∷◌, length, take, drop, find, Option, Some, None, option_map, codes, cond}
 use Rattle.std.specs.List.{starts_with, list_all}
 pub use Rattle.wpds_port.specs.declared.token.Mark.{Mark}
 pub use Rattle.wpds_port.specs.declared.token.Mark.TheVariants.{Arrow, Implies, Becomes, Differs, Colon, Semicolon, Comma, Dot, Star, Plus, Minus, Equal, Question, Not, And, Or, Xor, Open, Close, OpenBrace, CloseBrace}
@@ -146,6 +146,23 @@ pub record IsFirst (place : ℕ) (text : List ℕ) (t : Token) (blanks rest : Li
 abbrev pub AreTokens : ℕ → List ℕ → List Token → Type 0
 AreTokens place text [] = IsTrue (list_all is_blank text)
 AreTokens place text (t ∷ ts) = (blanks : List ℕ) × (rest : List ℕ) × IsFirst place text t blanks rest × AreTokens t.end rest ts
+
+-- ---- where tokens stand in their line
+
+-- no word that the text begins with is longer than this one, behind which the rest comes
+abbrev pub IsLongest : Word → List ℕ → Type 0
+IsLongest w rest = (v : Word) (more : List ℕ) → IsTrue (is_word v) → word_text w ++ rest ≡ word_text v ++ more → length (word_text v) ≤ length (word_text w)
+
+-- the bytes of the line from the token's start up to its end are its text
+pub record StandsIn (line : List ℕ) (t : Token) : Type 0 where
+  pub some : t.start < t.end
+  pub within : t.end ≤ length line
+  pub text : take (t.end - t.start) (drop t.start line) ≡ word_text t.word
+
+-- each token begins where the one before ends or behind, the first one at the place or behind
+abbrev pub AreInOrder : ℕ → List Token → Type 0
+AreInOrder place [] = Unit {0}
+AreInOrder place (t ∷ ts) = (place ≤ t.start) × AreInOrder t.end ts
 
 -- ---- where the cutting stops at a byte that begins no token
 

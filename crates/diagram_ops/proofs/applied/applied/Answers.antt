@@ -1,10 +1,12 @@
-use Rattle.std.proofs.Common.{◌≡◌, ℕ, List, ◌∙◌}
+use Rattle.std.proofs.Common.{◌≡◌, ℕ, Bool, List, ◌∙◌}
 use Rattle.diagram_store.specs.declared.branch.Branch.{Branch}
 use Rattle.diagram_store.specs.Nodes.{IsAbove}
 use Rattle.diagram_store.specs.Meaning.{value_at}
 use Rattle.diagram_ops.specs.Images.{IsValue}
 use Rattle.diagram_ops.proofs.OfKeeping.{keeps_within, keeps_both, stands_kept}
 use Rattle.diagram_ops.proofs.OfApplying.{value3_same}
+use Rattle.truth_tables.specs.Tables.{value3_of}
+use Rattle.diagram_ops.proofs.OfVariables.{applied_below}
 use Rattle.diagram_ops.proofs.applied.applied.Goals as goal
 
 pub apply-requires-clause-x : goal.apply-requires-clause-x
@@ -14,8 +16,8 @@ apply-requires-clause-x c =
 pub apply-requires-clause-y : goal.apply-requires-clause-y
 apply-requires-clause-y c = keeps_within c.load-2.new.scratch c.load-3.new.scratch c.in_ok-z.ensures.keeps c.in_ok-y.y c.in_ok-y.ensures.stands.within
 
-pub returns : goal.returns
-returns c = λ bits.
+pub returns-clause-value : goal.returns-clause-value
+returns-clause-value c = λ bits.
     let end : List Branch = c.apply.new.scratch in
     let done = c.in_ok-root.ensures in
     let k3 = done.keeps in
@@ -28,3 +30,9 @@ returns c = λ bits.
     ∙ value3_same c.args.table (value_at end c.in_ok-x.x bits) (value_at end c.in_ok-y.y bits) (value_at end c.in_ok-z.z bits)
     (value_at c.args.a.now.nodes c.args.a.now.root bits) (value_at c.args.b.now.nodes c.args.b.now.root bits) (value_at c.args.c.now.nodes c.args.c.now.root bits)
     (x.means bits) (y.means bits) (z.means bits)
+
+pub returns-clause-variables : goal.returns-clause-variables
+returns-clause-variables c = λ limit.
+    applied_below limit c.in_ok-made.made.nodes c.in_ok-made.made.root c.in_ok-made.made.is_canonical c.args.table
+    c.args.a.now.nodes c.args.a.now.root c.args.a.now.is_canonical.reduced c.args.b.now.nodes c.args.b.now.root c.args.b.now.is_canonical.reduced
+    c.args.c.now.nodes c.args.c.now.root c.args.c.now.is_canonical.reduced (returns-clause-value c)

@@ -1,9 +1,9 @@
-use Rattle.std.proofs.Common.{◌≡◌, true, false, ◌++◌, length, sym, ap, ◌∙◌, subst, arith}
+use Rattle.std.proofs.Common.{◌≡◌, true, false, ◌∷◌, ◌++◌, length, sym, ap, ◌∙◌, subst, arith}
 use Rattle.std.specs.Prelude.{Some, is_some, unwrap_or}
 use Rattle.weighted_automata.specs.Places.{has_place}
 use Rattle.weighted_automata.specs.Entries.{index_at, lowered, places_of, HasDistinctPlaces}
 use Rattle.weighted_automata.proofs.OfEntries.{distinct-lowered, lowered_at, lowered_last, index_at-lowered}
-use Rattle.weighted_automata.proofs.OfRoom.{missed_has, room_kept, room_stays, waits_beside}
+use Rattle.weighted_automata.proofs.OfRoom.{missed_has, room_kept, room_stays, room_only, without_only, waits_beside}
 use Rattle.weighted_automata.proofs.transitions.Transitions.lower.Goals as goal
 
 -- Where the place is there its entry is written.
@@ -31,6 +31,12 @@ returns-in-Some-clause-kept g c = λ z h.
     ap (λ ts. has_place z (places_of ts ++ c.self.inside.waiting.items)) (replaced g c)
     ∙ room_stays c.args.place c.args.weight c.args.node z c.self.inside.entries.items c.self.inside.waiting.items (ap (λ v. has_place z v.room) c.self.view_is ∙ h)
 
+pub returns-in-Some-clause-only : goal.returns-in-Some-clause-only
+returns-in-Some-clause-only g c = λ z h.
+    ap (λ v. has_place z (c.args.place ∷ v.room)) (sym c.self.view_is)
+    ∙ room_only c.args.place c.args.weight c.args.node z c.self.inside.entries.items c.self.inside.waiting.items c.self.inside.waiting.items (λ e. e)
+    (sym (ap (λ ts. has_place z (places_of ts ++ c.self.inside.waiting.items)) (replaced g c)) ∙ h)
+
 -- Else it is added last.
 added : (g : _) (c : goal.In_ok-add-in-None g) → c.add.new.entries.items ≡ lowered c.args.place c.args.weight c.args.node c.self.inside.entries.items
 added g c = c.in_ok-add-in-None.ensures.ok
@@ -57,6 +63,13 @@ returns-in_ok-add-in-None-clause-kept g c = λ z h.
     ap (λ ts. has_place z (places_of ts ++ c.add.new.waiting.items)) (added g c)
     ∙ ap (λ ws. has_place z (places_of (lowered c.args.place c.args.weight c.args.node c.self.inside.entries.items) ++ ws)) c.in_ok-add-in-None.ensures.left
     ∙ room_kept c.args.place c.args.weight c.args.node z c.self.inside.entries.items c.self.inside.waiting.items (ap (λ v. has_place z v.room) c.self.view_is ∙ h)
+
+pub returns-in_ok-add-in-None-clause-only : goal.returns-in_ok-add-in-None-clause-only
+returns-in_ok-add-in-None-clause-only g c = λ z h.
+    ap (λ v. has_place z (c.args.place ∷ v.room)) (sym c.self.view_is)
+    ∙ room_only c.args.place c.args.weight c.args.node z c.self.inside.entries.items c.self.inside.waiting.items c.add.new.waiting.items
+    (λ e. without_only c.args.place z c.self.inside.waiting.items (sym (ap (has_place z) c.in_ok-add-in-None.ensures.left) ∙ e))
+    (sym (ap (λ ts. has_place z (places_of ts ++ c.add.new.waiting.items)) (added g c)) ∙ h)
 
 pub returns-in_err-add-in-None-clause-present : goal.returns-in_err-add-in-None-clause-present
 returns-in_err-add-in-None-clause-present g c = λ h.

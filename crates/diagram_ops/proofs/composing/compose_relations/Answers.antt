@@ -1,0 +1,30 @@
+use Rattle.std.proofs.Common.{◌≡◌, ℕ, ◌*◌, Bool, List}
+use Rattle.std.specs.Prelude.{◌↔◌, IsTrue}
+use Rattle.diagram_store.specs.declared.branch.Branch.{Branch}
+use Rattle.diagram_store.specs.Nodes.{IsAbove}
+use Rattle.diagram_ops.specs.Images.{IsValue}
+use Rattle.diagram_ops.proofs.OfKeeping.{keeps_within, keeps_both, stands_kept}
+use Rattle.diagram_ops.specs.Relations.{relates}
+use Rattle.diagram_ops.proofs.OfVariables.{composed_below}
+use Rattle.diagram_ops.proofs.OfRelations.{relates_composed}
+use Rattle.diagram_ops.proofs.composing.compose_relations.Goals as goal
+
+pub compose-requires-clause-x : goal.compose-requires-clause-x
+compose-requires-clause-x c = keeps_within c.load.new.scratch c.load-2.new.scratch c.in_ok-y.ensures.keeps c.in_ok-x.x c.in_ok-x.ensures.stands.within
+
+pub returns-clause-relates : goal.returns-clause-relates
+returns-clause-relates c =
+    let end : List Branch = c.compose.new.scratch in
+    let done = c.in_ok-root.ensures in
+    let k1 = keeps_both c.load.new.scratch c.load-2.new.scratch end c.in_ok-y.ensures.keeps done.keeps in
+    let x = stands_kept c.load.new.scratch c.in_ok-x.ensures.reduced end done.reduced k1 c.in_ok-x.x (IsValue c.args.a.now.nodes c.args.a.now.root) (λ v. IsAbove c.args.a.now.nodes v c.args.a.now.root) c.in_ok-x.ensures.stands in
+    let y = stands_kept c.load-2.new.scratch c.in_ok-y.ensures.reduced end done.reduced done.keeps c.in_ok-y.y (IsValue c.args.b.now.nodes c.args.b.now.root) (λ v. IsAbove c.args.b.now.nodes v c.args.b.now.root) c.in_ok-y.ensures.stands in
+    relates_composed end done.reduced c.in_ok-x.x c.in_ok-y.y c.in_ok-root.root done.composed.stands.means
+    c.args.a.now.nodes c.args.a.now.root x.means c.args.b.now.nodes c.args.b.now.root y.means
+    c.in_ok-made.made.nodes c.in_ok-made.made.root c.in_ok-made.ensures
+
+pub returns-clause-variables : goal.returns-clause-variables
+returns-clause-variables c =
+    composed_below (2 * c.args.n) c.in_ok-made.made.nodes c.in_ok-made.made.root c.in_ok-made.made.is_canonical
+    c.args.a.now.nodes c.args.a.now.root c.args.a.now.is_canonical.reduced c.requires.first
+    c.args.b.now.nodes c.args.b.now.root c.args.b.now.is_canonical.reduced c.requires.second (returns-clause-relates c)

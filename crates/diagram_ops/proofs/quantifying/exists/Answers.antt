@@ -1,0 +1,13 @@
+use Rattle.std.proofs.Common.{sym, ◌∙◌}
+use Rattle.diagram_ops.proofs.OfVariables.{quantified_below}
+use Rattle.diagram_ops.proofs.quantifying.exists.Goals as goal
+
+pub returns-clause-value : goal.returns-clause-value
+returns-clause-value c = λ bits.
+    let means = c.in_ok-root.ensures.stands.means bits in
+    (λ holds. means.0 (sym (c.in_ok-made.ensures bits) ∙ holds), λ o. c.in_ok-made.ensures bits ∙ means.1 o)
+
+pub returns-clause-variables : goal.returns-clause-variables
+returns-clause-variables c = λ limit below.
+    quantified_below limit c.in_ok-made.made.nodes c.in_ok-made.made.root c.in_ok-made.made.is_canonical
+    c.args.a.now.nodes c.args.a.now.root c.args.a.now.is_canonical.reduced below c.args.vars.now (returns-clause-value c)

@@ -1,0 +1,164 @@
+ghost use Rattle.std.specs.Prelude.{◌≡◌, ◌↔◌, ◌+◌, ◌*◌, ◌/◌, ◌<◌, ◌^◌, ℕ, Bool, true, false, IsTrue, IfOk, IfSome, length};
+ghost use Rattle.diagram_store.specs.Nodes.{IsReduced, IsAbove, HasVariablesBelow};
+ghost use Rattle.diagram_ops.specs.Applying.{AreApplied, lower, place, cofactor_at};
+ghost use Rattle.diagram_ops.specs.Composing.{AreComposed, Composes, IsJoined};
+ghost use Rattle.diagram_ops.specs.Composing as composing;
+ghost use Rattle.diagram_ops.specs.Relations.{relates};
+ghost use Rattle.diagram_ops.specs.Scratch.{Keeps, Stands};
+ghost use Rattle.diagram_ops.specs.Tables.{known};
+ghost use Rattle.diagram_ops.specs.declared.composing.Side.TheVariants.{First, Second};
+
+use crate::applying::{OR, apply};
+use crate::copying::copied_out;
+use crate::loading::load;
+use crate::scratch::Scratch;
+use crate::table::Table;
+use bumpalo::Bump;
+use diagram_store::Diagram;
+use std::alloc::Global;
+use wpds_port::OutOfMemory;
+
+/// The relation that leads from `x` to `z` exactly where `a` leads from `x` to some `y`, and `b` from `y` to `z`.
+///
+/// The relations are over the old and the new values of `n` bits: variable `2 i` is the old value of `i`, and
+/// `2 i + 1` the new one. Conjunction and quantification are one walk through pairs of references, each of
+/// which is worked out once (Burch, Clarke, McMillan, Dill, Hwang 1990).
+pub fn compose_relations(
+    alloc: Global,
+    n: u32,
+    a: &Diagram,
+    b: &Diagram,
+) -> Result<Diagram, OutOfMemory>
+    requires first { HasVariablesBelow (2 * n) a.now.nodes }
+    requires second { HasVariablesBelow (2 * n) b.now.nodes }
+    ensures relates { IfOk result (λ d. (old new : ℕ → Bool) → IsTrue (relates d.nodes d.root old new)
+        ↔ ((middle : ℕ → Bool) × IsTrue (relates a.now.nodes a.now.root old middle) × IsTrue (relates b.now.nodes b.now.root middle new))) }
+    ensures variables { IfOk result (λ d. HasVariablesBelow (2 * n) d.nodes) }
+{
+    let arena = Bump::new(alloc);
+    let mut scratch = Scratch::new(alloc, &arena);
+    let x = load(alloc, &mut scratch, a)?;
+    let y = load(alloc, &mut scratch, b)?;
+    let mut results = Table::new(alloc);
+    let mut joins = Table::new(alloc);
+    let root = compose(&mut scratch, &mut results, &mut joins, x, y)?;
+    let made = copied_out(alloc, &scratch, root)?;
+    Ok(made)
+}
+
+// One of the two relations. The new values of the first are the old ones of the second.
+#[derive(Clone, Copy)]
+pub enum Side {
+    First,
+    Second,
+}
+
+// The composition of two references. Each pair is worked out once.
+fn compose(
+    scratch: &mut Scratch,
+    results: &mut Table,
+    joins: &mut Table,
+    x: u64,
+    y: u64,
+) -> Result<u64, OutOfMemory>
+    requires reduced { IsReduced scratch.old }
+    requires x { x < length scratch.old + 2 }
+    requires y { y < length scratch.old + 2 }
+    requires results { AreComposed scratch.old (known results.old) }
+    requires joins { AreApplied 252 scratch.old (known joins.old) }
+    ensures { IfOk result (λ r. Composes scratch.old scratch.new (known results.new) (known joins.new) x y r) }
+{
+    if x == 0 || y == 0 {
+        return Ok(0);
+    }
+    let Some(place) = lowest(scratch, x, y) else {
+        return Ok(1);
+    };
+    if let Some(result) = results.get(x, y, 0) {
+        return Ok(result);
+    }
+    let xs = branches(scratch, Side::First, place, x);
+    let ys = branches(scratch, Side::Second, place, y);
+    let low = compose(scratch, results, joins, xs.0, ys.0)?;
+    let high = compose(scratch, results, joins, xs.1, ys.1)?;
+    let result = join(scratch, joins, place, low, high)?;
+    results.insert(x, y, 0, result)?;
+    Ok(result)
+}
+
+// The disjunction at the place of a value in the middle, else the choice by the variable that stays.
+fn join(
+    scratch: &mut Scratch,
+    joins: &mut Table,
+    place: u64,
+    low: u64,
+    high: u64,
+) -> Result<u64, OutOfMemory>
+    requires reduced { IsReduced scratch.old }
+    requires place { place / 2 < 2 ^ 32 }
+    requires low { low < length scratch.old + 2 }
+    requires high { high < length scratch.old + 2 }
+    requires low_above { IsAbove scratch.old (place / 2) low }
+    requires high_above { IsAbove scratch.old (place / 2) high }
+    requires joins { AreApplied 252 scratch.old (known joins.old) }
+    ensures reduced { IfOk result (λ _. IsReduced scratch.new) }
+    ensures keeps { IfOk result (λ _. Keeps scratch.old scratch.new) }
+    ensures joins { IfOk result (λ _. AreApplied 252 scratch.new (known joins.new)) }
+    ensures stands { IfOk result (λ r. Stands scratch.new r (IsJoined scratch.new place low high) (λ v. 2 * v < place)) }
+{
+    if place % 2 == 1 {
+        let joined = apply(scratch, joins, OR, low, high, 0)?;
+        return Ok(joined);
+    }
+    let chosen = scratch.branch((place / 2) as u32, low, high)?;
+    Ok(chosen)
+}
+
+// The lowest place of two references, if one of them is a node.
+fn lowest(scratch: &Scratch, x: u64, y: u64) -> Option<u64>
+    ensures lowest { result ≡ lower (place (composing.position First) scratch.now x) (place (composing.position Second) scratch.now y) }
+    ensures of_variable { IfSome result (λ p. p / 2 < 2 ^ 32) }
+    ensures reduced { IsReduced scratch.now }
+{
+    let first = place_of(scratch, Side::First, x);
+    let second = place_of(scratch, Side::Second, y);
+    match (first, second) {
+        (Some(v), Some(w)) => Some(v.min(w)),
+        (Some(v), None) => Some(v),
+        (None, w) => w,
+    }
+}
+
+fn place_of(scratch: &Scratch, side: Side, reference: u64) -> Option<u64>
+    ensures place { result ≡ place (composing.position side) scratch.now reference }
+    ensures of_variable { IfSome result (λ p. p / 2 < 2 ^ 32) }
+    ensures reduced { IsReduced scratch.now }
+{
+    match scratch.node(reference) {
+        Some(node) => Some(position(side, node.var)),
+        None => None,
+    }
+}
+
+// The place of a variable of a relation: those of old, middle and new values of a number follow one another.
+fn position(side: Side, var: u32) -> u64
+    ensures position { result ≡ composing.position side var }
+    ensures of_variable { result / 2 < 2 ^ 32 }
+{
+    let first = 4 * u64::from(var / 2) + u64::from(var % 2);
+    match side {
+        Side::First => first,
+        Side::Second => first + 1,
+    }
+}
+
+// Where the walk goes on from a reference where the bit at a place is false, and where it is true.
+fn branches(scratch: &Scratch, side: Side, place: u64, reference: u64) -> (u64, u64)
+    ensures low { result.0 ≡ cofactor_at (composing.position side) scratch.now place false reference }
+    ensures high { result.1 ≡ cofactor_at (composing.position side) scratch.now place true reference }
+{
+    match scratch.node(reference) {
+        Some(node) if position(side, node.var) == place => (node.low, node.high),
+        _ => (reference, reference),
+    }
+}
