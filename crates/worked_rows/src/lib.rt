@@ -1,5 +1,18 @@
-//! Worked rows that take several crates, as tests.
+//! Worked rows that take several crates, as tests: values of runs, backward saturations by one seat and by two, and the
+//! sums over them.
 #![tactic(auto)]
 
 #[cfg(test)]
+mod openings;
+#[cfg(test)]
+mod patterns;
+#[cfg(test)]
 mod run_values;
+#[cfg(test)]
+mod saturations;
+#[cfg(test)]
+mod seats;
+#[cfg(test)]
+mod sums;
+#[cfg(test)]
+mod systems;

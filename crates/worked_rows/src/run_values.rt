@@ -1,19 +1,12 @@
-ghost use Rattle.std.specs.Prelude.{◌≡◌, ◌<◌, true, All, IfOk};
+ghost use Rattle.std.specs.Prelude.{◌≡◌, ◌<◌, true, All};
 
+use crate::systems::calls;
 use cost_weights::Cost;
-use pushdown_rules::{Config, RuleFault, System};
+use pushdown_rules::{Config, System};
 use semiring_laws::Semiring;
 use std::alloc::Global;
 use std::test::Fail;
 use wpds_port::OutOfMemory;
-
-// Controls p and q, symbols a and b, costs up to 100: p a -> p b a at 2, and p b -> q at 1.
-fn call_and_return(alloc: Global, cost: Cost) -> Result<System<Cost>, RuleFault> {
-    let mut system = System::new(alloc, cost, 2, 2);
-    system.add_rule(alloc, 0, 0, 0, &[1, 0], cost.number(2), None)?;
-    system.add_rule(alloc, 0, 1, 1, &[], cost.number(1), None)?;
-    Ok(system)
-}
 
 fn are_below(count: u32, run: &[u32]) -> bool
     ensures { result ≡ true → All (λ k. k < count) run.now }
@@ -39,7 +32,7 @@ fn value_of<S: Semiring>(
 fn costs_of_runs(rt: HostRuntime) -> Result<(), Fail> {
     let alloc = rt.alloc();
     let cost = Cost::new(100)?;
-    let system = call_and_return(alloc, cost)?;
+    let system = calls(alloc, cost)?;
     let start = Config::new(alloc, 0, &[0])?;
     let rows: [(&[u32], Option<Option<u64>>); 4] = [
         (&[0, 1], Some(Some(3))),

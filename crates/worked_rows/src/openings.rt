@@ -4,7 +4,7 @@ ghost use Rattle.saturation_core.specs.Jobs.{row_of, InputsFit};
 ghost use Rattle.backward_laws.specs.Rows.{pre_rows};
 
 use crate::patterns::{A, pattern_over};
-use crate::saturations::grows;
+use crate::systems::grows;
 use cost_weights::Cost;
 use prestar::{Pre, pre_opening};
 use pushdown_rules::System;

@@ -1,52 +1,39 @@
-ghost use Rattle.std.specs.Prelude.{◌≡◌, IfOk};
+ghost use Rattle.std.specs.Prelude.{◌<◌};
+ghost use Rattle.pattern_openings.specs.PatternOpenings.{IsOver};
 
-use crate::answers::{Items, answer, pattern};
+use crate::patterns::{A, B, C, Items, SOME_A, pattern_over};
+use crate::seats::close_alone;
+use crate::systems::{calls, grows, steps};
+use config_patterns::Pattern;
 use cost_weights::Cost;
-use pushdown_rules::{RuleFault, System};
-use semiring_laws::Reach;
+use path_sum::{Answer, sum};
+use prestar::pre_opening;
+use pushdown_rules::System;
+use semiring_laws::{Reach, Semiring};
 use std::alloc::Global;
 use std::test::Fail;
 use witness_graph::{Node, Side};
-
-const A: (&[u32], bool) = (&[0], false);
-
-const B: (&[u32], bool) = (&[1], false);
-
-const C: (&[u32], bool) = (&[2], false);
-
-const SOME_A: (&[u32], bool) = (&[0], true);
+use wpds_port::OutOfMemory;
 
 // A query: a control and items, a control and items, and the cost of the answer.
 type Query = (u32, Items<'static>, u32, Items<'static>, Option<u64>);
 
-// Controls p and q, symbols a, b and c: p a -> p b a at 2, and p b -> q at 1.
-fn calls(alloc: Global, cost: Cost) -> Result<System<Cost>, RuleFault>
-    ensures { IfOk result (λ s. s.symbols ≡ 3) }
+// The answer between two patterns over a system by backward saturation, if the book is closed at the end.
+fn answer<S: Semiring>(
+    alloc: Global,
+    system: &System<S>,
+    from: &Pattern,
+    to: &Pattern,
+) -> Result<Option<Answer<S>>, OutOfMemory>
+    requires from { from.now.control < system.now.controls }
+    requires to { IsOver system.now.controls system.now.symbols to.now }
 {
-    let mut system = System::new(alloc, cost, 2, 3);
-    system.add_rule(alloc, 0, 0, 0, &[1, 0], cost.number(2), None)?;
-    system.add_rule(alloc, 0, 1, 1, &[], cost.number(1), None)?;
-    Ok(system)
-}
-
-// p a -> p a a at 1, and p a -> p at 0.
-fn grows(alloc: Global, cost: Cost) -> Result<System<Cost>, RuleFault>
-    ensures { IfOk result (λ s. s.symbols ≡ 3) }
-{
-    let mut system = System::new(alloc, cost, 1, 3);
-    system.add_rule(alloc, 0, 0, 0, &[0, 0], cost.number(1), None)?;
-    system.add_rule(alloc, 0, 0, 0, &[], cost.number(0), None)?;
-    Ok(system)
-}
-
-// p a -> p b at 3, and p b -> p c at 3.
-fn steps(alloc: Global, cost: Cost) -> Result<System<Cost>, RuleFault>
-    ensures { IfOk result (λ s. s.symbols ≡ 3) }
-{
-    let mut system = System::new(alloc, cost, 1, 3);
-    system.add_rule(alloc, 0, 0, 0, &[1], cost.number(3), None)?;
-    system.add_rule(alloc, 0, 1, 0, &[2], cost.number(3), None)?;
-    Ok(system)
+    let mut book = pre_opening(alloc, system, to)?;
+    close_alone(alloc, &mut book)?;
+    if !book.is_closed() || from.control() >= book.system().controls() {
+        return Ok(None);
+    }
+    Ok(Some(sum(alloc, &book, from)?))
 }
 
 #[test]
@@ -67,8 +54,8 @@ fn costs_of_calls(rt: HostRuntime) -> Result<(), Fail> {
         (0, &[A, A], 1, &[A, SOME_A], Some(3)),
     ];
     for (control, from, end, to, value) in queries {
-        let from = pattern(alloc, control, 3, from)?;
-        let to = pattern(alloc, end, 3, to)?;
+        let from = pattern_over(alloc, &system, control, from)?;
+        let to = pattern_over(alloc, &system, end, to)?;
         let found = answer(alloc, &system, &from, &to)?;
         assert!(rt; found.is_some());
         if let Some(found) = found {
@@ -91,8 +78,8 @@ fn costs_of_growth(rt: HostRuntime) -> Result<(), Fail> {
         (0, &[A], 0, &[A, A, A, SOME_A], Some(2)),
     ];
     for (control, from, end, to, value) in queries {
-        let from = pattern(alloc, control, 3, from)?;
-        let to = pattern(alloc, end, 3, to)?;
+        let from = pattern_over(alloc, &system, control, from)?;
+        let to = pattern_over(alloc, &system, end, to)?;
         let found = answer(alloc, &system, &from, &to)?;
         assert!(rt; found.is_some());
         if let Some(found) = found {
@@ -108,8 +95,8 @@ fn costs_at_the_cap(rt: HostRuntime) -> Result<(), Fail> {
     // 3 and 3, cut at the cap
     for (cap, value) in [(5, 5u64), (6, 6), (100, 6)] {
         let system = steps(alloc, Cost::new(cap)?)?;
-        let from = pattern(alloc, 0, 3, &[A])?;
-        let to = pattern(alloc, 0, 3, &[C])?;
+        let from = pattern_over(alloc, &system, 0, &[A])?;
+        let to = pattern_over(alloc, &system, 0, &[C])?;
         let found = answer(alloc, &system, &from, &to)?;
         assert!(rt; found.is_some());
         if let Some(found) = found {
@@ -123,8 +110,8 @@ fn costs_at_the_cap(rt: HostRuntime) -> Result<(), Fail> {
 fn the_run_is_listed(rt: HostRuntime) -> Result<(), Fail> {
     let alloc = rt.alloc();
     let system = calls(alloc, Cost::new(100)?)?;
-    let from = pattern(alloc, 0, 3, &[A])?;
-    let to = pattern(alloc, 1, 3, &[A])?;
+    let from = pattern_over(alloc, &system, 0, &[A])?;
+    let to = pattern_over(alloc, &system, 1, &[A])?;
     let found = answer(alloc, &system, &from, &to)?;
     let mut rules = 0u64;
     if let Some(found) = found {
@@ -152,8 +139,8 @@ fn reached_or_not(rt: HostRuntime) -> Result<(), Fail> {
         (&[B], &[], true),
     ];
     for (from, to, reached) in rows {
-        let from = pattern(alloc, 0, 2, from)?;
-        let to = pattern(alloc, 1, 2, to)?;
+        let from = pattern_over(alloc, &system, 0, from)?;
+        let to = pattern_over(alloc, &system, 1, to)?;
         let found = answer(alloc, &system, &from, &to)?;
         assert!(rt; found.is_some());
         if let Some(found) = found {

@@ -1,7 +1,8 @@
-ghost use Rattle.std.specs.Prelude.{◌≡◌, IfOk};
+ghost use Rattle.std.specs.Prelude.{IfOk};
 ghost use Rattle.pattern_openings.specs.PatternOpenings.{IsOver};
 
 use config_patterns::{Pattern, PatternFault, is_set};
+use pattern_openings::is_over;
 use pushdown_rules::System;
 use semiring_laws::Semiring;
 use std::alloc::Global;
@@ -12,19 +13,22 @@ pub type Items<'a> = &'a [(&'a [u32], bool)];
 /// The first symbol.
 pub const A: (&[u32], bool) = (&[0], false);
 
+/// The second symbol.
+pub const B: (&[u32], bool) = (&[1], false);
+
 /// The third symbol.
 pub const C: (&[u32], bool) = (&[2], false);
 
-// A pattern of these items.
+/// Any number of the first symbol.
+pub const SOME_A: (&[u32], bool) = (&[0], true);
+
+// A pattern of those of the items that are sets.
 fn pattern(
     alloc: Global,
     control: u32,
     symbols: u32,
     items: Items<'_>,
-) -> Result<Pattern, PatternFault>
-    ensures control { IfOk result (λ p. p.control ≡ control) }
-    ensures symbols { IfOk result (λ p. p.symbols ≡ symbols) }
-{
+) -> Result<Pattern, PatternFault> {
     let mut pattern = Pattern::new(alloc, control, symbols);
     for (set, star) in items {
         if is_set(set) {
@@ -44,7 +48,7 @@ pub fn pattern_over<S: Semiring>(
     ensures { IfOk result (IsOver system.now.controls system.now.symbols) }
 {
     let pattern = pattern(alloc, control, system.symbols(), items)?;
-    if pattern.control() >= system.controls() {
+    if !is_over(&pattern, system.controls(), system.symbols()) {
         return Err(PatternFault::NoSymbol);
     }
     Ok(pattern)

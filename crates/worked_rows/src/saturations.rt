@@ -1,8 +1,9 @@
 use crate::patterns::{A, C, Items, pattern_over};
 use crate::seats::{close_alone, close_in_turn};
+use crate::systems::{calls, grows, steps};
 use cost_weights::Cost;
 use prestar::pre_opening;
-use pushdown_rules::{RuleFault, System};
+use pushdown_rules::System;
 use saturation_core::{Book, Direction};
 use semiring_laws::{Reach, Semiring};
 use std::alloc::Global;
@@ -14,30 +15,6 @@ type Row = (u32, u32, u32, u64);
 
 // A target by its control and its items, and the transitions of its saturation.
 type Target<'a> = (u32, Items<'a>, &'a [Row]);
-
-// Controls p and q, symbols a and b: p a -> p b a at 2, and p b -> q at 1.
-fn calls(alloc: Global, cost: Cost) -> Result<System<Cost>, RuleFault> {
-    let mut system = System::new(alloc, cost, 2, 2);
-    system.add_rule(alloc, 0, 0, 0, &[1, 0], cost.number(2), None)?;
-    system.add_rule(alloc, 0, 1, 1, &[], cost.number(1), None)?;
-    Ok(system)
-}
-
-/// Control p, symbol a: p a -> p a a at 1, and p a -> p at 0.
-pub fn grows(alloc: Global, cost: Cost) -> Result<System<Cost>, RuleFault> {
-    let mut system = System::new(alloc, cost, 1, 1);
-    system.add_rule(alloc, 0, 0, 0, &[0, 0], cost.number(1), None)?;
-    system.add_rule(alloc, 0, 0, 0, &[], cost.number(0), None)?;
-    Ok(system)
-}
-
-// Control p, symbols a, b and c: p a -> p b at 3, and p b -> p c at 3.
-fn steps(alloc: Global, cost: Cost) -> Result<System<Cost>, RuleFault> {
-    let mut system = System::new(alloc, cost, 1, 3);
-    system.add_rule(alloc, 0, 0, 0, &[1], cost.number(3), None)?;
-    system.add_rule(alloc, 0, 1, 0, &[2], cost.number(3), None)?;
-    Ok(system)
-}
 
 // The transition at a place, if the book has one.
 fn entry_at<'b, S: Semiring, D: Direction<S>>(
