@@ -5,7 +5,6 @@
 mod answer;
 mod change;
 mod growing;
-mod queue;
 mod summing;
 mod task;
 

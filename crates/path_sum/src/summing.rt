@@ -13,12 +13,11 @@ ghost use Rattle.path_sum.specs.Saturated.{IsSaturatedAutomaton};
 ghost use Rattle.path_sum.specs.Growings.{state_of};
 
 use crate::Answer;
-use crate::change::weight_now;
 use crate::growing::{ANSWER, Growing};
 use crate::task::Task;
 use config_patterns::Pattern;
 use pushdown_rules::System;
-use saturation_core::{Book, Direction, Opening};
+use saturation_core::{Book, Direction, Opening, weight_now};
 use semiring_laws::Semiring;
 use std::alloc::Global;
 use std::collections::VecDeque;
