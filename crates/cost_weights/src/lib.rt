@@ -52,7 +52,7 @@ impl Cost {
     pub fn new(cap: u64) -> Result<Cost, CostFault>
         ensures ok { IfOk result (λ c. c ≡ cap) }
         ensures zero { IsErrOf result CostFault.CapZero ↔ (cap ≡ 0) }
-        ensures too_large { IsErrOf result CostFault.CapTooLarge ↔ (MAX_CAP < cap) }
+        ensures too_large { IsErrOf result CostFault.CapTooLarge ↔ (1000000000000000000 < cap) }
     {
         if cap == 0 {
             return Err(CostFault::CapZero);

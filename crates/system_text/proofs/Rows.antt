@@ -1,13 +1,14 @@
 -- The definition at a few documents.
-use Rattle.std.proofs.Common.{◌≡◌, ℕ, true, false, List, [], ◌∷◌, ◌++◌, refl}
-use Rattle.std.specs.Prelude.{codes}
+use Rattle.std.proofs.Common.{◌≡◌, ℕ, true, false, List, [], ◌∷◌, ◌++◌, refl, arith}
+use Rattle.std.specs.Prelude.{codes, None, Some}
 use Rattle.std.specs.List.{list_all}
 use Rattle.system_text.specs.declared.document.Document.{Document}
-use Rattle.system_text.specs.declared.document.WeightsLine.TheVariants.{Reach, Cost}
-use Rattle.system_text.specs.declared.document.WeightText.TheVariants.{One, Number}
+use Rattle.system_text.specs.declared.document.WeightsLine.TheVariants.{Reach}
+use Rattle.system_text.specs.declared.document.WeightText.TheVariants.{One}
 use Rattle.system_text.specs.Lines.{line_words}
 use Rattle.system_text.specs.Names.{is_name, has_twice}
-use Rattle.system_text.specs.FirstForm.{document_words}
+use Rattle.system_text.specs.Numbers.{number_of}
+use Rattle.system_text.specs.FirstForm.{document_words, IsFirstForm}
 
 abbrev text : List ℕ
 text =
@@ -45,3 +46,50 @@ colon_behind = refl
 
 twice : has_twice (codes "p" ∷ codes "q" ∷ codes "p" ∷ []) ≡ true
 twice = refl
+
+-- ---- one whole document, and texts that are none
+
+abbrev small_text : List ℕ
+small_text =
+    codes "wpds 1" ++ 10 ∷ codes "weights reach" ++ 10 ∷ codes "controls p" ++ 10 ∷ codes "symbols a" ++ 10 ∷ codes "query p: => p:" ++ 10 ∷ []
+
+abbrev small : Document
+small = record {
+  weights = Reach;
+  controls = codes "p" ∷ [];
+  symbols = codes "a" ∷ [];
+  rules = [];
+  query = record { from = record { control = 0; stack = [] }; to = record { control = 0; stack = [] } };
+}
+
+is_small : IsFirstForm small_text small
+is_small = record {
+  written = refl;
+  weights = tt;
+  controls = record { some = omega arith; few = omega arith; each = refl; once = refl };
+  symbols = record { some = omega arith; few = omega arith; each = refl; once = refl };
+  rules = λ k d within. absurd (omega arith);
+  few = omega arith;
+  from = record { control = omega arith; stack = λ k d within. absurd (omega arith); short = omega arith };
+  to = record { control = omega arith; stack = λ k d within. absurd (omega arith); short = omega arith };
+}
+
+two_blanks : (d : Document) → IsFirstForm (codes "wpds  1" ++ 10 ∷ []) d → ⊥
+two_blanks d form = let e : (codes "wpds" ∷ [] ∷ codes "1" ∷ []) ∷ ([] ∷ []) ∷ [] ≡ document_words d ++ ([] ∷ []) ∷ [] = form.written in cc
+
+no_text : (d : Document) → IsFirstForm [] d → ⊥
+no_text d form = let e : ([] ∷ []) ∷ [] ≡ document_words d ++ ([] ∷ []) ∷ [] = form.written in cc
+
+-- ---- numbers
+
+zero_alone : number_of (codes "0") ≡ Some 0
+zero_alone = refl
+
+zero_in_front : number_of (codes "07") ≡ None
+zero_in_front = refl
+
+largest : number_of (codes "18446744073709551615") ≡ Some 18446744073709551615
+largest = refl
+
+too_large : number_of (codes "18446744073709551616") ≡ None
+too_large = refl

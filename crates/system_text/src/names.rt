@@ -7,7 +7,7 @@ use std::marker::Model;
 use wpds_port::OutOfMemory;
 
 /// The names of one class, at most 40,000, each once, in the order in which they were declared. A name's number is its place,
-/// from 0. Each name is at hand by its number and by its text.
+/// from 0.
 #[derive(Drop)]
 pub struct Names {
     texts: IndexSet<Vec<u8>>,

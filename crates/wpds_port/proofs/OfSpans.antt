@@ -1,8 +1,8 @@
 -- Where the tokens of a line stand in it.
-use Rattle.std.proofs.Common.{◌≡◌, ℕ, ◌+◌, ◌-◌, ◌≤◌, ◌<◌, List, [], ◌∷◌, ◌++◌, length, take, drop, refl, sym, ap, ◌∙◌, subst, arith, append_assoc, length-append}
+use Rattle.std.proofs.Common.{◌≡◌, ℕ, ◌+◌, ◌-◌, ◌≤◌, List, [], ◌∷◌, ◌++◌, length, take, drop, sym, ap, ◌∙◌, subst, arith, append_assoc, length-append}
 use Rattle.std.specs.List.{AllByRecursion}
 use Rattle.std.proofs.Math.Seq.{take-append_seam, drop-append_seam}
-use Rattle.wpds_port.specs.Tokens.{word_text, Word, Token, token, IsFirst, AreTokens, StandsIn, AreInOrder}
+use Rattle.wpds_port.specs.Tokens.{word_text, Word, Token, token, AreTokens, StandsIn, AreInOrder}
 use Rattle.wpds_port.proofs.OfTokens.{word_some}
 
 -- what stands between two parts of a line

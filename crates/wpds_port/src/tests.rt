@@ -5,6 +5,7 @@ use crate::{
     StdSink, StdSource, SureSink, SureSource, Token, Word, read_up_to, tokens, write_all,
 };
 use std::alloc::Global;
+use std::io::Write;
 use std::test::Fail;
 
 const TEN: &[u8] = b"ten bytes.";
@@ -212,5 +213,28 @@ fn lines_are_cut_into_tokens(rt: HostRuntime) -> Result<(), Fail> {
         }
         assert_eq!(rt; text.as_str(), want);
     }
+    Ok(())
+}
+
+// A writer that takes all and only counts its flushes.
+#[derive(Drop)]
+struct Flushes(u64);
+
+impl Write for Flushes {
+    fn write(&mut self, buf: &[u8]) -> std::io::Result<usize> {
+        Ok(buf.len())
+    }
+
+    fn flush(&mut self) -> std::io::Result<()> {
+        self.0 = self.0.saturating_add(1);
+        Ok(())
+    }
+}
+
+#[test]
+fn flushes_are_handed_on(rt: HostRuntime) -> Result<(), Fail> {
+    let mut writer = Flushes(0);
+    send(&mut StdSink::new(&mut writer))?;
+    assert_eq!(rt; writer.0, 1);
     Ok(())
 }
