@@ -9,3 +9,4 @@ pub mod OfJobs
 pub mod OfPlaces
 pub mod OfLaws
 pub mod OfOnce
+pub mod WorkedRows

@@ -1,14 +1,11 @@
 -- A saturation's weights are closed under the backward rows.
-use Rattle.std.proofs.Common.{◌≡◌, inl, inr, ℕ, ◌<◌, ◌≤◌, true, false, List, [], ◌∷◌, refl, sym, ap, ◌∙◌, subst, arith}
-use Rattle.std.specs.Prelude.{Option, None, Some, is_none, ◌&&◌, nat_lt, not, slice_get, unwrap_or}
-use Rattle.std.proofs.lemmas.Bool.{and_from, lt-ltb, le-ltb}
+use Rattle.std.proofs.Common.{◌≡◌, inl, inr, ℕ, ◌<◌, ◌≤◌, true, List, [], ◌∷◌, refl, sym, ap, ◌∙◌, subst}
+use Rattle.std.specs.Prelude.{Option, None, Some, slice_get, unwrap_or}
 use Rattle.std.proofs.lemmas.Option.{same_Some}
 use Rattle.semiring_laws.specs.Semiring.{Operations, IsSemiring, Fits, FitsMap, Below}
 use Rattle.weighted_automata.specs.declared.place.Place.{Place}
 use Rattle.weighted_automata.specs.declared.transitions.Entry.{Entry}
-use Rattle.weighted_automata.specs.Places.{same_place}
 use Rattle.weighted_automata.specs.Entries.{entry_at, Present}
-use Rattle.weighted_automata.proofs.OfPlaces.{same_place_from, same_place_itself}
 use Rattle.weighted_automata.proofs.OfEntries.{entry_at-place}
 use Rattle.witness_graph.specs.declared.node.Side.TheVariants.{Pre}
 use Rattle.pushdown_rules.specs.declared.rule.Rule.{Rule}
@@ -28,10 +25,11 @@ use Rattle.saturation_core.specs.Paths.{IsSaturated, HasSums}
 use Rattle.semiring_laws.proofs.OfOrder.{below_zero}
 use Rattle.saturation_core.proofs.OpeningWeights.{opening_weights_fit, opening_edges, opening_pops, opened_below}
 use Rattle.backward_laws.specs.Reading.{PreRun, LeadsToItems}
-use Rattle.backward_laws.specs.Rows.{arrow, is_place, is_step, is_push, rule_row, push_row, pre_rows, rule_candidate, at_rule}
+use Rattle.backward_laws.specs.Rows.{arrow, rule_row, pre_rows, rule_candidate, at_rule}
 use Rattle.backward_laws.proofs.Weights.{IsClosedUnder, IsBackward}
 use Rattle.pushdown_rules.proofs.OfValues.{weight_fits, map_fits}
 use Rattle.backward_laws.proofs.OfPaths.{pre_met, pre_gives}
+use Rattle.backward_laws.proofs.OfRowTests.{row_test, step_test, call_test, stay_test}
 
 module _ {S W Map : Type 0} {operations : S → Operations W Map} {p : Pushdown S W Map} (valid : IsSystem operations p) (laws : IsSemiring (operations p.semiring))
     (d : Tables S W Map) (backward : IsBackward (operations p.semiring) p d) (ts : List (Entry S W Map))
@@ -58,7 +56,7 @@ module _ {S W Map : Type 0} {operations : S → Operations W Map} {p : Pushdown 
         → ((t : Entry S W Map) → HasInput (job kind first second) t → Present ts t) → Below s (weight goal) (rule_candidate s r (job kind first second))
     row_applied kind first second row inputs =
         let j = job kind first second in
-        let test : pre_rows p (row_of j) ≡ true = ap (λ o. elim o [ None ↦ false | Some u ↦ rule_row p u (row_of j) ]) there ∙ row in
+        let test : pre_rows p (row_of j) ≡ true = row_test p k r there kind first second q row in
         let P : W → Type 0 = Below s (weight goal) in
         subst P (backward.candidate j ∙ ap (λ o. at_rule s o j) there) (applied j (record { row = backward.rows (row_of j) ∙ test; inputs = inputs }))
 
@@ -68,13 +66,8 @@ module _ {S W Map : Type 0} {operations : S → Operations W Map} {p : Pushdown 
     step_below : (g : ℕ) → r.right ≡ g ∷ [] → (o : Option (Entry S W Map)) → entry_at (arrow r.to g q) ts ≡ o → Below s (weight goal) (s.extend r.weight (weight_of s o))
     step_below g right None e = let P : W → Type 0 = Below s (weight goal) in subst P (sym (laws.extend-zero_right r.weight fr)) (below_zero laws (weight goal) (fit goal))
     step_below g right (Some t) e =
-        let row = row_of (job PreStep (Some t) None) in
-        let nothing : Option Place = None in
         let at : t.place ≡ arrow r.to g q = entry_at-place (arrow r.to g q) ts t e in
-        let test : is_step p r g row ≡ true =
-        and_from (is_place (Some t.place) (arrow r.to g q) && is_none nothing) (same_place goal goal)
-        (and_from (is_place (Some t.place) (arrow r.to g q)) (is_none nothing) (same_place_from t.place (arrow r.to g q) at) refl) (same_place_itself goal) in
-        row_applied PreStep (Some t) None (ap (λ w. elim w [ [] ↦ false | g ∷ gs ↦ elim gs [ [] ↦ is_step p r g row | h ∷ hs ↦ false ] ]) right ∙ test)
+        row_applied PreStep (Some t) None (step_test p k r g right q t at)
         (λ u has. elim has [
           | inl e' ↦ let P : Entry S W Map → Type 0 = Present ts in subst P (same_Some t u e') (itself (arrow r.to g q) t e)
           | inr e' ↦ cc
@@ -86,19 +79,6 @@ module _ {S W Map : Type 0} {operations : S → Operations W Map} {p : Pushdown 
 
       abbrev x₂ : Place
       x₂ = arrow q₁ g₂ q
-
-      push_test : (kind : JobKind) (t u : Entry S W Map) → t.place ≡ x₁ → u.place ≡ x₂ → push_row p r (row_of (job kind (Some t) (Some u))) ≡ true
-      push_test kind t u at at' =
-          let row = row_of (job kind (Some t) (Some u)) in
-          let from : u.place.from ≡ q₁ = ap (λ (x : Place). x.from) at' in
-          let y₁ = arrow r.to g₁ u.place.from in
-          let y₂ = arrow u.place.from g₂ q in
-          let first : t.place ≡ y₁ = at ∙ ap (arrow r.to g₁) (sym from) in
-          let second : u.place ≡ y₂ = at' ∙ ap (λ n. arrow n g₂ q) (sym from) in
-          let test : is_push p r g₁ g₂ u.place.from row ≡ true =
-          and_from (is_place (Some t.place) y₁ && is_place (Some u.place) y₂) (same_place goal goal)
-          (and_from (is_place (Some t.place) y₁) (is_place (Some u.place) y₂) (same_place_from t.place y₁ first) (same_place_from u.place y₂ second)) (same_place_itself goal) in
-          ap (λ w. elim w [ [] ↦ false | g ∷ gs ↦ elim gs [ [] ↦ false | h ∷ hs ↦ elim hs [ [] ↦ is_push p r g h u.place.from row | i ∷ is ↦ false ] ] ]) right ∙ test
 
       inputs_there : (kind : JobKind) (t u : Entry S W Map) → entry_at x₁ ts ≡ Some t → entry_at x₂ ts ≡ Some u → (v : Entry S W Map) → HasInput (job kind (Some t) (Some u)) v → Present ts v
       inputs_there kind t u e e' v has = let P : Entry S W Map → Type 0 = Present ts in elim has [
@@ -123,11 +103,7 @@ module _ {S W Map : Type 0} {operations : S → Operations W Map} {p : Pushdown 
       call_below low (Some t) (Some u) e e' f f' =
           let at = entry_at-place x₁ ts t e in
           let at' = entry_at-place x₂ ts u e' in
-          let from : u.place.from ≡ q₁ = ap (λ (x : Place). x.from) at' in
-          let below : u.place.from < p.controls = omega arith in
-          row_applied PrePushControl (Some t) (Some u)
-          (and_from (nat_lt u.place.from p.controls) (push_row p r (row_of (job PrePushControl (Some t) (Some u)))) (lt-ltb u.place.from p.controls below) (push_test PrePushControl t u at at'))
-          (inputs_there PrePushControl t u e e')
+          row_applied PrePushControl (Some t) (Some u) (call_test p k r g₁ g₂ right q₁ q t u at at' low) (inputs_there PrePushControl t u e e')
 
       stay_below : p.controls ≤ q₁ → (o o' : Option (Entry S W Map)) → entry_at x₁ ts ≡ o → entry_at x₂ ts ≡ o' → Fits s (weight_of s o) → Fits s (weight_of s o')
           → Below s (weight goal) (s.extend (s.extend r.weight (weight_of s o)) (weight_of s o'))
@@ -138,11 +114,7 @@ module _ {S W Map : Type 0} {operations : S → Operations W Map} {p : Pushdown 
       stay_below high (Some t) (Some u) e e' f f' =
           let at = entry_at-place x₁ ts t e in
           let at' = entry_at-place x₂ ts u e' in
-          let from : u.place.from ≡ q₁ = ap (λ (x : Place). x.from) at' in
-          let above : p.controls ≤ u.place.from = omega arith in
-          row_applied PrePushOther (Some t) (Some u)
-          (and_from (not (nat_lt u.place.from p.controls)) (push_row p r (row_of (job PrePushOther (Some t) (Some u)))) (ap not (le-ltb u.place.from p.controls above)) (push_test PrePushOther t u at at'))
-          (inputs_there PrePushOther t u e e')
+          row_applied PrePushOther (Some t) (Some u) (stay_test p k r g₁ g₂ right q₁ q t u at at' high) (inputs_there PrePushOther t u e e')
 
   module _ (edges : List Place) (opens : (x : Place) → IsIn x edges → Below s (weight x) s.one)
       (pops : (k : ℕ) (r : Rule S W Map) → slice_get p.rules k ≡ Some r → r.right ≡ [] → Below s (weight (arrow r.control r.symbol r.to)) r.weight) where

@@ -1,5 +1,5 @@
 -- Each job of a transition is listed once.
-use Rattle.std.proofs.Common.{◌≡◌, ◌⊎◌, inl, inr, ℕ, suc, ◌<◌, ◌≤◌, Bool, true, false, List, [], ◌∷◌, ◌++◌, refl, sym, ap, ◌∙◌, subst, arith}
+use Rattle.std.proofs.Common.{◌≡◌, ◌⊎◌, inl, inr, ℕ, suc, ◌≤◌, Bool, true, false, List, [], ◌∷◌, ◌++◌, refl, sym, ap, ◌∙◌, subst, arith}
 use Rattle.std.specs.Prelude.{Option, None, Some, ◌&&◌, not}
 use Rattle.std.specs.List.{flat_map}
 use Rattle.std.proofs.lemmas.Bool.{and_parts, not-true, cond_both}
@@ -16,7 +16,7 @@ use Rattle.saturation_core.specs.declared.job.JobKind.TheVariants.{PreStep, PreP
 use Rattle.saturation_core.specs.declared.job.Job.{Job}
 use Rattle.saturation_core.specs.Lists.{IsIn, IsOnce}
 use Rattle.saturation_core.proofs.OfLists.{in_append}
-use Rattle.saturation_core.proofs.InLists.{IsMadeOf, from_flat_map, in_present}
+use Rattle.saturation_core.proofs.InLists.{from_flat_map, in_present}
 use Rattle.backward_laws.specs.Jobs.{only_if, by_rule, one_symbol, two_symbols, step_job, push_job, step_of, are_inputs, pair_jobs, may_be_input, pairs_of, push_of, pre_jobs}
 use Rattle.backward_laws.proofs.OfJobs.{from_only}
 

@@ -17,7 +17,7 @@ use Rattle.config_patterns.specs.declared.edge.Edge.{Edge}
 use Rattle.saturation_core.specs.declared.opening.Opening.{Opening}
 use Rattle.saturation_core.specs.States.{CoreState}
 use Rattle.saturation_core.specs.Lists.{IsIn}
-use Rattle.saturation_core.proofs.Opened.{in_present}
+use Rattle.saturation_core.proofs.InLists.{in_present}
 use Rattle.saturation_core.proofs.OfStarts.{drop_at}
 use Rattle.path_sum.specs.Sums.{Ways, edge_place, can_move, Move, Along, move, grow, edge_moves, moves_by, pair_moves, end_moves, moves_of}
 

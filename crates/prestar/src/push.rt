@@ -4,28 +4,11 @@ ghost use Rattle.semiring_laws.specs.Semiring.{Fits};
 ghost use Rattle.backward_laws.specs.Jobs.{only_if, push_job, goes_on, are_inputs, pair_jobs, may_be_input, pairs_of};
 
 use pushdown_rules::Rule;
-use saturation_core::{Input, Job, JobKind};
+use saturation_core::{Job, JobKind, copy_input};
 use semiring_laws::Semiring;
 use std::alloc::Global;
 use weighted_automata::{Entry, Label, Place, Transitions};
 use wpds_port::OutOfMemory;
-
-// A copy of a transition, as an input of a job.
-pub fn copy_input<S: Semiring>(
-    semiring: &S,
-    alloc: Global,
-    entry: &Entry<S>,
-) -> Result<Input<S>, OutOfMemory>
-    requires { Fits (S.operations semiring.now) entry.now.weight }
-    ensures { IfOk result (λ t. t ≡ entry.now) }
-{
-    let weight = semiring.copy(alloc, &entry.weight)?;
-    Ok(Entry {
-        place: entry.place,
-        weight,
-        node: entry.node,
-    })
-}
 
 /// A push rule, in a pass for pushes of one kind. It leaves `top` above `below`.
 #[derive(Drop)]

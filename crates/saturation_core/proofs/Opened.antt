@@ -1,16 +1,14 @@
 -- What holds of the state that a saturation begins with.
 use Rattle.std.proofs.Common.{◌≡◌, ◌⊎◌, inl, inr, ℕ, suc, zero, ◌+◌, List, [], ◌∷◌, map, replicate, refl, sym, ap, ◌∙◌, subst, arith}
 use Rattle.std.specs.Prelude.{Option, None, Some, IsSome, slice_get}
-use Rattle.std.proofs.lemmas.Bool.{cond-true, cond-false}
 use Rattle.std.proofs.lemmas.Option.{same_Some}
 use Rattle.semiring_laws.specs.Semiring.{Operations, IsSemiring, Fits, Below}
 use Rattle.semiring_laws.specs.Combination.{combination}
 use Rattle.semiring_laws.proofs.OfOrder.{below_itself, combine_zero}
 use Rattle.weighted_automata.specs.declared.place.Place.{Place}
 use Rattle.weighted_automata.specs.declared.transitions.Entry.{Entry}
-use Rattle.weighted_automata.specs.Places.{same_place}
-use Rattle.weighted_automata.specs.Entries.{entry_at, Present, HasDistinctPlaces}
-use Rattle.weighted_automata.proofs.OfPlaces.{cases_place, same_place_from, other_place}
+use Rattle.weighted_automata.specs.Entries.{entry_at, Present}
+use Rattle.weighted_automata.proofs.OfPlaces.{cases_place}
 use Rattle.weighted_automata.proofs.OfEntries.{entry_at-lowered_same, entry_at-lowered_other, distinct-lowered}
 use Rattle.witness_graph.specs.declared.node.Node.{Node}
 use Rattle.witness_graph.specs.declared.node.Node.TheVariants.{Start}
@@ -31,19 +29,12 @@ use Rattle.witness_graph.specs.Nodes.{IsNodeAt}
 use Rattle.witness_graph.specs.Tight.{IsTightNode}
 use Rattle.saturation_core.specs.Bound.{IsWithin}
 use Rattle.saturation_core.proofs.OfLists.{in_append, in_queued, queued_keeps, queued_cases, once_queued}
+use Rattle.saturation_core.proofs.InLists.{in_present}
 use Rattle.saturation_core.proofs.Lowering.{IsSoundState, IsSoundChange, weights_fit}
 use Rattle.saturation_core.proofs.Settling.{apply_keeps}
 use Rattle.saturation_core.proofs.Bounding.{apply_counts}
 
 module _ {S W Map : Type 0} where
-  pub in_present : (ts : List (Entry S W Map)) (t : Entry S W Map) → HasDistinctPlaces ts → IsIn t ts → Present ts t
-  in_present [] t d h = absurd h
-  in_present (u ∷ ts) t d (inl e) = cond-true (same_place u.place t.place) _ _ (same_place_from u.place t.place (ap (λ (v : Entry S W Map). v.place) e)) ∙ ap Some e
-  in_present (u ∷ ts) t d (inr h) =
-      let there = in_present ts t d.1 h in
-      cond-false (same_place u.place t.place) (Some u) (entry_at t.place ts)
-      (other_place u.place t.place (λ e. let f : None ≡ Some t = sym d.0 ∙ ap (λ z. entry_at z ts) e ∙ there in cc)) ∙ there
-
   pub none_out : (n k : ℕ) → hand_at {S = S} {W = W} {Map = Map} k (replicate n None) ≡ None
   none_out zero k = refl
   none_out (suc n) zero = refl

@@ -1,8 +1,7 @@
 -- One item further, in a pass over a list that adds what each item gives.
-use Rattle.std.proofs.Common.{◌≡◌, ℕ, ◌+◌, ◌≤◌, List, ◌++◌, length, drop, sym, ap, ◌∙◌, append_assoc}
+use Rattle.std.proofs.Common.{◌≡◌, ℕ, ◌+◌, List, ◌++◌, drop, sym, ap, ◌∙◌, append_assoc}
 use Rattle.std.specs.Prelude.{Some, slice_get}
 use Rattle.std.specs.List.{flat_map}
-use Rattle.std.proofs.lemmas.List.{append-nil, drop_all}
 use Rattle.saturation_core.proofs.OfStarts.{drop_at}
 
 module _ {X Y : Type 0} (f : X → List Y) (xs : List X) (k : ℕ) where

@@ -10,7 +10,6 @@ use Rattle.witness_graph.specs.declared.node.Node.{Node}
 use Rattle.witness_graph.specs.declared.node.Node.TheVariants.{Start, Lower}
 use Rattle.witness_graph.specs.declared.node.Side.TheVariants.{Pre, Post}
 use Rattle.pushdown_rules.specs.declared.rule.Rule.{Rule}
-use Rattle.pushdown_rules.specs.Configuration.{Configuration}
 use Rattle.pushdown_rules.specs.Pushdown.{Pushdown}
 use Rattle.saturation_core.specs.declared.job.JobKind.{JobKind}
 use Rattle.saturation_core.specs.declared.job.JobKind.TheVariants.{PreStep, PostEnter, PostLeave}
@@ -18,7 +17,6 @@ use Rattle.saturation_core.specs.declared.job.Job.{Job}
 use Rattle.saturation_core.specs.declared.hand.Holding.{Holding}
 use Rattle.saturation_core.specs.declared.event.Event.{Event}
 use Rattle.saturation_core.specs.declared.event.Event.TheVariants.{Take, Settle, GiveBack}
-use Rattle.saturation_core.specs.declared.opening.Opening.{Opening}
 use Rattle.saturation_core.specs.Jobs.{Tables, named_rule, named_first}
 use Rattle.saturation_core.specs.Lists.{queued}
 use Rattle.saturation_core.specs.States.{CoreState, replay}

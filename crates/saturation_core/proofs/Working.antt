@@ -18,7 +18,7 @@ use Rattle.saturation_core.specs.Lists.{IsIn}
 use Rattle.saturation_core.specs.States.{CoreState, hand_at, jobs_at}
 use Rattle.saturation_core.specs.Invariants.{LockInvariant}
 use Rattle.saturation_core.proofs.OfValues.{worth_fits}
-use Rattle.saturation_core.proofs.Opened.{in_present}
+use Rattle.saturation_core.proofs.InLists.{in_present}
 
 all_of : {X : Type 0} (P : X → Type 0) (xs : List X) → ((x : X) → IsIn x xs → P x) → AllByRecursion P xs
 all_of P [] each = tt

@@ -81,6 +81,8 @@ impl StateList {
 /// The automaton that a saturation begins with. A configuration is read from the state with its control's number.
 #[derive(Drop)]
 pub struct Opening {
+    /// Its transitions, each with the empty run and weight one.
     pub edges: PlaceList,
+    /// The states in which it accepts.
     pub finals: StateList,
 }
