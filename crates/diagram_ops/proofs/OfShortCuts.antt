@@ -1,16 +1,16 @@
 -- The rows of a table that references leave.
-use Rattle.std.proofs.Common.{◌≡◌, ℕ, ◌+◌, ◌*◌, ◌-◌, ◌%◌, ◌^◌, ◌<◌, ◌≤◌, Bool, true, false, List, length, refl, sym, ap, ◌∙◌, subst, inl, inr, arith}
-use Rattle.std.specs.Prelude.{◌⊎◌, Option, None, Some, nat_eq, min, bit_and, bit_xor}
+use Rattle.std.proofs.Common.{◌≡◌, ℕ, ◌+◌, ◌*◌, ◌%◌, ◌<◌, Bool, true, false, List, length, refl, sym, ap, ◌∙◌, subst, inl, inr, arith}
+use Rattle.std.specs.Prelude.{Option, None, Some, nat_eq, bit_and, bit_xor}
 use Rattle.std.specs.Int.{bit_at}
-use Rattle.std.proofs.lemmas.Bool.{cases_Bool, eq-eqb, eqb-true, false_from_ne_true}
+use Rattle.std.proofs.lemmas.Bool.{eq-eqb, eqb-true}
 use Rattle.std.proofs.lemmas.Nat.Bits.{bit_at_and, bit_at_xor, bit_at-zero, bit_at-lt, bit_at_ones}
 use Rattle.truth_tables.specs.Tables.{value_bit, bit_of, value3_of}
 use Rattle.diagram_store.specs.declared.branch.Branch.{Branch}
-use Rattle.diagram_store.specs.Nodes.{node_at, IsAbove, IsReduced}
+use Rattle.diagram_store.specs.Nodes.{IsAbove, IsReduced}
 use Rattle.diagram_store.specs.Meaning.{value_at}
 use Rattle.diagram_store.proofs.OfNodes.{no_node}
 use Rattle.diagram_store.proofs.OfValues.{value_at_end}
-use Rattle.diagram_ops.specs.Applying.{IsTableOf, ComesBefore, AreApplied, Applies}
+use Rattle.diagram_ops.specs.Applying.{AreApplied, Applies}
 use Rattle.diagram_ops.specs.ShortCuts.{IsValuation, IsShortCut}
 use Rattle.diagram_ops.proofs.OfKeeping.{keeps_same}
 
