@@ -1,21 +1,21 @@
 -- One step of an operator through three operands.
-use Rattle.std.proofs.Common.{◌≡◌, ℕ, zero, suc, ◌+◌, ◌<◌, ◌≤◌, Bool, true, false, List, length, refl, sym, ap, ap₂, ◌∙◌, subst, inl, inr, arith}
+use Rattle.std.proofs.Common.{◌≡◌, ℕ, ◌+◌, ◌<◌, ◌≤◌, Bool, true, false, List, length, refl, sym, ap, ap₂, ◌∙◌, subst, inl, inr, arith}
 use Rattle.std.specs.Prelude.{Option, None, Some, ◌⊎◌, nat_eq, nat_le, cond}
 use Rattle.std.proofs.lemmas.Bool.{cond-true, cond-false, cases_Bool}
 use Rattle.std.proofs.lemmas.Option.{same_Some}
 use mir.Val.{bool_byte}
 use Rattle.truth_tables.specs.Tables.{value3_of}
 use Rattle.diagram_store.specs.declared.branch.Branch.{Branch}
-use Rattle.diagram_store.specs.Nodes.{node_at, IsAbove, IsReduced}
+use Rattle.diagram_store.specs.Nodes.{IsAbove, IsReduced}
 use Rattle.diagram_store.specs.Meaning.{value_at}
-use Rattle.diagram_store.proofs.OfNodes.{no_node, node_within}
+use Rattle.diagram_store.proofs.OfNodes.{no_node}
 use Rattle.diagram_store.proofs.OfValues.{value_at_end}
 use Rattle.diagram_ops.specs.Tables.{same_key}
 use Rattle.diagram_ops.specs.Scratch.{Keeps, Stands, IsChoice}
 use Rattle.diagram_ops.specs.Applying.{variable, lower, cofactor, IsTableOf, ComesBefore, IsApplied, AreApplied, Applies}
 use Rattle.diagram_ops.proofs.OfKeeping.{keeps_same, keeps_both, keeps_within, keeps_above, keeps_value}
 use Rattle.diagram_ops.proofs.OfPushes.{key_parts}
-use Rattle.diagram_ops.proofs.OfCofactors.{Bounds, IsLower, lower_is, lower_none, none_of_variable, node_of_variable, variable_of, cofactor_value, cofactor_smaller, cofactor_within, cofactor_above}
+use Rattle.diagram_ops.proofs.OfCofactors.{Bounds, lower_is, lower_none, none_of_variable, node_of_variable, cofactor_value, cofactor_smaller, cofactor_within, cofactor_above}
 
 pub byte_below : (b : Bool) → bool_byte b < 2
 byte_below true = omega arith

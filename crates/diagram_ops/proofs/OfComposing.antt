@@ -1,19 +1,19 @@
 -- One step of the composition of two relations.
-use Rattle.std.proofs.Common.{◌≡◌, ℕ, zero, suc, ◌+◌, ◌*◌, ◌/◌, ◌%◌, ◌<◌, ◌≤◌, Bool, true, false, ◌||◌, List, length, refl, sym, ap, ◌∙◌, subst, inl, inr, arith}
+use Rattle.std.proofs.Common.{◌≡◌, ℕ, ◌+◌, ◌*◌, ◌/◌, ◌%◌, ◌<◌, ◌≤◌, Bool, true, false, ◌||◌, List, length, refl, sym, ap, ◌∙◌, subst, inl, inr, arith}
 use Rattle.std.specs.Prelude.{Option, None, Some, ◌⊎◌, IsTrue, nat_eq, cond}
 use Rattle.std.proofs.lemmas.Bool.{cond-true, cond-false, cases_Bool, cases_eq, eq-eqb, eqb-true, false_from_ne_true}
 use Rattle.std.proofs.lemmas.Option.{same_Some}
 use Rattle.diagram_store.specs.declared.branch.Branch.{Branch}
-use Rattle.diagram_store.specs.Nodes.{node_at, IsAbove, IsReduced}
+use Rattle.diagram_store.specs.Nodes.{IsAbove, IsReduced}
 use Rattle.diagram_store.specs.Meaning.{value_at, set_bit}
-use Rattle.diagram_store.proofs.OfNodes.{no_node, constant_below}
+use Rattle.diagram_store.proofs.OfNodes.{constant_below}
 use Rattle.diagram_store.proofs.OfValues.{value_at_end, value_agrees, set_same, set_other}
 use Rattle.diagram_ops.specs.declared.composing.Side.{Side}
 use Rattle.diagram_ops.specs.declared.composing.Side.TheVariants.{First, Second}
 use Rattle.diagram_ops.specs.Tables.{same_key}
 use Rattle.diagram_ops.specs.Scratch.{Keeps, Stands, IsPast, IsChoice}
 use Rattle.diagram_ops.specs.Applying.{AreApplied, Applies, lower, place, cofactor_at}
-use Rattle.diagram_ops.specs.Composing.{position, placed_value, IsTrueBetween, IsComposed, ComesBeforeBoth, IsComposition, AreComposed, Composes, joined, IsJoined}
+use Rattle.diagram_ops.specs.Composing.{position, placed_value, IsTrueBetween, IsComposed, ComesBeforeBoth, IsComposition, AreComposed, Composes, IsJoined}
 use Rattle.diagram_ops.proofs.OfKeeping.{keeps_same, keeps_both, keeps_within, keeps_past, keeps_above, keeps_value}
 use Rattle.diagram_ops.proofs.OfPushes.{key_parts}
 use Rattle.diagram_ops.proofs.OfCofactors.{Bounds, lower_is, lower_none, none_of_place, node_of_place, place_value, place_smaller, place_within, place_past}

@@ -1,16 +1,16 @@
 -- A copy in the order of a walk is canonical, and means the same.
-use Rattle.std.proofs.Common.{◌≡◌, ℕ, zero, suc, ◌+◌, ◌<◌, ◌≤◌, Bool, true, false, List, [], ◌∷◌, ◌++◌, length, refl, sym, ap, ap₂, ◌∙◌, subst, inl, inr, arith}
-use Rattle.std.specs.Prelude.{Option, None, Some, ◌⊎◌, nat_eq, cond, option_and_then}
+use Rattle.std.proofs.Common.{◌≡◌, ℕ, zero, suc, ◌+◌, ◌<◌, ◌≤◌, List, [], ◌∷◌, ◌++◌, length, refl, sym, ap, ◌∙◌, subst, inl, inr, arith}
+use Rattle.std.specs.Prelude.{Option, None, Some, nat_eq, cond, option_and_then}
 use Rattle.std.proofs.lemmas.Bool.{cases_lt, cases_Bool, cond-true, cond-false, eqb-true, eq-eqb, false_from_ne_true}
 use Rattle.std.proofs.lemmas.Option.{same_Some}
 use Rattle.std.proofs.lemmas.List.{length_push}
 use Rattle.diagram_store.specs.declared.branch.Branch.{Branch}
-use Rattle.diagram_store.specs.Nodes.{node_at, IsAbove, IsReduced}
+use Rattle.diagram_store.specs.Nodes.{node_at, IsReduced}
 use Rattle.diagram_store.specs.Meaning.{value_at}
 use Rattle.diagram_store.specs.Canonical.{turn_after, in_turn, IsCanonical}
 use Rattle.diagram_store.proofs.OfNodes.{node_within, no_node, one_node, constant_below}
 use Rattle.diagram_store.proofs.OfValues.{value_at_node, value_at_end, same_cond}
-use Rattle.diagram_store.proofs.OfMeanings.{branches_within, branches_apart, one_reference}
+use Rattle.diagram_store.proofs.OfMeanings.{branches_apart, one_reference}
 use Rattle.diagram_store.proofs.OfTurns.{turn_below, turn_by_branches, leaves, leaves_none, left_node, turn_stays}
 use Rattle.diagram_store.proofs.OfFitting.{reduced_from_fitting}
 use Rattle.diagram_ops.specs.Scratch.{Keeps}

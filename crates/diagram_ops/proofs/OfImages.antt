@@ -1,7 +1,7 @@
 -- Images of diagrams among scratch nodes.
-use Rattle.std.proofs.Common.{◌≡◌, ℕ, zero, suc, ◌+◌, ◌<◌, ◌≤◌, Bool, true, false, List, [], ◌∷◌, ◌++◌, length, get_or, refl, sym, ap, ap₂, ◌∙◌, subst, inl, inr, arith}
-use Rattle.std.specs.Prelude.{Option, None, Some, ◌⊎◌, nat_eq, cond, slice_get, slice_index_or}
-use Rattle.std.proofs.lemmas.Bool.{cases_lt, cases_eq, cases_Bool, cond-true, cond-false}
+use Rattle.std.proofs.Common.{◌≡◌, ℕ, zero, suc, ◌+◌, ◌<◌, ◌≤◌, Bool, true, false, List, [], ◌∷◌, ◌++◌, length, get_or, refl, sym, ap, ◌∙◌, subst, inl, inr, arith}
+use Rattle.std.specs.Prelude.{Some, cond, slice_index_or}
+use Rattle.std.proofs.lemmas.Bool.{cases_eq, cond-true, cond-false}
 use Rattle.std.proofs.lemmas.List.{length_push}
 use Rattle.std.proofs.lemmas.Option.{slice_get-get_or}
 use Rattle.diagram_store.specs.declared.branch.Branch.{Branch}
@@ -9,11 +9,10 @@ use Rattle.diagram_store.specs.Nodes.{node_at, IsAbove, IsReduced}
 use Rattle.diagram_store.specs.Meaning.{value_at, set_bit}
 use Rattle.diagram_store.specs.Canonical.{IsCanonical}
 use Rattle.diagram_store.proofs.OfTurns.{turn_past}
-use Rattle.diagram_store.proofs.OfNodes.{node_within, no_node, one_node}
 use Rattle.diagram_store.proofs.OfValues.{value_at_node, value_at_end, same_cond, set_same, set_other}
 use Rattle.diagram_ops.specs.Scratch.{Keeps, Stands, IsChoice}
 use Rattle.diagram_ops.specs.Images.{IsImage, IsValue, IsRestricted}
-use Rattle.diagram_ops.proofs.OfKeeping.{keeps_same, keeps_within, keeps_above, keeps_value, stands_kept}
+use Rattle.diagram_ops.proofs.OfKeeping.{keeps_same, stands_kept}
 
 get_old : (xs : List ℕ) (y k : ℕ) → k < length xs → get_or (xs ++ y ∷ []) k 0 ≡ get_or xs k 0
 get_old [] y k h = absurd (omega arith)

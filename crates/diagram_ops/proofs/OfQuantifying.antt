@@ -1,16 +1,16 @@
 -- Quantification by the disjunction of the branches.
-use Rattle.std.proofs.Common.{◌≡◌, ℕ, zero, suc, ◌+◌, ◌<◌, ◌≤◌, Bool, true, false, ◌||◌, List, length, refl, sym, ap, ◌∙◌, subst, inl, inr, arith}
-use Rattle.std.specs.Prelude.{Option, None, Some, ◌⊎◌, IsTrue, nat_eq, cond, slice_index_or}
-use Rattle.std.proofs.lemmas.Bool.{cond-true, cond-false, cases_Bool, cases_eq}
+use Rattle.std.proofs.Common.{◌≡◌, ℕ, ◌<◌, ◌≤◌, Bool, true, false, ◌||◌, List, length, refl, sym, ap, ◌∙◌, inl, inr, arith}
+use Rattle.std.specs.Prelude.{Option, Some, ◌⊎◌, cond, slice_index_or}
+use Rattle.std.proofs.lemmas.Bool.{cond-true, cond-false, cases_Bool}
 use Rattle.truth_tables.specs.Tables.{value3_of}
 use Rattle.diagram_store.specs.declared.branch.Branch.{Branch}
 use Rattle.diagram_store.specs.Nodes.{node_at, IsAbove, IsReduced}
 use Rattle.diagram_store.specs.Meaning.{value_at, set_bit}
-use Rattle.diagram_store.proofs.OfValues.{value_at_node, value_at_end, value_of_high, value_of_low, set_same, set_other}
+use Rattle.diagram_store.proofs.OfValues.{value_at_end, value_of_high, value_of_low, set_other}
 use Rattle.diagram_store.proofs.OfMeanings.{low_value, high_value}
 use Rattle.diagram_ops.specs.Scratch.{Stands}
 use Rattle.diagram_ops.specs.Applying.{Applies}
-use Rattle.diagram_ops.specs.Images.{IsImage, is_listed, IsTrueOnSome, IsQuantified}
+use Rattle.diagram_ops.specs.Images.{IsImage, is_listed, IsQuantified}
 use Rattle.diagram_ops.proofs.OfKeeping.{keeps_above}
 use Rattle.diagram_ops.proofs.OfApplying.{value3_same}
 use Rattle.diagram_ops.proofs.OfImages.{made_means, low_within, high_within, low_above, high_above}

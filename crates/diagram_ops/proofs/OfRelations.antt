@@ -1,6 +1,6 @@
 -- The composition of relations between states, from that of references.
-use Rattle.std.proofs.Common.{◌≡◌, ℕ, ◌+◌, ◌*◌, ◌/◌, ◌%◌, Bool, true, false, List, refl, sym, ap, ◌∙◌, inl, inr, arith}
-use Rattle.std.specs.Prelude.{◌⊎◌, ◌↔◌, IsTrue, nat_eq, cond}
+use Rattle.std.proofs.Common.{◌≡◌, ℕ, ◌+◌, ◌*◌, ◌/◌, ◌%◌, Bool, false, List, refl, sym, ap, ◌∙◌, inl, inr, arith}
+use Rattle.std.specs.Prelude.{◌↔◌, IsTrue, nat_eq, cond}
 use Rattle.std.proofs.lemmas.Bool.{cond-true, cond-false, cases_eq, eq-eqb, eqb-true, false_from_ne_true}
 use Rattle.diagram_store.specs.declared.branch.Branch.{Branch}
 use Rattle.diagram_store.specs.Nodes.{IsReduced}
@@ -8,7 +8,7 @@ use Rattle.diagram_store.specs.Meaning.{value_at}
 use Rattle.diagram_store.proofs.OfValues.{value_agrees}
 use Rattle.diagram_ops.specs.declared.composing.Side.TheVariants.{First, Second}
 use Rattle.diagram_ops.specs.Relations.{of_states, relates}
-use Rattle.diagram_ops.specs.Composing.{position, placed_value, IsTrueBetween, IsComposed}
+use Rattle.diagram_ops.specs.Composing.{position, IsComposed}
 
 apart : (k m : ℕ) → (k ≡ m → ⊥) → nat_eq k m ≡ false
 apart k m h = false_from_ne_true (nat_eq k m) (λ e. h (eqb-true k m e))

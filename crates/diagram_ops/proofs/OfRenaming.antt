@@ -1,11 +1,11 @@
 -- A diagram with other variables in the same order is canonical, and reads the bits of these.
-use Rattle.std.proofs.Common.{◌≡◌, ℕ, zero, suc, ◌+◌, ◌<◌, ◌≤◌, Bool, List, [], ◌∷◌, length, map, get_or, refl, sym, ap, ap₂, ◌∙◌, subst, inl, inr, arith}
-use Rattle.std.specs.Prelude.{Option, None, Some, ◌⊎◌, nat_eq, nat_lt, cond, option_map, option_and_then, slice_get, slice_index}
-use Rattle.std.proofs.lemmas.Bool.{cases_lt, cases_eq}
+use Rattle.std.proofs.Common.{◌≡◌, ℕ, zero, suc, ◌+◌, ◌<◌, ◌≤◌, Bool, List, [], ◌∷◌, length, map, refl, sym, ap, ◌∙◌, subst, inl, inr, arith}
+use Rattle.std.specs.Prelude.{None, Some, option_map, slice_index}
+use Rattle.std.proofs.lemmas.Bool.{cases_lt}
 use Rattle.std.proofs.lemmas.Option.{slice_get-map, same_Some}
 use Rattle.diagram_store.specs.declared.branch.Branch.{Branch}
 use Rattle.diagram_store.specs.Nodes.{node_at, IsAbove, IsReduced, HasVariablesBelow}
-use Rattle.diagram_store.specs.Meaning.{value_at, branch_by}
+use Rattle.diagram_store.specs.Meaning.{value_at}
 use Rattle.diagram_store.specs.Canonical.{turn_after, IsCanonical}
 use Rattle.diagram_store.proofs.OfNodes.{option_cases, no_node}
 use Rattle.diagram_store.proofs.OfValues.{value_at_node, value_at_end, same_cond}

@@ -1,16 +1,16 @@
 -- The rows of a table that references leave.
-use Rattle.std.proofs.Common.{◌≡◌, ℕ, ◌+◌, ◌*◌, ◌-◌, ◌%◌, ◌^◌, ◌<◌, ◌≤◌, Bool, true, false, List, length, refl, sym, ap, ◌∙◌, subst, inl, inr, arith}
-use Rattle.std.specs.Prelude.{◌⊎◌, Option, None, Some, nat_eq, min, bit_and, bit_xor}
+use Rattle.std.proofs.Common.{◌≡◌, ℕ, ◌+◌, ◌*◌, ◌%◌, ◌<◌, Bool, true, false, List, length, refl, sym, ap, ◌∙◌, subst, inl, inr, arith}
+use Rattle.std.specs.Prelude.{Option, None, Some, nat_eq, bit_and, bit_xor}
 use Rattle.std.specs.Int.{bit_at}
-use Rattle.std.proofs.lemmas.Bool.{cases_Bool, eq-eqb, eqb-true, false_from_ne_true}
+use Rattle.std.proofs.lemmas.Bool.{eq-eqb, eqb-true}
 use Rattle.std.proofs.lemmas.Nat.Bits.{bit_at_and, bit_at_xor, bit_at-zero, bit_at-lt, bit_at_ones}
 use Rattle.truth_tables.specs.Tables.{value_bit, bit_of, value3_of}
 use Rattle.diagram_store.specs.declared.branch.Branch.{Branch}
-use Rattle.diagram_store.specs.Nodes.{node_at, IsAbove, IsReduced}
+use Rattle.diagram_store.specs.Nodes.{IsAbove, IsReduced}
 use Rattle.diagram_store.specs.Meaning.{value_at}
 use Rattle.diagram_store.proofs.OfNodes.{no_node}
 use Rattle.diagram_store.proofs.OfValues.{value_at_end}
-use Rattle.diagram_ops.specs.Applying.{IsTableOf, ComesBefore, AreApplied, Applies}
+use Rattle.diagram_ops.specs.Applying.{AreApplied, Applies}
 use Rattle.diagram_ops.specs.ShortCuts.{IsValuation, IsShortCut}
 use Rattle.diagram_ops.proofs.OfKeeping.{keeps_same}
 
@@ -131,23 +131,6 @@ rows_left x y z a b c d e f bit v first second third both outer later =
     let abcd = in_both (bit_and (bit_and a b) c) d k abc (both bit k below p q) in
     let abcde = in_both (bit_and (bit_and (bit_and a b) c) d) e k abcd (outer bit k below p r) in
     in_both (bit_and (bit_and (bit_and (bit_and a b) c) d) e) f k abcde (later bit k below q r)
-
--- a reference whose place has the table's value on the rows that are left
-pub short_cut_is : (table place rows x y z r : ℕ) → (r < 2) ⊎ ((r ≡ x) ⊎ ((r ≡ y) ⊎ (r ≡ z)))
-    → ((bit : ℕ → Bool) → IsValuation bit → value3_of rows (bit x) (bit y) (bit z) ≡ true)
-    → ((k : ℕ) → value_bit rows k ≡ true → value_bit table k ≡ value_bit place k)
-    → ((bit : ℕ → Bool) → IsValuation bit → bit r ≡ value3_of place (bit x) (bit y) (bit z))
-    → IsShortCut table x y z r
-short_cut_is table place rows x y z r among left same value = record {
-  among = among;
-  value = λ bit v. value bit v ∙ sym (same (row (bit x) (bit y) (bit z)) (left bit v));
-}
-
-pub in_none : (a b c : Bool) → value3_of 0 a b c ≡ false
-in_none a b c = ap (λ s. nat_eq s 1) (bit_at-zero (row a b c))
-
-pub in_each : (a b c : Bool) → value3_of 255 a b c ≡ true
-in_each a b c = in_all (row a b c) (row_below a b c)
 
 -- the answer stands for the operator at the three references
 pub applies_at_once : (table : ℕ) (nodes : List Branch) (results : ℕ → ℕ → ℕ → Option ℕ) (x y z r : ℕ) → IsReduced nodes → AreApplied table nodes results

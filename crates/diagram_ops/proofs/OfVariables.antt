@@ -1,14 +1,14 @@
 -- A result has no variable from a limit on where no operand has one: its value reads none of these bits.
-use Rattle.std.proofs.Common.{◌≡◌, ℕ, zero, suc, ◌+◌, ◌*◌, ◌/◌, ◌%◌, ◌<◌, Bool, true, false, List, [], ◌∷◌, length, map, refl, sym, ap, ◌∙◌, subst, inl, inr, arith}
-use Rattle.std.specs.Prelude.{◌⊎◌, ◌↔◌, None, Some, IsTrue, nat_eq, nat_lt, cond, slice_index}
-use Rattle.std.proofs.lemmas.Bool.{cond-true, cond-false, cases_Bool, cases_lt, cases_eq, lt-ltb, false_from_ne_true, ltb-true}
+use Rattle.std.proofs.Common.{◌≡◌, ℕ, zero, suc, ◌+◌, ◌*◌, ◌/◌, ◌%◌, ◌<◌, Bool, true, false, List, [], refl, sym, ap, ◌∙◌, inl, inr, arith}
+use Rattle.std.specs.Prelude.{◌↔◌, None, Some, IsTrue, nat_eq, nat_lt, cond}
+use Rattle.std.proofs.lemmas.Bool.{cond-true, cond-false, cases_Bool, cases_eq, lt-ltb, ltb-true}
 use Rattle.truth_tables.specs.Tables.{value3_of}
 use Rattle.diagram_store.specs.declared.branch.Branch.{Branch}
 use Rattle.diagram_store.specs.Nodes.{node_at, IsReduced, HasVariablesBelow}
 use Rattle.diagram_store.specs.Meaning.{value_at, set_bit}
 use Rattle.diagram_store.specs.Canonical.{IsCanonical}
 use Rattle.diagram_store.proofs.OfTurns.{canonical_reads, reads_below}
-use Rattle.diagram_ops.specs.Images.{is_listed, IsTrueOnSome}
+use Rattle.diagram_ops.specs.Images.{IsTrueOnSome}
 use Rattle.diagram_ops.specs.Relations.{of_states, relates}
 use Rattle.diagram_ops.proofs.OfApplying.{value3_same}
 use Rattle.diagram_ops.proofs.OfRelations.{old_value, new_value, same_bits}

@@ -1,5 +1,5 @@
 -- What the walk through three operands keeps.
-use Rattle.std.specs.Prelude.{◌≡◌, ℕ, ◌+◌, ◌<◌, ◌≤◌, Bool, List, length, Option, None, Some, option_map, nat_eq, nat_le, if◌then◌else◌}
+use Rattle.std.specs.Prelude.{◌≡◌, ℕ, ◌+◌, ◌<◌, Bool, List, length, Option, None, Some, option_map, nat_eq, nat_le, if◌then◌else◌}
 use Rattle.truth_tables.specs.Tables.{value3_of}
 use Rattle.diagram_store.specs.declared.branch.Branch.{Branch}
 use Rattle.diagram_store.specs.Nodes.{node_at, IsAbove, IsReduced}

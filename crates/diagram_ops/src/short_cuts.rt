@@ -4,8 +4,11 @@ ghost use Rattle.diagram_ops.specs.ShortCuts.{IsShortCut, IsValuation};
 
 // The rows of a table of three places on which its first, its second and its third place is true.
 const FIRST: u8 = 240;
+
 const SECOND: u8 = 204;
+
 const THIRD: u8 = 170;
+
 const ALL: u8 = 255;
 
 // A constant or one of the references, if it has the table's value on each row that they leave.

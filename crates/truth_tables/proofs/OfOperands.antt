@@ -1,14 +1,13 @@
 -- Operands in memory, and what is made of an expression.
-use Rattle.std.proofs.Common.{◌≡◌, ℕ, ◌+◌, ◌*◌, ◌-◌, ◌<◌, ◌≤◌, List, [], ◌∷◌, refl, sym, ap, ◌∙◌, subst, arith, length, drop, get_or, suc, drop-cons}
+use Rattle.std.proofs.Common.{◌≡◌, ℕ, ◌+◌, ◌*◌, ◌-◌, ◌<◌, ◌≤◌, List, [], ◌∷◌, refl, sym, ap, ◌∙◌, arith, length, drop, get_or, suc, drop-cons}
 use Rattle.std.specs.Prelude.{Result, Ok, Err, max}
 use Rattle.truth_tables.specs.declared.operand.Unread.{Unread}
-use Rattle.truth_tables.specs.declared.operand.Unread.TheVariants.{Table, Deep}
+use Rattle.truth_tables.specs.declared.operand.Unread.TheVariants.{Table}
 use Rattle.truth_tables.specs.declared.operand.Built.{Built}
-use Rattle.std.proofs.lemmas.Bool.{le-leb, lt-leb}
-use Rattle.std.proofs.lemmas.List.{drop_all}
+use Rattle.std.proofs.lemmas.Bool.{lt-leb}
 use Rattle.truth_tables.specs.Grammar.{number_of, number_onto}
 use Rattle.truth_tables.specs.Formulas.{Binary, Ternary}
-use Rattle.truth_tables.specs.Operands.{raw_formula, Made, built_of, operand_of, both_of, level_more, two_made, three_made, table_at_most}
+use Rattle.truth_tables.specs.Operands.{raw_formula, operand_of, both_of, level_more, two_made, three_made, table_at_most}
 
 pub two_built : (limit : ℕ) (table : Result ℕ Unread) (left right : Result Built Unread) (t : ℕ) (l r : Built)
     → both_of table (both_of left right) ≡ Ok (t, (l, r))

@@ -1,5 +1,5 @@
 -- The text of an expression, and its answer.
-use Rattle.std.proofs.Common.{◌≡◌, ◌≢◌, ℕ, zero, suc, ◌+◌, ◌-◌, ◌<◌, ◌≤◌, Bool, true, false, not, ◌||◌, cond, List, [], ◌∷◌, ◌++◌, length, take, drop, map, get_or, Option, Some, None, option_map, refl, sym, ap, ◌∙◌, subst, arith, drop-cons}
+use Rattle.std.proofs.Common.{◌≡◌, ℕ, zero, suc, ◌+◌, ◌≤◌, Bool, true, false, not, ◌||◌, cond, List, [], ◌∷◌, length, take, drop, Option, Some, None, option_map, refl, sym, ap, ◌∙◌, subst, arith}
 use Rattle.std.specs.Prelude.{IsTrue, Result, Ok, Err, IfOk, nat_lt}
 use Rattle.std.proofs.lemmas.List.{length-map, length-take-le}
 use Rattle.wpds_port.specs.declared.OutOfMemory.{OutOfMemory}
@@ -8,8 +8,8 @@ use Rattle.std.proofs.lemmas.Bool.{ltb-true, ltb-false, lt-ltb, or_parts, not-tr
 use Rattle.wpds_port.specs.declared.Word.{Word}
 use Rattle.wpds_port.specs.declared.Token.{Token}
 use Rattle.wpds_port.specs.Tokens.{is_lawful_word}
-use Rattle.truth_tables.specs.Formulas.{Formula, has_small_tables}
-use Rattle.truth_tables.specs.Grammar.{Operator, ThenOperator, SameOperator, OtherOperator, OrOperator, XorOperator, AndOperator, Tree, Constant, Variable, Bracket, Inverse, Two, Table2, Table3, IsExpression, depth, number_of, table_of, has_large_table, formula_of}
+use Rattle.truth_tables.specs.Formulas.{has_small_tables}
+use Rattle.truth_tables.specs.Grammar.{Operator, ThenOperator, SameOperator, OtherOperator, OrOperator, XorOperator, AndOperator, Tree, Constant, Variable, Bracket, Inverse, Two, Table2, Table3, depth, number_of, table_of, has_large_table, formula_of}
 use Rattle.truth_tables.specs.Stacks.{tree_of}
 use Rattle.truth_tables.specs.Machine.{folded, made_of}
 use Rattle.truth_tables.specs.Operands.{Made, built_of, operand_of, parts, raw_formula}

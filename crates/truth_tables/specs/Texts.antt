@@ -1,8 +1,8 @@
 -- The text of an expression among the tokens of a line, and what reading it answers.
-use Rattle.std.specs.Prelude.{◌≡◌, IsTrue, ℕ, ◌+◌, ◌-◌, ◌<◌, ◌≤◌, Bool, true, false, not, ◌||◌, ◌&&◌, ◌==◌, List, [], ◌∷◌, length, drop, map, codes, bytes_eq, Option, Some, None, Result, Ok, Err}
+use Rattle.std.specs.Prelude.{◌≡◌, IsTrue, ℕ, ◌+◌, ◌-◌, ◌<◌, ◌≤◌, Bool, true, false, not, ◌||◌, ◌&&◌, ◌==◌, List, [], ◌∷◌, drop, map, codes, bytes_eq, Option, Some, None, Result, Ok, Err}
 use Rattle.wpds_port.specs.declared.Mark.TheVariants.{Comma, Semicolon, Arrow, Open, Close}
 use Rattle.wpds_port.specs.declared.Word.{Word}
-use Rattle.wpds_port.specs.declared.Word.TheVariants.{Name, Number, Mark as Sign}
+use Rattle.wpds_port.specs.declared.Word.TheVariants.{Name, Mark as Sign}
 use Rattle.wpds_port.specs.declared.Token.{Token}
 use Rattle.truth_tables.specs.Grammar.{Tree, IsExpression, depth, has_large_table, formula_of}
 use Rattle.truth_tables.specs.Operands.{raw_formula}

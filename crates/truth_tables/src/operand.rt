@@ -53,12 +53,14 @@ fn above(limit: u32, below: u32, expr: RawExpr) -> Operand
     }
 }
 
+/// A constant as an expression.
 pub fn constant(limit: u32, value: bool) -> Operand
     ensures { operand_of result ≡ level_more limit 0 (Const value) }
 {
     above(limit, 0, RawExpr::Const(value))
 }
 
+/// A variable as an expression. Its name is copied.
 pub fn variable(alloc: Global, limit: u32, name: &Text) -> Result<Operand, OutOfMemory>
     ensures { IfOk result (λ e. operand_of e ≡ level_more limit 0 (Var name.now)) }
 {
@@ -66,6 +68,7 @@ pub fn variable(alloc: Global, limit: u32, name: &Text) -> Result<Operand, OutOf
     Ok(above(limit, 0, RawExpr::Var(name)))
 }
 
+/// An expression in brackets, which is one level deeper.
 pub fn bracket(limit: u32, operand: Operand) -> Operand
     ensures { operand_of result ≡ bracketed limit (operand_of operand) }
 {
@@ -75,6 +78,7 @@ pub fn bracket(limit: u32, operand: Operand) -> Operand
     }
 }
 
+/// The inverse of an expression, which is one level deeper.
 pub fn inverse(alloc: Global, limit: u32, operand: Operand) -> Result<Operand, OutOfMemory>
     ensures { IfOk result (λ e. operand_of e ≡ opposite limit (operand_of operand)) }
 {

@@ -30,6 +30,7 @@ pub fn value3(table: u8, a: bool, b: bool, c: bool) -> bool
 pub struct Table2<const T: u8>;
 
 impl<const T: u8> Table2<T> {
+    /// The value at two places: bit `2a + b` of the table.
     pub fn value(a: bool, b: bool) -> bool
         requires { T < 16 }
         ensures { result ≡ value2_of T a b }
@@ -42,6 +43,7 @@ impl<const T: u8> Table2<T> {
 pub struct Table3<const T: u8>;
 
 impl<const T: u8> Table3<T> {
+    /// The value at three places: bit `4a + 2b + c` of the table.
     pub fn value(a: bool, b: bool, c: bool) -> bool
         ensures { result ≡ value3_of T a b c }
     {

@@ -1,11 +1,10 @@
-use Rattle.std.proofs.Common.{◌≡◌, ℕ, Bool, List, ◌∙◌}
+use Rattle.std.proofs.Common.{List, ◌∙◌}
 use Rattle.diagram_store.specs.declared.branch.Branch.{Branch}
 use Rattle.diagram_store.specs.Nodes.{IsAbove}
 use Rattle.diagram_store.specs.Meaning.{value_at}
 use Rattle.diagram_ops.specs.Images.{IsValue}
 use Rattle.diagram_ops.proofs.OfKeeping.{keeps_within, keeps_both, stands_kept}
 use Rattle.diagram_ops.proofs.OfApplying.{value3_same}
-use Rattle.truth_tables.specs.Tables.{value3_of}
 use Rattle.diagram_ops.proofs.OfVariables.{applied_below}
 use Rattle.diagram_ops.proofs.applied.applied.Goals as goal
 

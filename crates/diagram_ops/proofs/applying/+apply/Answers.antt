@@ -1,10 +1,9 @@
-use Rattle.std.proofs.Common.{◌≡◌, ℕ, List, ◌+◌, ◌<◌, length, true, false, sym, ap, subst, ◌∙◌, arith}
+use Rattle.std.proofs.Common.{◌≡◌, ℕ, List, ◌+◌, ◌<◌, true, false, sym, subst, ◌∙◌}
 use Rattle.diagram_store.specs.declared.branch.Branch.{Branch}
-use Rattle.diagram_store.specs.Nodes.{IsAbove}
 use Rattle.diagram_ops.specs.Tables.{known}
 use Rattle.diagram_ops.specs.Applying.{cofactor, Applies}
 use Rattle.diagram_ops.proofs.OfKeeping.{keeps_same}
-use Rattle.diagram_ops.proofs.OfApplying.{IsLowest, applies_constant, applies_known, lowest_is, AreCofactors, operands_fall, operand_within, applies_at, low_above, low_within, high_above, applies_step}
+use Rattle.diagram_ops.proofs.OfApplying.{applies_constant, applies_known, lowest_is, operands_fall, operand_within, applies_at, low_above, low_within, high_above, applies_step}
 use Rattle.diagram_ops.proofs.OfShortCuts.{applies_at_once}
 use Rattle.diagram_ops.proofs.applying.+apply.Goals as goal
 

@@ -1,10 +1,8 @@
-use Rattle.std.proofs.Common.{◌≡◌, ℕ, ◌*◌, Bool, List}
-use Rattle.std.specs.Prelude.{◌↔◌, IsTrue}
+use Rattle.std.proofs.Common.{◌*◌, List}
 use Rattle.diagram_store.specs.declared.branch.Branch.{Branch}
 use Rattle.diagram_store.specs.Nodes.{IsAbove}
 use Rattle.diagram_ops.specs.Images.{IsValue}
 use Rattle.diagram_ops.proofs.OfKeeping.{keeps_within, keeps_both, stands_kept}
-use Rattle.diagram_ops.specs.Relations.{relates}
 use Rattle.diagram_ops.proofs.OfVariables.{composed_below}
 use Rattle.diagram_ops.proofs.OfRelations.{relates_composed}
 use Rattle.diagram_ops.proofs.composing.compose_relations.Goals as goal

@@ -1,4 +1,4 @@
-use Rattle.std.proofs.Common.{◌≡◌, ℕ, sym, ap, ◌∙◌, nat_eq}
+use Rattle.std.proofs.Common.{sym, ap, ◌∙◌, nat_eq}
 use Rattle.std.specs.HashMap.{get}
 use Rattle.std.specs.Prelude.{option_copied}
 use Rattle.diagram_ops.proofs.OfCopies.{copies_placed, copies_constant, copies_made}

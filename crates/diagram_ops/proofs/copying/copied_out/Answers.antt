@@ -1,4 +1,4 @@
-use Rattle.std.proofs.Common.{ℕ, List, sym, ap, subst, ◌∙◌, nat_eq}
+use Rattle.std.proofs.Common.{List, sym, ap, subst, ◌∙◌, nat_eq}
 use Rattle.diagram_store.specs.declared.branch.Branch.{Branch}
 use Rattle.diagram_store.specs.Canonical.{IsCanonical}
 use Rattle.diagram_store.specs.Meaning.{value_at}

@@ -1,4 +1,4 @@
-use Rattle.std.proofs.Common.{◌≡◌, ℕ, ◌+◌, ◌<◌, length, get_or, sym, ◌∙◌, arith}
+use Rattle.std.proofs.Common.{◌+◌, get_or, sym, ◌∙◌, arith}
 use Rattle.diagram_store.specs.declared.branch.Branch.{Branch}
 use Rattle.diagram_ops.specs.Images.{IsQuantified}
 use Rattle.diagram_ops.proofs.OfImages.{node_of_list, low_placed, high_placed, low_within, high_within, low_above, high_above, choice_means}

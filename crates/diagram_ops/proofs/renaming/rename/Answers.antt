@@ -1,4 +1,4 @@
-use Rattle.std.proofs.Common.{◌≡◌, List, ◌∙◌}
+use Rattle.std.proofs.Common.{◌∙◌}
 use Rattle.diagram_ops.proofs.OfRenaming.{named_canonical, named_value, named_below}
 use Rattle.diagram_ops.proofs.renaming.rename.Goals as goal
 

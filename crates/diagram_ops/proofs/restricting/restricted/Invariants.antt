@@ -1,4 +1,4 @@
-use Rattle.std.proofs.Common.{◌≡◌, ℕ, ◌+◌, length}
+use Rattle.std.proofs.Common.{◌≡◌, ◌+◌, length}
 use Rattle.diagram_ops.specs.Images.{IsImage, IsRestricted}
 use Rattle.diagram_ops.specs.Scratch.{Keeps}
 use Rattle.diagram_ops.proofs.restricting.restricted.Given as goal

@@ -1,6 +1,3 @@
-use Rattle.std.proofs.Common.{ap}
-use Rattle.std.specs.Map.{lookup}
-use Rattle.diagram_ops.specs.Tables.{same_key}
 use Rattle.diagram_ops.proofs.table.Table.insert.Goals as goal
 
 pub returns-clause-ok : goal.returns-clause-ok
