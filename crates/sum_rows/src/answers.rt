@@ -3,6 +3,7 @@ ghost use Rattle.saturation_core.specs.States.{hand_at};
 
 use config_patterns::{Pattern, PatternFault, is_set};
 use path_sum::{Answer, sum};
+use pattern_openings::is_over;
 use prestar::pre_opening;
 use pushdown_rules::System;
 use saturation_core::{Book, Direction, Taken};
@@ -69,20 +70,16 @@ fn drive<S: Semiring, D: Direction<S>>(
     Ok(())
 }
 
-/// The answer between two patterns by backward saturation, if the system has their controls and the book is closed at the
-/// end.
+/// The answer between two patterns by backward saturation, if the system has their controls and their symbols and the book
+/// is closed at the end.
 pub fn answer<S: Semiring>(
     alloc: Global,
     system: &System<S>,
     from: &Pattern,
     to: &Pattern,
-) -> Result<Option<Answer<S>>, OutOfMemory>
-    requires symbols { to.now.symbols ≤ system.now.symbols }
-{
-    let controls = system.controls();
+) -> Result<Option<Answer<S>>, OutOfMemory> {
     let start = from.control();
-    let end = to.control();
-    if start >= controls || end >= controls {
+    if start >= system.controls() || !is_over(to, system.controls(), system.symbols()) {
         return Ok(None);
     }
     let mut book = pre_opening(alloc, system, to)?;
