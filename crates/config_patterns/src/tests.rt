@@ -82,7 +82,10 @@ fn edges_in_their_order(rt: HostRuntime) -> Result<(), Fail> {
         alloc,
         &[(&[2, 0], true), (&[1], false), (&[], true), (&[0], true)],
     )?;
-    assert_eq!(rt; (pattern.control(), pattern.symbols(), pattern.items()), (7, 3, 4));
+    assert_eq!(rt;
+        (pattern.control(), pattern.symbols(), pattern.items()),
+        (7, 3, 4)
+    );
     let edges = pattern.edges(alloc)?;
     let expected = [
         edge(0, 2, 1),
