@@ -269,7 +269,7 @@ impl<'g, S: Semiring> Growing<'g, S> {
         Ok(())
     }
 
-    // Adds all that goes on from a place.
+    /// Adds all that goes on from a place.
     pub fn draw(&mut self, task: &Task<S>, alloc: Global, place: Place) -> Result<(), OutOfMemory>
         requires ready { IsReady (S.operations task.now.semiring) task.now.transitions place (state_of self.old) }
         ensures grows { OnOk result (GrowsBy (S.operations task.now.semiring) task.now

@@ -48,7 +48,7 @@ fn settle<S: Semiring, D: Direction<S>>(
 }
 
 /// Saturates by one seat, and says whether the book is closed then.
-pub fn close_alone<S: Semiring, D: Direction<S>>(
+pub(crate) fn close_alone<S: Semiring, D: Direction<S>>(
     alloc: Global,
     book: &mut Book<'_, S, D>,
 ) -> Result<bool, OutOfMemory> {
@@ -63,7 +63,7 @@ pub fn close_alone<S: Semiring, D: Direction<S>>(
 
 /// Saturates by two seats that take one after the other, of which the second settles first. Says whether the book is
 /// closed then.
-pub fn close_in_turn<S: Semiring, D: Direction<S>>(
+pub(crate) fn close_in_turn<S: Semiring, D: Direction<S>>(
     alloc: Global,
     book: &mut Book<'_, S, D>,
 ) -> Result<bool, OutOfMemory> {

@@ -3,7 +3,7 @@ use pushdown_rules::{RuleFault, System};
 use std::alloc::Global;
 
 /// Controls p and q, symbols a, b and c: p a -> p b a at 2, and p b -> q at 1.
-pub fn calls(alloc: Global, cost: Cost) -> Result<System<Cost>, RuleFault> {
+pub(crate) fn calls(alloc: Global, cost: Cost) -> Result<System<Cost>, RuleFault> {
     let mut system = System::new(alloc, cost, 2, 3);
     system.add_rule(alloc, 0, 0, 0, &[1, 0], cost.number(2), None)?;
     system.add_rule(alloc, 0, 1, 1, &[], cost.number(1), None)?;
@@ -11,7 +11,7 @@ pub fn calls(alloc: Global, cost: Cost) -> Result<System<Cost>, RuleFault> {
 }
 
 /// Control p, symbols a, b and c: p a -> p a a at 1, and p a -> p at 0.
-pub fn grows(alloc: Global, cost: Cost) -> Result<System<Cost>, RuleFault> {
+pub(crate) fn grows(alloc: Global, cost: Cost) -> Result<System<Cost>, RuleFault> {
     let mut system = System::new(alloc, cost, 1, 3);
     system.add_rule(alloc, 0, 0, 0, &[0, 0], cost.number(1), None)?;
     system.add_rule(alloc, 0, 0, 0, &[], cost.number(0), None)?;
@@ -19,7 +19,7 @@ pub fn grows(alloc: Global, cost: Cost) -> Result<System<Cost>, RuleFault> {
 }
 
 /// Control p, symbols a, b and c: p a -> p b at 3, and p b -> p c at 3.
-pub fn steps(alloc: Global, cost: Cost) -> Result<System<Cost>, RuleFault> {
+pub(crate) fn steps(alloc: Global, cost: Cost) -> Result<System<Cost>, RuleFault> {
     let mut system = System::new(alloc, cost, 1, 3);
     system.add_rule(alloc, 0, 0, 0, &[1], cost.number(3), None)?;
     system.add_rule(alloc, 0, 1, 0, &[2], cost.number(3), None)?;

@@ -31,81 +31,78 @@ fn outcome(
     Ok((status, sink.written().to_vec(alloc)?))
 }
 
+const NOT_BUILT: &str = "refused: line 0: 14 NotBuilt\n";
+
+const REACHABLE: &str = "query 1: reachable\n";
+
+const UNREACHABLE: &str = "query 1: unreachable\n";
+
+// The lines after the names p, q, a and b, and the value of the query.
+const ANSWERED: [(&str, &str); 10] = [
+    // a call that returns to the symbol below it
+    (
+        "rule p a -> p b a\nrule p b -> q\nquery p: a => q: a\n",
+        REACHABLE,
+    ),
+    ("rule p b -> q\nquery p: a => q: a\n", UNREACHABLE),
+    // the empty run
+    ("rule p b -> q\nquery p: => p:\n", REACHABLE),
+    // a step, a pop, and a symbol that a pop uncovers
+    (
+        "rule p a -> p b\nrule p b -> q\nquery p: a a => q: a\n",
+        REACHABLE,
+    ),
+    (
+        "rule p a -> p b\nrule p b -> q\nquery p: a a => q:\n",
+        UNREACHABLE,
+    ),
+    // a recursion that never returns, and one that does
+    (
+        "rule p a -> p a b\nrule p b -> q\nquery p: a => q:\n",
+        UNREACHABLE,
+    ),
+    (
+        "rule p a -> p a a\nrule p a -> p\nquery p: a => p:\n",
+        REACHABLE,
+    ),
+    (
+        "rule p a -> p a a\nrule p a -> p\nquery p: a => p: a a a\n",
+        REACHABLE,
+    ),
+    ("rule p a -> p b a\nquery p: a => p: b a\n", REACHABLE),
+    ("rule p a -> p b a\nquery p: a => p: a b\n", UNREACHABLE),
+];
+
+// Two queries, none, and one at a control that is not there.
+const REFUSED: [&str; 3] = [
+    "rule p b -> q\nquery p: a => q: a\nquery p: a => q: a\n",
+    "",
+    "query p: a => r: a\n",
+];
+
+// How `check --brief` ends on these lines after those of the names, and what it writes.
+fn brief_outcome(alloc: Global, rest: &str) -> Result<(Status, Vec<u8>), OutOfMemory> {
+    let head = "wpds 1\nweights reach\ncontrols p q\nsymbols a b\n";
+    let document = format!(in alloc; "{head}{rest}")?;
+    outcome(alloc, &BRIEF, document.as_bytes(), &[], 100, &[])
+}
+
 #[test]
 fn answers_documents(rt: HostRuntime) -> Result<(), Fail> {
-    let head = "wpds 1\nweights reach\n";
-    let names = "controls p q\nsymbols a b\n";
-    let not_built = "refused: line 0: 14 NotBuilt\n";
-    let reachable = "query 1: reachable\n";
-    let unreachable = "query 1: unreachable\n";
-    for (rest, status, text) in [
-        // a call that returns to the symbol below it
-        (
-            "rule p a -> p b a\nrule p b -> q\nquery p: a => q: a\n",
-            Status::Answered,
-            reachable,
-        ),
-        (
-            "rule p b -> q\nquery p: a => q: a\n",
-            Status::Answered,
-            unreachable,
-        ),
-        // the empty run
-        (
-            "rule p b -> q\nquery p: => p:\n",
-            Status::Answered,
-            reachable,
-        ),
-        // two queries
-        (
-            "rule p b -> q\nquery p: a => q: a\nquery p: a => q: a\n",
-            Status::DocumentRefused,
-            not_built,
-        ),
-        // a step, a pop, and a symbol that a pop uncovers
-        (
-            "rule p a -> p b\nrule p b -> q\nquery p: a a => q: a\n",
-            Status::Answered,
-            reachable,
-        ),
-        (
-            "rule p a -> p b\nrule p b -> q\nquery p: a a => q:\n",
-            Status::Answered,
-            unreachable,
-        ),
-        // a recursion that never returns, and one that does
-        (
-            "rule p a -> p a b\nrule p b -> q\nquery p: a => q:\n",
-            Status::Answered,
-            unreachable,
-        ),
-        (
-            "rule p a -> p a a\nrule p a -> p\nquery p: a => p:\n",
-            Status::Answered,
-            reachable,
-        ),
-        (
-            "rule p a -> p a a\nrule p a -> p\nquery p: a => p: a a a\n",
-            Status::Answered,
-            reachable,
-        ),
-        (
-            "rule p a -> p b a\nquery p: a => p: b a\n",
-            Status::Answered,
-            reachable,
-        ),
-        (
-            "rule p a -> p b a\nquery p: a => p: a b\n",
-            Status::Answered,
-            unreachable,
-        ),
-        ("", Status::DocumentRefused, not_built),
-        ("query p: a => r: a\n", Status::DocumentRefused, not_built),
-    ] {
-        let document = format!(in rt.alloc(); "{head}{names}{rest}")?;
-        let (ended, written) = outcome(rt.alloc(), &BRIEF, document.as_bytes(), &[], 100, &[])?;
-        assert_eq!(rt; ended, status, "at {rest}");
+    for (rest, text) in ANSWERED {
+        let (ended, written) = brief_outcome(rt.alloc(), rest)?;
+        assert_eq!(rt; ended, Status::Answered, "at {rest}");
         assert_eq!(rt; written.as_slice(), text.as_bytes(), "at {rest}");
+    }
+    Ok(())
+}
+
+#[test]
+fn refuses_other_documents(rt: HostRuntime) -> Result<(), Fail> {
+    for rest in REFUSED {
+        let (ended, written) = brief_outcome(rt.alloc(), rest)?;
+        assert_eq!(rt; ended, Status::DocumentRefused, "at {rest}");
+        assert_eq!(rt; written.as_slice(), NOT_BUILT.as_bytes(), "at {rest}");
     }
     Ok(())
 }
@@ -133,7 +130,7 @@ fn refuses_words(rt: HostRuntime) -> Result<(), Fail> {
 
 #[test]
 fn stops_at_each_fault(rt: HostRuntime) -> Result<(), Fail> {
-    let text = "query 1: reachable\n".as_bytes();
+    let text = REACHABLE.as_bytes();
     let reads = CALL.len() as u64 / 16 + 2;
     for call in 0..reads {
         let (ended, written) = outcome(rt.alloc(), &BRIEF, CALL.as_bytes(), &[call], 100, &[])?;
@@ -164,7 +161,7 @@ fn stops_at_each_fault(rt: HostRuntime) -> Result<(), Fail> {
 #[test]
 fn refuses_what_is_too_long(rt: HostRuntime) -> Result<(), Fail> {
     for (length, text) in [
-        (4_194_304, "refused: line 0: 14 NotBuilt\n"),
+        (4_194_304, NOT_BUILT),
         (4_194_305, "refused: line 0: 1 TooLong\n"),
         (4_194_306, "refused: line 0: 1 TooLong\n"),
     ] {
