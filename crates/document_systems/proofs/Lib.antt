@@ -1,1 +1,2 @@
 pub mod OfPatterns
+pub mod OfLines

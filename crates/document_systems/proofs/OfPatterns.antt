@@ -1,10 +1,10 @@
 -- Patterns of single symbols.
-use Rattle.std.proofs.Common.{◌≡◌, ℕ, ◌+◌, ◌<◌, Bool, true, false, List, [], ◌∷◌, ◌++◌, map, take, get_or, length, refl, sym, ap, ◌∙◌, ◌&&◌, ◌||◌, IsTrue, ◌↔◌}
+use Rattle.std.proofs.Common.{◌≡◌, ℕ, ◌+◌, ◌<◌, Bool, true, false, List, [], ◌∷◌, ◌++◌, map, take, get_or, length, refl, sym, ap, ◌∙◌, ◌||◌, IsTrue, ◌↔◌}
 use Rattle.std.specs.Prelude.{nat_eq}
 use Rattle.std.proofs.lemmas.Bool.{and_parts, and_from, eqb-true, eq-eqb}
 use Rattle.std.proofs.lemmas.List.{take_more, map-append}
 use Rattle.pushdown_rules.specs.Configuration.{Configuration}
-use Rattle.config_patterns.specs.Membership.{has_member, has_symbol, items_match, is_bare}
+use Rattle.config_patterns.specs.Membership.{has_member, has_symbol, items_match}
 use Rattle.system_text.specs.declared.document.ConfigText.{ConfigText}
 use Rattle.document_systems.specs.Systems.{one_symbol, pattern_of, configuration_of}
 

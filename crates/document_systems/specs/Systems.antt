@@ -1,5 +1,5 @@
 -- The pushdown system and the patterns that a document means.
-use Rattle.std.specs.Prelude.{◌≡◌, ℕ, ◌≤◌, false, List, [], ◌∷◌, length, map, All, None}
+use Rattle.std.specs.Prelude.{ℕ, ◌≤◌, false, [], ◌∷◌, length, map, All, None}
 use Rattle.semiring_laws.specs.Semiring.{Operations}
 use Rattle.system_text.specs.FirstForm.{IsRuleLine, IsConfigText, IsWeightsLine}
 use Rattle.system_text.specs.declared.document.Document.{Document}

@@ -1,21 +1,22 @@
-ghost use Rattle.std.specs.Prelude.{◌≡◌, ◌<◌, ◌≤◌, ◌++◌, ◌∷◌, [], length, map, IfOk, OnOk};
+ghost use Rattle.std.specs.Prelude.{◌≡◌, ◌++◌, ◌∷◌, [], false, length, map, IfOk, OnOk, None};
+ghost use Rattle.pushdown_rules.specs.Fault.{rule_fault};
 ghost use Rattle.system_text.specs.FirstForm.{IsRuleLine};
 ghost use Rattle.document_systems.specs.Systems.{rule_of, system_of, one_symbol, pattern_of, HasSystem};
 
 use crate::DocumentWeights;
 use config_patterns::Pattern;
-use pushdown_rules::System;
+use pushdown_rules::{RuleFault, System};
 use std::alloc::Global;
 use system_text::{ConfigText, Document, RuleLine};
 use wpds_port::OutOfMemory;
 
-// Adds the rule of a line, which breaks no condition of a rule, so that only memory can be wanting.
+// Adds the rule of a line that is not refused.
 fn add_line<S: DocumentWeights>(
     alloc: Global,
     system: &mut System<S>,
     line: &RuleLine,
 ) -> Result<(), OutOfMemory>
-    requires few { length system.old.rules < 130000 }
+    requires { let r = line.now in rule_fault system.old r.control r.symbol r.to r.right false ≡ None }
     ensures { let s = system.old.semiring in OnOk result (system.new ≡ record system.old { rules = system.old.rules ++ rule_of (S.operations s) (S.weight s) line.now ∷ [] }) }
 {
     let right = line.right.as_slice();
@@ -30,7 +31,8 @@ fn add_line<S: DocumentWeights>(
         None,
     ) {
         Ok(_) => Ok(()),
-        Err(_) => Err(OutOfMemory),
+        Err(RuleFault::Memory) => Err(OutOfMemory),
+        Err(_) => unreachable!(),
     }
 }
 

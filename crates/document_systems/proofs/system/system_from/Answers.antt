@@ -1,0 +1,22 @@
+use Rattle.std.proofs.Common.{◌≡◌, ◌<◌, length, get_or, ap, ◌∙◌, sym, subst}
+use Rattle.std.specs.Prelude.{All}
+use Rattle.system_text.specs.FirstForm.{IsRuleLine}
+use Rattle.pushdown_rules.specs.Pushdown.{Pushdown}
+use Rattle.document_systems.proofs.OfLines.{next_is_not_refused, rules_before}
+use Rattle.document_systems.proofs.system.system_from.Goals as goal
+
+pub add_line-requires : goal.add_line-requires
+add_line-requires g c =
+    let d = c.args.document.now in
+    let i = c.loop-line.line-index in
+    let s = c.loop-line.system in
+    let same = c.loop-line.invariant in
+    let controls : s.controls ≡ length d.controls = ap (λ (p : Pushdown _ _ _). p.controls) same in
+    let symbols : s.symbols ≡ length d.symbols = ap (λ (p : Pushdown _ _ _). p.symbols) same in
+    let read = c.as_slice-line-items.ensures in
+    let within : i < length d.rules = subst (λ xs. i < length xs) read c.loop-line-test.true in
+    let item : c.line-item.result ≡ get_or d.rules i c.line-item.result = subst (λ xs. c.line-item.result ≡ get_or xs i c.line-item.result) read c.line-item.is in
+    let count : length s.rules ≡ i = ap (λ (p : Pushdown _ _ _). length p.rules) same ∙ rules_before _ d.rules i within in
+    next_is_not_refused s d.weights d.rules i c.line-item.result
+    (subst (λ m. All (IsRuleLine d.weights m s.symbols) d.rules) (sym controls) (subst (λ n. All (IsRuleLine d.weights (length d.controls) n) d.rules) (sym symbols) c.requires.rules))
+    c.requires.few within item count
