@@ -1,2 +1,3 @@
 mod OfAlone
 mod OfTurns
+mod WorkedRows
