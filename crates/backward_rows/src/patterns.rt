@@ -2,6 +2,7 @@ ghost use Rattle.std.specs.Prelude.{◌≡◌, IfOk};
 ghost use Rattle.pattern_openings.specs.PatternOpenings.{IsOver};
 
 use config_patterns::{Pattern, PatternFault, is_set};
+use pattern_openings::is_over;
 use pushdown_rules::System;
 use semiring_laws::Semiring;
 use std::alloc::Global;
@@ -44,7 +45,7 @@ pub fn pattern_over<S: Semiring>(
     ensures { IfOk result (IsOver system.now.controls system.now.symbols) }
 {
     let pattern = pattern(alloc, control, system.symbols(), items)?;
-    if pattern.control() >= system.controls() {
+    if !is_over(&pattern, system.controls(), system.symbols()) {
         return Err(PatternFault::NoSymbol);
     }
     Ok(pattern)
