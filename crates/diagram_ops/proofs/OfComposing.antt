@@ -1,7 +1,7 @@
 -- One step of the composition of two relations.
 use Rattle.std.proofs.Common.{◌≡◌, ℕ, ◌+◌, ◌*◌, ◌/◌, ◌%◌, ◌<◌, ◌≤◌, Bool, true, false, ◌||◌, List, length, refl, sym, ap, ◌∙◌, subst, inl, inr, arith}
 use Rattle.std.specs.Prelude.{Option, None, Some, ◌⊎◌, IsTrue, nat_eq, cond}
-use Rattle.std.proofs.lemmas.Bool.{cond-true, cond-false, cases_Bool, cases_eq, eq-eqb, eqb-true, false_from_ne_true}
+use Rattle.std.proofs.lemmas.Bool.{cond-true, cond-false, cases_Bool, cases_eq, eq-eqb, eqb-true, false_from_ne_true, or_left, or_right, or_cases}
 use Rattle.std.proofs.lemmas.Option.{same_Some}
 use Rattle.diagram_store.specs.declared.branch.Branch.{Branch}
 use Rattle.diagram_store.specs.Nodes.{IsAbove, IsReduced}
@@ -17,7 +17,7 @@ use Rattle.diagram_ops.specs.Composing.{position, placed_value, IsTrueBetween, I
 use Rattle.diagram_ops.proofs.OfKeeping.{keeps_same, keeps_both, keeps_within, keeps_past, keeps_above, keeps_value}
 use Rattle.diagram_ops.proofs.OfPushes.{key_parts}
 use Rattle.diagram_ops.proofs.OfCofactors.{Bounds, lower_is, lower_none, none_of_place, node_of_place, place_value, place_smaller, place_within, place_past}
-use Rattle.diagram_ops.proofs.OfQuantifying.{or_left, or_right, or_cases, or_table}
+use Rattle.diagram_ops.proofs.OfQuantifying.{or_table}
 use Rattle.diagram_ops.proofs.OfApplying.{value3_same}
 
 pub rises : (side : Side) (v w : ℕ) → v < w → position side v < position side w

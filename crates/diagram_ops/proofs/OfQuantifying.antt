@@ -1,7 +1,7 @@
 -- Quantification by the disjunction of the branches.
 use Rattle.std.proofs.Common.{◌≡◌, ℕ, ◌<◌, ◌≤◌, Bool, true, false, ◌||◌, List, length, refl, sym, ap, ◌∙◌, inl, inr, arith}
-use Rattle.std.specs.Prelude.{Option, Some, ◌⊎◌, cond, slice_index_or}
-use Rattle.std.proofs.lemmas.Bool.{cond-true, cond-false, cases_Bool}
+use Rattle.std.specs.Prelude.{Option, Some, cond, slice_index_or}
+use Rattle.std.proofs.lemmas.Bool.{cond-true, cond-false, cases_Bool, or_left, or_right, or_cases}
 use Rattle.truth_tables.specs.Tables.{value3_of}
 use Rattle.diagram_store.specs.declared.branch.Branch.{Branch}
 use Rattle.diagram_store.specs.Nodes.{node_at, IsAbove, IsReduced}
@@ -21,18 +21,6 @@ never_quantified nodes vars bits = (λ e. cc, λ h. let f : true ≡ false = sym
 
 pub always_quantified : (nodes : List Branch) (vars : List ℕ) (bits : ℕ → Bool) → IsQuantified nodes vars 1 bits true
 always_quantified nodes vars bits = (λ e. (bits, λ k off. refl, value_at_end nodes 1 bits refl), λ h. refl)
-
-pub or_left : (a b : Bool) → a ≡ true → (a || b) ≡ true
-or_left true b e = refl
-or_left false b e = cc
-
-pub or_right : (a b : Bool) → b ≡ true → (a || b) ≡ true
-or_right true b e = refl
-or_right false b e = e
-
-pub or_cases : (a b : Bool) → (a || b) ≡ true → (a ≡ true) ⊎ (b ≡ true)
-or_cases true b e = inl refl
-or_cases false b e = inr e
 
 pub or_table : (a b : Bool) → value3_of 252 a b false ≡ (a || b)
 or_table true true = refl

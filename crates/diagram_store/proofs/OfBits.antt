@@ -1,9 +1,9 @@
 -- Lists of bits stand for all bits that a diagram reads.
-use Rattle.std.proofs.Common.{◌≡◌, ℕ, zero, suc, ◌+◌, ◌<◌, ◌≤◌, Bool, true, false, List, [], ◌∷◌, length, refl, sym, ap, ◌∙◌, inl, inr, arith}
+use Rattle.std.proofs.Common.{◌≡◌, ℕ, zero, suc, ◌+◌, ◌<◌, ◌≤◌, Bool, List, [], ◌∷◌, refl, sym, ap, ◌∙◌, arith}
 use Rattle.std.specs.Prelude.{Some, slice_get}
 use Rattle.std.proofs.lemmas.Option.{same_Some}
 use Rattle.diagram_store.specs.declared.branch.Branch.{Branch}
-use Rattle.diagram_store.specs.Nodes.{node_at, IsReduced, HasVariablesBelow}
+use Rattle.diagram_store.specs.Nodes.{IsReduced, HasVariablesBelow}
 use Rattle.diagram_store.specs.Meaning.{value_at, bits_of}
 use Rattle.diagram_store.proofs.OfMeanings.{Same}
 use Rattle.diagram_store.proofs.OfTurns.{reads_below}

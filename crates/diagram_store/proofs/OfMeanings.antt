@@ -1,9 +1,9 @@
 -- Equal values come from equal nodes.
-use Rattle.std.proofs.Common.{◌≡◌, ℕ, zero, suc, ◌+◌, ◌<◌, ◌≤◌, Bool, true, false, List, length, refl, sym, ap, ◌∙◌, subst, inl, inr, arith}
-use Rattle.std.specs.Prelude.{Option, None, Some, ◌⊎◌, nat_eq, cond}
-use Rattle.std.proofs.lemmas.Bool.{cases_lt, cases_eq, cases_Bool, eq-eqb, eqb-true}
+use Rattle.std.proofs.Common.{◌≡◌, ℕ, zero, suc, ◌+◌, ◌<◌, ◌≤◌, Bool, true, false, List, length, sym, ap, ◌∙◌, subst, inl, inr, arith}
+use Rattle.std.specs.Prelude.{None, Some, nat_eq, cond}
+use Rattle.std.proofs.lemmas.Bool.{cases_lt, cases_eq, eq-eqb, eqb-true}
 use Rattle.diagram_store.specs.declared.branch.Branch.{Branch}
-use Rattle.diagram_store.specs.Nodes.{node_at, IsAbove, IsReduced, HasVariablesBelow}
+use Rattle.diagram_store.specs.Nodes.{node_at, IsAbove, IsReduced}
 use Rattle.diagram_store.specs.Meaning.{value_at, set_bit}
 use Rattle.diagram_store.proofs.OfNodes.{option_cases, node_within, constant_below, one_node}
 use Rattle.diagram_store.proofs.OfValues.{value_at_end, value_at_node, value_above, set_same, set_other}

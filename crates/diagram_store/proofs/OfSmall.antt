@@ -1,10 +1,9 @@
 -- Constants and literals are canonical, and what equal parts say of values.
-use Rattle.std.proofs.Common.{◌≡◌, ℕ, zero, suc, ◌+◌, ◌<◌, ◌≤◌, Bool, true, false, List, [], ◌∷◌, length, refl, sym, ap, ap₂, ◌∙◌, subst, inl, inr, arith}
-use Rattle.std.specs.Prelude.{Option, None, Some, ◌↔◌, IsTrue, nat_eq, cond, slice_get}
+use Rattle.std.proofs.Common.{◌≡◌, ℕ, zero, suc, ◌<◌, Bool, true, false, List, [], ◌∷◌, refl, sym, ap₂, ◌∙◌, subst, arith}
+use Rattle.std.specs.Prelude.{◌↔◌, IsTrue, nat_eq, cond}
 use Rattle.std.proofs.lemmas.Option.{same_Some}
-use Rattle.std.proofs.lemmas.Bool.{cases_Bool}
 use Rattle.diagram_store.specs.declared.branch.Branch.{Branch}
-use Rattle.diagram_store.specs.Nodes.{node_at, IsAbove, IsReduced, HasVariablesBelow}
+use Rattle.diagram_store.specs.Nodes.{IsReduced, HasVariablesBelow}
 use Rattle.diagram_store.specs.Meaning.{value_at}
 use Rattle.diagram_store.specs.Canonical.{IsCanonical}
 use Rattle.diagram_store.specs.Fitting.{IsFitting}

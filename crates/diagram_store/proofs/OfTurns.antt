@@ -1,15 +1,15 @@
 -- The order of a canonical list, and that the list is decided by its meaning.
 use Rattle.std.proofs.Common.{◌≡◌, ℕ, zero, suc, ◌+◌, ◌<◌, ◌≤◌, Bool, true, false, List, [], ◌∷◌, length, refl, sym, ap, ap₂, ◌∙◌, subst, inl, inr, arith}
-use Rattle.std.specs.Prelude.{Option, None, Some, ◌⊎◌, nat_eq, nat_lt, cond, option_and_then, slice_get}
-use Rattle.std.proofs.lemmas.Bool.{cases_lt, cases_eq, cases_Bool, cond-true, cond-false, eq-eqb, eqb-true, lt-ltb, ltb-true, false_from_ne_true}
+use Rattle.std.specs.Prelude.{Option, None, Some, nat_eq, nat_lt, cond, option_and_then, slice_get}
+use Rattle.std.proofs.lemmas.Bool.{cases_lt, cases_eq, cond-true, cond-false, eq-eqb, eqb-true, lt-ltb, ltb-true, false_from_ne_true}
 use Rattle.std.proofs.lemmas.Option.{same_Some}
 use Rattle.diagram_store.specs.declared.branch.Branch.{Branch}
-use Rattle.diagram_store.specs.Nodes.{node_at, IsAbove, IsReduced, HasVariablesBelow}
+use Rattle.diagram_store.specs.Nodes.{node_at, IsReduced, HasVariablesBelow}
 use Rattle.diagram_store.specs.Meaning.{value_at, set_bit}
 use Rattle.diagram_store.specs.Canonical.{in_turn, leave, turn_after, IsCanonical}
 use Rattle.diagram_store.proofs.OfNodes.{option_cases, node_within, node_there, no_node, one_node}
-use Rattle.diagram_store.proofs.OfValues.{value_agrees, value_at_end, value_at_node, same_cond, set_same, set_other}
-use Rattle.diagram_store.proofs.OfMeanings.{Same, same_sym, from_parts, branches_within, low_value, high_value, one_value, same_low, same_high, one_reference, branches_apart, same_is_node}
+use Rattle.diagram_store.proofs.OfValues.{value_agrees, value_at_end, value_at_node, same_cond, set_other}
+use Rattle.diagram_store.proofs.OfMeanings.{Same, from_parts, branches_within, low_value, high_value, one_value, same_low, same_high, one_reference, branches_apart, same_is_node}
 
 not_below : (r turn : ℕ) → turn ≤ r → nat_lt r turn ≡ false
 not_below r turn h = false_from_ne_true (nat_lt r turn) (λ e. let f : r < turn = ltb-true r turn e in absurd (omega arith))

@@ -1,11 +1,11 @@
 -- The value at a reference.
-use Rattle.std.proofs.Common.{◌≡◌, ℕ, zero, suc, ◌+◌, ◌<◌, ◌≤◌, Bool, true, false, List, length, refl, sym, ap, ◌∙◌, subst, inl, inr, arith}
-use Rattle.std.specs.Prelude.{Option, None, Some, ◌⊎◌, nat_eq, cond}
-use Rattle.std.proofs.lemmas.Bool.{cond_both, cond-true, cond-false, cases_Bool, eq-eqb, eqb-true, false_from_ne_true}
+use Rattle.std.proofs.Common.{◌≡◌, ℕ, zero, suc, ◌<◌, ◌≤◌, Bool, true, false, List, refl, sym, ap, ◌∙◌, inl, inr, arith}
+use Rattle.std.specs.Prelude.{None, Some, nat_eq, cond}
+use Rattle.std.proofs.lemmas.Bool.{cond_both, cond-true, cond-false, eq-eqb, eqb-true, false_from_ne_true}
 use Rattle.diagram_store.specs.declared.branch.Branch.{Branch}
 use Rattle.diagram_store.specs.Nodes.{node_at, IsAbove, IsReduced}
 use Rattle.diagram_store.specs.Meaning.{branch_by, step, walk, value_at, set_bit}
-use Rattle.diagram_store.proofs.OfNodes.{option_cases, node_within, no_node}
+use Rattle.diagram_store.proofs.OfNodes.{option_cases, no_node}
 
 walk_at_node : (nodes : List Branch) (bits : ℕ → Bool) (d r : ℕ) (n : Branch) → node_at nodes r ≡ Some n → walk nodes bits (suc d) r ≡ walk nodes bits d (branch_by bits n)
 unfolding walk

@@ -1,5 +1,5 @@
-use Rattle.std.proofs.Common.{◌≡◌, ◌<◌, ◌≤◌, refl, sym, ap, ◌∙◌, arith}
-use Rattle.std.specs.Prelude.{None, Some, option_and_then}
+use Rattle.std.proofs.Common.{sym, ap, ◌∙◌, arith}
+use Rattle.std.specs.Prelude.{option_and_then}
 use Rattle.diagram_store.specs.Canonical.{in_turn, turn_after}
 use Rattle.diagram_store.proofs.OfNodes.{node_within}
 use Rattle.diagram_store.proofs.OfTurns.{turn_below, turn_by_branches, turn_nowhere}

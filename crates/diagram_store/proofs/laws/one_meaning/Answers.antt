@@ -1,4 +1,4 @@
-use Rattle.std.proofs.Common.{◌≡◌, ℕ, ◌∙◌, ap, ap₂, List, Bool}
+use Rattle.std.proofs.Common.{ap₂}
 use Rattle.diagram_store.specs.Meaning.{value_at, bits_of}
 use Rattle.diagram_store.proofs.OfTurns.{canonical_is_one}
 use Rattle.diagram_store.proofs.OfBits.{same_by_lists}

@@ -1,5 +1,3 @@
-use Rattle.std.specs.Prelude.{IfOk}
-use Rattle.std.proofs.Common.{◌≡◌, ℕ}
 use Rattle.diagram_store.proofs.OfSmall.{literal_canonical, literal_value, literal_variable}
 use Rattle.diagram_store.proofs.diagram.Diagram.literal.Goals as goal
 

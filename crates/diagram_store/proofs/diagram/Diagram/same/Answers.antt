@@ -1,4 +1,4 @@
-use Rattle.std.proofs.Common.{◌≡◌, ℕ, sym, ◌∙◌}
+use Rattle.std.proofs.Common.{sym, ◌∙◌}
 use Rattle.std.proofs.lemmas.Bool.{eqb-true}
 use Rattle.diagram_store.proofs.OfSmall.{values_by_parts}
 use Rattle.diagram_store.proofs.OfTurns.{canonical_is_one}

@@ -1,4 +1,4 @@
-use Rattle.std.proofs.Common.{◌≡◌, ℕ, true, false, sym, ap, ◌∙◌}
+use Rattle.std.proofs.Common.{sym, ◌∙◌}
 use Rattle.std.specs.Prelude.{None, Some}
 use Rattle.diagram_store.specs.Meaning.{bits_of}
 use Rattle.diagram_store.proofs.OfNodes.{node_found}
