@@ -1,4 +1,4 @@
-ghost use Rattle.std.specs.Prelude.{◌≡◌, ◌-◌, length, IfOk};
+ghost use Rattle.std.specs.Prelude.{◌≡◌, ◌-◌, false, length, IsOk, IfOk};
 ghost use Rattle.witness_graph.specs.Runs.{runs_of};
 ghost use Rattle.short_listings.specs.Shorter as shorter;
 
@@ -111,11 +111,13 @@ fn by_stands(stands: &[u64], node: Node) -> Node
     }
 }
 
-/// The listing made shorter. Its runs are the same list. It is refused only for want of memory.
+/// The listing made shorter. Its runs are the same list. It is refused only for want of memory, and never where the
+/// empty run does not stand first: such a listing stays as it is.
 pub fn shorter(alloc: Global, listing: Listing) -> Result<Listing, OutOfMemory>
     ensures side { IfOk result (λ l. l.side ≡ listing.side) }
     ensures nodes { IfOk result (λ l. l.nodes ≡ shorter.shortened listing.nodes) }
     ensures runs { IfOk result (λ l. runs_of l.side l.nodes (length l.nodes - 1) ≡ runs_of listing.side listing.nodes (length listing.nodes - 1)) }
+    ensures given { shorter.begins_empty listing.nodes ≡ false → IsOk result }
 {
     let nodes = listing.nodes.as_slice();
     if !begins_empty(nodes) {
