@@ -1,5 +1,5 @@
 -- Nodes made shorter one after another.
-use Rattle.std.proofs.Common.{◌≡◌, ◌≢◌, ◌⊎◌, inl, inr, ℕ, zero, suc, ◌+◌, ◌<◌, ◌≤◌, Bool, true, false, List, [], ◌∷◌, ◌++◌, length, take, drop, get_or, Option, Some, None, refl, sym, ap, subst, ◌∙◌, append-nil, append_assoc, arith}
+use Rattle.std.proofs.Common.{◌≡◌, ◌⊎◌, inl, inr, ℕ, zero, suc, ◌+◌, ◌<◌, ◌≤◌, Bool, true, false, List, [], ◌∷◌, ◌++◌, length, take, drop, get_or, Option, Some, None, refl, sym, ap, subst, ◌∙◌, append-nil, append_assoc, arith}
 use Rattle.std.specs.Prelude.{IfSome, slice_get, slice_index_or, unwrap_or, nat_lt, IsTrue}
 use Rattle.std.proofs.lemmas.Bool.{ltb-true, ltb-false}
 use Rattle.std.proofs.lemmas.Option.{slice_get-get_or}
@@ -7,7 +7,7 @@ use Rattle.std.proofs.lemmas.List.{length-append, length-take-le, take_more, dro
 use Rattle.witness_graph.specs.declared.node.Node.{Node}
 use Rattle.witness_graph.specs.declared.node.Node.TheVariants.{Start, Lower}
 use Rattle.witness_graph.specs.declared.node.Side.{Side}
-use Rattle.witness_graph.specs.Nodes.{EachNamed, AreNodes, IsNodeAt, is_orderly, has_part}
+use Rattle.witness_graph.specs.Nodes.{EachNamed, AreNodes, IsNodeAt, is_orderly}
 use Rattle.witness_graph.specs.Runs.{runs_of, runs_over}
 use Rattle.witness_graph.proofs.OfNodes.{each_earlier, orderly_from, nodes_push}
 use Rattle.witness_graph.proofs.OfRuns.{runs_of-push_old, runs_of-push_new}

@@ -1,13 +1,13 @@
 -- A listing that is made shorter stays tight.
-use Rattle.std.proofs.Common.{◌≡◌, ◌≢◌, ◌⊎◌, inl, inr, ℕ, zero, suc, ◌-◌, ◌<◌, ◌≤◌, Bool, true, false, cond, List, [], ◌∷◌, length, map, Option, Some, None, refl, sym, ap, subst, ◌∙◌, arith, IsTrue}
-use Rattle.std.specs.Prelude.{IfSome, slice_get, slice_index_or}
+use Rattle.std.proofs.Common.{◌≡◌, ◌⊎◌, inl, inr, ℕ, zero, suc, ◌-◌, ◌<◌, Bool, true, false, cond, List, [], ◌∷◌, length, map, Some, None, refl, sym, ap, subst, ◌∙◌, arith}
+use Rattle.std.specs.Prelude.{slice_get, slice_index_or}
 use Rattle.semiring_laws.specs.Semiring.{Operations}
 use Rattle.semiring_laws.specs.Combination.{combination}
 use Rattle.witness_graph.specs.declared.node.Node.{Node}
 use Rattle.witness_graph.specs.declared.node.Node.TheVariants.{Start, Lower}
 use Rattle.witness_graph.specs.declared.node.Side.{Side}
-use Rattle.witness_graph.specs.Nodes.{EachNamed, AreNodes, IsListing, node_at}
-use Rattle.witness_graph.specs.Order.{post_order, is_listed, listing_of}
+use Rattle.witness_graph.specs.Nodes.{EachNamed, IsListing, node_at}
+use Rattle.witness_graph.specs.Order.{post_order, listing_of}
 use Rattle.witness_graph.specs.Tight.{worth_of, IsTightNode, IsTight, AreTight}
 use Rattle.witness_graph.proofs.OfListings.{listing_tight}
 use Rattle.witness_graph.proofs.OfNodes.{each_earlier}

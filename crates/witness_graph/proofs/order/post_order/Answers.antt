@@ -1,7 +1,7 @@
 use Rattle.std.proofs.Common.{◌≡◌, ℕ, Option, List, [], ◌∷◌, ◌++◌, ◌+◌, length, Some, nat_eq, sym, ap, ◌∙◌, subst, arith}
 use Rattle.std.specs.Prelude.{is_some, cond}
 use Rattle.std.specs.HashMap.{get}
-use Rattle.witness_graph.specs.Nodes.{named, node_at}
+use Rattle.witness_graph.specs.Nodes.{named}
 use Rattle.witness_graph.specs.Walking.{IsWalking, first_new, unlisted}
 use Rattle.witness_graph.proofs.OfWalks.{walking_popped, walking_top, walking_down, walking_up, walking_lacks, smaller_down, smaller_up, unlisted_less}
 use Rattle.witness_graph.proofs.order.post_order.Goals as goal

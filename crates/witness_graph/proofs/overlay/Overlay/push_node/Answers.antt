@@ -1,4 +1,4 @@
-use Rattle.std.proofs.Common.{◌≡◌, ℕ, List, [], ◌∷◌, ◌++◌, length, sym, ap, ◌∙◌, subst, append_assoc}
+use Rattle.std.proofs.Common.{ℕ, [], ◌∷◌, ◌++◌, length, sym, ap, ◌∙◌, subst, append_assoc}
 use Rattle.witness_graph.specs.Nodes.{AreNodes, IsNodeAt}
 use Rattle.witness_graph.proofs.OfNodes.{nodes_push}
 use Rattle.witness_graph.proofs.overlay.Overlay.push_node.Goals as goal
