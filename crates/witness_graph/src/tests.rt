@@ -1,5 +1,5 @@
 use crate::{
-    Graph, Node, Overlay, Side, listing_stays_tight, post_order_has_the_reached,
+    Graph, Listing, Node, Overlay, Side, listing_stays_tight, post_order_has_the_reached,
     runs_are_those_of_parts,
 };
 use semiring_laws::Reach;
@@ -36,100 +36,122 @@ fn graph_of(alloc: Global, nodes: &[Node]) -> Result<Graph, OutOfMemory> {
     Ok(graph)
 }
 
-// Nodes, and the listing of the last.
-const LISTINGS: [(&[Node], &[Node]); 6] = [
-    // one node
-    (&[START], &[START]),
-    // nodes that are not reached
-    (
-        &[
-            START,
-            START,
-            lower(None, Some(7), Some(0), None),
-            START,
-            lower(None, Some(0), Some(1), None),
-        ],
-        &[START, lower(None, Some(0), Some(0), None)],
-    ),
-    // before, first and second, in this order
-    (
-        &[
-            lower(None, Some(1), None, None),
-            lower(None, Some(2), None, None),
-            lower(None, Some(3), None, None),
-            lower(Some(2), None, Some(0), Some(1)),
-        ],
-        &[
-            lower(None, Some(3), None, None),
-            lower(None, Some(1), None, None),
-            lower(None, Some(2), None, None),
-            lower(Some(0), None, Some(1), Some(2)),
-        ],
-    ),
-    // a chain of nodes before
-    (
-        &[
-            START,
-            lower(None, Some(5), Some(0), None),
-            lower(Some(1), Some(6), Some(0), Some(0)),
-            lower(Some(2), Some(7), None, None),
-        ],
-        &[
-            START,
-            lower(None, Some(5), Some(0), None),
-            lower(Some(1), Some(6), Some(0), Some(0)),
-            lower(Some(2), Some(7), None, None),
-        ],
-    ),
-    // a diamond, its right side first
-    (
-        &[
-            START,
-            lower(None, Some(1), Some(0), None),
-            lower(None, Some(2), Some(0), None),
-            lower(None, None, Some(2), Some(1)),
-        ],
-        &[
-            START,
-            lower(None, Some(2), Some(0), None),
-            lower(None, Some(1), Some(0), None),
-            lower(None, None, Some(1), Some(2)),
-        ],
-    ),
-    // a node that is reached through two others, and from the root
-    (
-        &[
-            START,
-            lower(None, Some(1), Some(0), None),
-            lower(Some(1), Some(2), Some(1), None),
-            lower(Some(0), None, Some(2), Some(1)),
-        ],
-        &[
-            START,
-            lower(None, Some(1), Some(0), None),
-            lower(Some(1), Some(2), Some(1), None),
-            lower(Some(0), None, Some(2), Some(1)),
-        ],
-    ),
-];
+// The listing of the last of these nodes, each of which may stand in its place.
+fn listed(alloc: Global, nodes: &[Node]) -> Result<Listing, OutOfMemory> {
+    let graph = graph_of(alloc, nodes)?;
+    let len = graph.len();
+    if len == 0 || len < nodes.len() as u64 {
+        return Err(OutOfMemory);
+    }
+    graph.listing(alloc, len - 1)
+}
 
 #[test]
 fn listings(rt: HostRuntime) -> Result<(), Fail> {
     let alloc = rt.alloc();
-    for (nodes, want) in LISTINGS {
-        let graph = graph_of(alloc, nodes)?;
-        let len = graph.len();
-        assert_eq!(rt; len, nodes.len() as u64);
-        assert!(rt; 0 < len);
-        let listing = graph.listing(alloc, len - 1)?;
+    let cases = [
+        // one node
+        (vec![in alloc; START]?, vec![in alloc; START]?),
+        // nodes that are not reached
+        (
+            vec![in alloc;
+                START,
+                START,
+                lower(None, Some(7), Some(0), None),
+                START,
+                lower(None, Some(0), Some(1), None),
+            ]?,
+            vec![in alloc; START, lower(None, Some(0), Some(0), None)]?,
+        ),
+        // before, first and second, in this order
+        (
+            vec![in alloc;
+                lower(None, Some(1), None, None),
+                lower(None, Some(2), None, None),
+                lower(None, Some(3), None, None),
+                lower(Some(2), None, Some(0), Some(1)),
+            ]?,
+            vec![in alloc;
+                lower(None, Some(3), None, None),
+                lower(None, Some(1), None, None),
+                lower(None, Some(2), None, None),
+                lower(Some(0), None, Some(1), Some(2)),
+            ]?,
+        ),
+    ];
+    for (nodes, want) in cases {
+        let listing = listed(alloc, &nodes)?;
         assert_eq!(rt; listing.side, Side::Post);
-        assert_eq!(rt; listing.nodes.as_slice(), want);
-        assert_eq!(rt; listing.nodes.into_vec().as_slice(), want);
+        assert_eq!(rt; listing.nodes.as_slice(), want.as_slice());
+        assert_eq!(rt; listing.nodes.into_vec().as_slice(), want.as_slice());
     }
+    Ok(())
+}
+
+#[test]
+fn listings_of_shared_nodes(rt: HostRuntime) -> Result<(), Fail> {
+    let alloc = rt.alloc();
+    let cases = [
+        // a chain of nodes before
+        (
+            vec![in alloc;
+                START,
+                lower(None, Some(5), Some(0), None),
+                lower(Some(1), Some(6), Some(0), Some(0)),
+                lower(Some(2), Some(7), None, None),
+            ]?,
+            vec![in alloc;
+                START,
+                lower(None, Some(5), Some(0), None),
+                lower(Some(1), Some(6), Some(0), Some(0)),
+                lower(Some(2), Some(7), None, None),
+            ]?,
+        ),
+        // a diamond, its right side first
+        (
+            vec![in alloc;
+                START,
+                lower(None, Some(1), Some(0), None),
+                lower(None, Some(2), Some(0), None),
+                lower(None, None, Some(2), Some(1)),
+            ]?,
+            vec![in alloc;
+                START,
+                lower(None, Some(2), Some(0), None),
+                lower(None, Some(1), Some(0), None),
+                lower(None, None, Some(1), Some(2)),
+            ]?,
+        ),
+        // a node that is reached through two others, and from the root
+        (
+            vec![in alloc;
+                START,
+                lower(None, Some(1), Some(0), None),
+                lower(Some(1), Some(2), Some(1), None),
+                lower(Some(0), None, Some(2), Some(1)),
+            ]?,
+            vec![in alloc;
+                START,
+                lower(None, Some(1), Some(0), None),
+                lower(Some(1), Some(2), Some(1), None),
+                lower(Some(0), None, Some(2), Some(1)),
+            ]?,
+        ),
+    ];
+    for (nodes, want) in cases {
+        let listing = listed(alloc, &nodes)?;
+        assert_eq!(rt; listing.side, Side::Post);
+        assert_eq!(rt; listing.nodes.as_slice(), want.as_slice());
+        assert_eq!(rt; listing.nodes.into_vec().as_slice(), want.as_slice());
+    }
+    Ok(())
+}
+
+#[test]
+fn laws() {
     listing_stays_tight::<Reach>();
     post_order_has_the_reached();
     runs_are_those_of_parts();
-    Ok(())
 }
 
 #[test]
