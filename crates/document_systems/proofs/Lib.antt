@@ -1,2 +1,3 @@
 pub mod OfPatterns
 pub mod OfLines
+pub mod OfSymbols

@@ -11,7 +11,7 @@ use Rattle.system_text.specs.FirstForm.{IsRuleLine}
 use Rattle.pushdown_rules.specs.Pushdown.{Pushdown}
 use Rattle.pushdown_rules.specs.Fault.{rule_fault}
 
-is_below : (n k : ℕ) → k < n → nat_le n k ≡ false
+pub is_below : (n k : ℕ) → k < n → nat_le n k ≡ false
 is_below n k low = grind (arith, nat_tests)
 
 none_from : (n : ℕ) (gs : List ℕ) → AllByRecursion (λ g. g < n) gs → list_any (λ g. nat_le n g) gs ≡ false

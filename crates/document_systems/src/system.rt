@@ -1,10 +1,11 @@
-ghost use Rattle.std.specs.Prelude.{◌≡◌, ◌++◌, ◌∷◌, [], false, length, map, IfOk, OnOk, None};
+ghost use Rattle.std.specs.Prelude.{◌≡◌, ◌<◌, ◌≤◌, ◌++◌, ◌∷◌, [], false, length, map, All, IfOk, OnOk, None};
+ghost use Rattle.config_patterns.specs.Fault.{item_fault};
 ghost use Rattle.pushdown_rules.specs.Fault.{rule_fault};
 ghost use Rattle.system_text.specs.FirstForm.{IsRuleLine};
 ghost use Rattle.document_systems.specs.Systems.{rule_of, system_of, one_symbol, pattern_of, HasSystem};
 
 use crate::DocumentWeights;
-use config_patterns::Pattern;
+use config_patterns::{Pattern, PatternFault};
 use pushdown_rules::{RuleFault, System};
 use std::alloc::Global;
 use system_text::{ConfigText, Document, RuleLine};
@@ -54,18 +55,22 @@ pub fn system_from<S: DocumentWeights>(
     Ok(system)
 }
 
-// Adds an item of one symbol, which breaks no condition of an item, so that only memory can be wanting.
+// Adds an item of one symbol that is not refused.
 fn add_symbol(alloc: Global, pattern: &mut Pattern, symbol: u32) -> Result<(), OutOfMemory>
+    requires { item_fault pattern.old (symbol ∷ []) false ≡ None }
     ensures { OnOk result (pattern.new ≡ record pattern.old { items = pattern.old.items ++ one_symbol symbol ∷ [] }) }
 {
     match pattern.add_item(alloc, &[symbol], false) {
         Ok(()) => Ok(()),
-        Err(_) => Err(OutOfMemory),
+        Err(PatternFault::Memory) => Err(OutOfMemory),
+        Err(_) => unreachable!(),
     }
 }
 
-/// The pattern that a side of a query is: its one member is the configuration that it writes.
+/// The pattern that a side of a query is, over so many symbols: its one member is the configuration that it writes.
 pub fn pattern_from(alloc: Global, symbols: u32, text: &ConfigText) -> Result<Pattern, OutOfMemory>
+    requires below { All (λ g. g < symbols) text.now.stack }
+    requires short { length text.now.stack ≤ 1000 }
     ensures { IfOk result (λ p. p ≡ pattern_of symbols text.now) }
 {
     let mut pattern = Pattern::new(alloc, text.control, symbols);

@@ -64,7 +64,7 @@ fn a_document_means_a_system(rt: HostRuntime) -> Result<(), Fail> {
     assert_eq!(rt; system.rule(0).weight, Some(2));
     assert_eq!(rt; system.rule(1).to, 1);
     assert_eq!(rt; system.rule(1).weight, Some(100));
-    let to = pattern_from(alloc, 2, &document.query.to)?;
+    let to = pattern_from(alloc, document.symbols.len() as u32, &document.query.to)?;
     assert_eq!(rt; to.control(), 1);
     assert_eq!(rt; to.items(), 2);
     for (control, stack, is) in [
