@@ -9,7 +9,8 @@ use Rattle.config_patterns.specs.declared.pattern.PatternFault.TheVariants.{NoSy
 use Rattle.config_patterns.specs.Membership.{Described}
 use Rattle.config_patterns.specs.Edges.{edges_of, finals_of}
 use Rattle.config_patterns.specs.Validity.{is_set, IsItem, IsPattern, AreCounts}
-use Rattle.config_patterns.specs.Fault.{first_fault, item_fault, IsAccepted}
+use Rattle.wpds_port.specs.Faults.{first_fault}
+use Rattle.config_patterns.specs.Fault.{item_fault, IsAccepted}
 use Rattle.config_patterns.proofs.OfCounts.{count_push, finals_push, finals_few}
 
 abbrev with_item : List Item → List ℕ → Bool → List Item

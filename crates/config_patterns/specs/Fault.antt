@@ -1,15 +1,11 @@
 -- Which items are refused.
-use Rattle.std.specs.Prelude.{ℕ, Bool, nat_le, nat_lt, List, [], ◌∷◌, ◌++◌, length, Option, None, Some, Result, Ok, Err, if◌then◌else◌, ◌<◌, ◌≤◌, All}
+use Rattle.std.specs.Prelude.{ℕ, Bool, nat_le, nat_lt, List, [], ◌∷◌, ◌++◌, length, Option, None, Some, Result, Ok, Err, ◌<◌, ◌≤◌, All}
 use Rattle.std.specs.List.{list_any}
+use Rattle.wpds_port.specs.Faults.{first_fault}
 use Rattle.config_patterns.specs.declared.pattern.PatternFault.{PatternFault}
 use Rattle.config_patterns.specs.declared.pattern.PatternFault.TheVariants.{NoSymbol, TooManyItems, TooManyEdges, Memory}
 use Rattle.config_patterns.specs.Membership.{Described}
 use Rattle.config_patterns.specs.Edges.{edges_of}
-
--- the first fault whose test holds
-abbrev pub first_fault : List (Bool × PatternFault) → Option PatternFault
-first_fault [] = None
-first_fault (c ∷ cs) = if c.0 then Some c.1 else first_fault cs
 
 -- The refusals of an item, in the order in which they count.
 abbrev pub item_fault : Described → List ℕ → Bool → Option PatternFault

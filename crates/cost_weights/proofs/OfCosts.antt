@@ -1,5 +1,5 @@
 -- Which cost is below which.
-use Rattle.std.proofs.Common.{◌≡◌, ◌≤◌, ◌↔◌, ℕ, refl, ap, sym, arith}
+use Rattle.std.proofs.Common.{◌≡◌, ◌≤◌, ◌↔◌, ℕ, refl, ap, arith}
 use Rattle.std.specs.Prelude.{Option, None, Some, min}
 use Rattle.std.proofs.lemmas.Option.{same_Some}
 use Rattle.semiring_laws.specs.Semiring.{Below}

@@ -8,8 +8,8 @@ use Rattle.diagram_store.specs.Nodes.{IsAbove, IsReduced}
 use Rattle.diagram_store.specs.Meaning.{value_at, set_bit}
 use Rattle.diagram_store.proofs.OfNodes.{constant_below}
 use Rattle.diagram_store.proofs.OfValues.{value_at_end, value_agrees, set_same, set_other}
-use Rattle.diagram_ops.specs.declared.composing.Side.{Side}
-use Rattle.diagram_ops.specs.declared.composing.Side.TheVariants.{First, Second}
+use Rattle.diagram_ops.specs.declared.composing.Operand.{Operand}
+use Rattle.diagram_ops.specs.declared.composing.Operand.TheVariants.{First, Second}
 use Rattle.diagram_ops.specs.Tables.{same_key}
 use Rattle.diagram_ops.specs.Scratch.{Keeps, Stands, IsPast, IsChoice}
 use Rattle.diagram_ops.specs.Applying.{AreApplied, Applies, lower, place, cofactor_at}
@@ -20,7 +20,7 @@ use Rattle.diagram_ops.proofs.OfCofactors.{Bounds, lower_is, lower_none, none_of
 use Rattle.diagram_ops.proofs.OfQuantifying.{or_table}
 use Rattle.diagram_ops.proofs.OfApplying.{value3_same}
 
-pub rises : (side : Side) (v w : ℕ) → v < w → position side v < position side w
+pub rises : (operand : Operand) (v w : ℕ) → v < w → position operand v < position operand w
 rises First v w h = omega arith
 rises Second v w h = omega arith
 
@@ -36,8 +36,8 @@ module _ (old : List Branch) (whole : IsReduced old) (new : List Branch) (other 
       within = keeps_within old new k r c.stands.within;
       means = λ bits.
           let same = keeps_value old whole new other k r c.stands.within bits in
-          let at : (q : ℕ) → q < length old + 2 → (side : Side) (all : ℕ → Bool) → placed_value side new q all ≡ placed_value side old q all =
-          λ q w side all. keeps_value old whole new other k q w (λ v. all (position side v)) in (
+          let at : (q : ℕ) → q < length old + 2 → (operand : Operand) (all : ℕ → Bool) → placed_value operand new q all ≡ placed_value operand old q all =
+          λ q w operand all. keeps_value old whole new other k q w (λ v. all (position operand v)) in (
             λ yes.
                 let o = (c.stands.means bits).0 (sym same ∙ yes) in
                 (o.0, o.1, at x c.first First o.0 ∙ o.2, at y c.second Second o.0 ∙ o.3),
@@ -133,14 +133,14 @@ pub record AreBranches (nodes : List Branch) (p : ℕ) (b : Bool) (x y i j : ℕ
   pub second : j ≡ cofactor_at (position Second) nodes p b y
 
 -- bits that differ at a place alone
-past_value : (side : Side) (nodes : List Branch) → IsReduced nodes → (p r : ℕ) → IsPast (position side) nodes p r → (all : ℕ → Bool) (b : Bool) → placed_value side nodes r (set_bit all p b) ≡ placed_value side nodes r all
-past_value side nodes whole p r past all b =
-    value_agrees nodes whole (λ v. set_bit all p b (position side v)) (λ v. all (position side v)) (λ s. IsPast (position side) nodes p s)
+past_value : (operand : Operand) (nodes : List Branch) → IsReduced nodes → (p r : ℕ) → IsPast (position operand) nodes p r → (all : ℕ → Bool) (b : Bool) → placed_value operand nodes r (set_bit all p b) ≡ placed_value operand nodes r all
+past_value operand nodes whole p r past all b =
+    value_agrees nodes whole (λ v. set_bit all p b (position operand v)) (λ v. all (position operand v)) (λ s. IsPast (position operand) nodes p s)
     (λ s n e i.
-    let first : p < position side n.var = i n e in
+    let first : p < position operand n.var = i n e in
     let next = whole.rises s n e in
-    let on : (q : ℕ) → IsAbove nodes n.var q → IsPast (position side) nodes p q = λ q above m f. let up : position side n.var < position side m.var = rises side n.var m.var (above m f) in omega arith in
-    (set_other all p b (position side n.var) (λ is. absurd (omega arith)), on n.low next.0, on n.high next.1))
+    let on : (q : ℕ) → IsAbove nodes n.var q → IsPast (position operand) nodes p q = λ q above m f. let up : position operand n.var < position operand m.var = rises operand n.var m.var (above m f) in omega arith in
+    (set_other all p b (position operand n.var) (λ is. absurd (omega arith)), on n.low next.0, on n.high next.1))
     r r (omega arith) past
 
 module _ (old : List Branch) (whole : IsReduced old) (x y p : ℕ) (wx : x < length old + 2) (wy : y < length old + 2) (lowest : IsLowestPlace old x y p) where
@@ -209,12 +209,12 @@ module _ (old : List Branch) (whole : IsReduced old) (x y p : ℕ) (wx : x < len
       high3 = composition_kept n2 high.reduced n3 all keeps i1 j1 h high.composed
 
       -- a relation's value is that of the way it goes on
-      goes_on : (side : Side) (q i : ℕ) → q < length old + 2 → (b : Bool) → i ≡ cofactor_at (position side) old p b q → (bits : ℕ → Bool) → bits p ≡ b → placed_value side n3 q bits ≡ placed_value side n3 i bits
-      goes_on side q i w b e bits at =
-          let seen : ℕ → Bool = λ v. bits (position side v) in
-          let c = place_within (position side) (rises side) old whole p b q in
+      goes_on : (operand : Operand) (q i : ℕ) → q < length old + 2 → (b : Bool) → i ≡ cofactor_at (position operand) old p b q → (bits : ℕ → Bool) → bits p ≡ b → placed_value operand n3 q bits ≡ placed_value operand n3 i bits
+      goes_on operand q i w b e bits at =
+          let seen : ℕ → Bool = λ v. bits (position operand v) in
+          let c = place_within (position operand) (rises operand) old whole p b q in
           keeps_value old whole n3 all keeps3 q w seen
-          ∙ place_value (position side) (rises side) old whole p q bits b at
+          ∙ place_value (position operand) (rises operand) old whole p q bits b at
           ∙ ap (λ s. value_at old s seen) (sym e)
           ∙ sym (keeps_value old whole n3 all keeps3 i (omega (arith, c)) seen)
 
@@ -269,8 +269,8 @@ module _ (old : List Branch) (whole : IsReduced old) (x y p : ℕ) (wx : x < len
             | inr e ↦ one_way even false i0 j0 l e0 low3 bits e (is ∙ cond-false (bits (p / 2)) vh vl e)
           ]
 
-      under : (side : Side) (q v : ℕ) → place (position side) old q ≡ Some p → IsPast (position side) n3 (2 * v) q → 2 * v < p
-      under side q v e past = let n = node_of_place (position side) old q p e in subst (λ (k : ℕ). 2 * v < k) n.2 (past n.0 (keeps3.each q n.0 n.1))
+      under : (operand : Operand) (q v : ℕ) → place (position operand) old q ≡ Some p → IsPast (position operand) n3 (2 * v) q → 2 * v < p
+      under operand q v e past = let n = node_of_place (position operand) old q p e in subst (λ (k : ℕ). 2 * v < k) n.2 (past n.0 (keeps3.each q n.0 n.1))
 
       composed3 : IsComposition n3 x y r
       composed3 = record {

@@ -6,7 +6,7 @@ use Rattle.diagram_store.specs.declared.branch.Branch.{Branch}
 use Rattle.diagram_store.specs.Nodes.{IsReduced}
 use Rattle.diagram_store.specs.Meaning.{value_at}
 use Rattle.diagram_store.proofs.OfValues.{value_agrees}
-use Rattle.diagram_ops.specs.declared.composing.Side.TheVariants.{First, Second}
+use Rattle.diagram_ops.specs.declared.composing.Operand.TheVariants.{First, Second}
 use Rattle.diagram_ops.specs.Relations.{of_states, relates}
 use Rattle.diagram_ops.specs.Composing.{position, IsComposed}
 

@@ -5,19 +5,19 @@ use Rattle.std.specs.Prelude.{◌≡◌, ◌↔◌, ℕ, ◌+◌, ◌*◌, ◌/�
 use Rattle.diagram_store.specs.declared.branch.Branch.{Branch}
 use Rattle.diagram_store.specs.Nodes.{IsReduced}
 use Rattle.diagram_store.specs.Meaning.{value_at}
-use Rattle.diagram_ops.specs.declared.composing.Side.{Side}
-use Rattle.diagram_ops.specs.declared.composing.Side.TheVariants.{First, Second}
+use Rattle.diagram_ops.specs.declared.composing.Operand.{Operand}
+use Rattle.diagram_ops.specs.declared.composing.Operand.TheVariants.{First, Second}
 use Rattle.diagram_ops.specs.Scratch.{Keeps, Stands, IsPast}
 use Rattle.diagram_ops.specs.Applying.{AreApplied}
 
 -- the place of a variable of a relation
-abbrev pub position : Side → ℕ → ℕ
+abbrev pub position : Operand → ℕ → ℕ
 position First v = 4 * (v / 2) + v % 2
 position Second v = 4 * (v / 2) + v % 2 + 1
 
 -- the value of a relation where each place has a bit
-abbrev pub placed_value : Side → List Branch → ℕ → (ℕ → Bool) → Bool
-placed_value side nodes r all = value_at nodes r (λ v. all (position side v))
+abbrev pub placed_value : Operand → List Branch → ℕ → (ℕ → Bool) → Bool
+placed_value operand nodes r all = value_at nodes r (λ v. all (position operand v))
 
 -- both relations are true on some values in the middle
 abbrev pub IsTrueBetween : List Branch → ℕ → ℕ → (ℕ → Bool) → Type 0

@@ -6,7 +6,7 @@ ghost use Rattle.diagram_ops.specs.Composing as composing;
 ghost use Rattle.diagram_ops.specs.Relations.{relates};
 ghost use Rattle.diagram_ops.specs.Scratch.{Keeps, Stands};
 ghost use Rattle.diagram_ops.specs.Tables.{known};
-ghost use Rattle.diagram_ops.specs.declared.composing.Side.TheVariants.{First, Second};
+ghost use Rattle.diagram_ops.specs.declared.composing.Operand.TheVariants.{First, Second};
 
 use crate::applying::{OR, apply};
 use crate::copying::copied_out;
@@ -48,7 +48,7 @@ pub fn compose_relations(
 
 /// One of the two relations. The new values of the first are the old ones of the second.
 #[derive(Clone, Copy)]
-pub enum Side {
+pub enum Operand {
     First,
     Second,
 }
@@ -77,8 +77,8 @@ fn compose(
     if let Some(result) = results.get(x, y, 0) {
         return Ok(result);
     }
-    let xs = branches(scratch, Side::First, place, x);
-    let ys = branches(scratch, Side::Second, place, y);
+    let xs = branches(scratch, Operand::First, place, x);
+    let ys = branches(scratch, Operand::Second, place, y);
     let low = compose(scratch, results, joins, xs.0, ys.0)?;
     let high = compose(scratch, results, joins, xs.1, ys.1)?;
     let result = join(scratch, joins, place, low, high)?;
@@ -120,8 +120,8 @@ fn lowest(scratch: &Scratch, x: u64, y: u64) -> Option<u64>
     ensures of_variable { IfSome result (λ p. p / 2 < 2 ^ 32) }
     ensures reduced { IsReduced scratch.now }
 {
-    let first = place_of(scratch, Side::First, x);
-    let second = place_of(scratch, Side::Second, y);
+    let first = place_of(scratch, Operand::First, x);
+    let second = place_of(scratch, Operand::Second, y);
     match (first, second) {
         (Some(v), Some(w)) => Some(v.min(w)),
         (Some(v), None) => Some(v),
@@ -129,36 +129,36 @@ fn lowest(scratch: &Scratch, x: u64, y: u64) -> Option<u64>
     }
 }
 
-fn place_of(scratch: &Scratch, side: Side, reference: u64) -> Option<u64>
-    ensures place { result ≡ place (composing.position side) scratch.now reference }
+fn place_of(scratch: &Scratch, operand: Operand, reference: u64) -> Option<u64>
+    ensures place { result ≡ place (composing.position operand) scratch.now reference }
     ensures of_variable { IfSome result (λ p. p / 2 < 2 ^ 32) }
     ensures reduced { IsReduced scratch.now }
 {
     match scratch.node(reference) {
-        Some(node) => Some(position(side, node.var)),
+        Some(node) => Some(position(operand, node.var)),
         None => None,
     }
 }
 
 // The place of a variable of a relation: those of old, middle and new values of a number follow one another.
-fn position(side: Side, var: u32) -> u64
-    ensures position { result ≡ composing.position side var }
+fn position(operand: Operand, var: u32) -> u64
+    ensures position { result ≡ composing.position operand var }
     ensures of_variable { result / 2 < 2 ^ 32 }
 {
     let first = 4 * u64::from(var / 2) + u64::from(var % 2);
-    match side {
-        Side::First => first,
-        Side::Second => first + 1,
+    match operand {
+        Operand::First => first,
+        Operand::Second => first + 1,
     }
 }
 
 // Where the walk goes on from a reference where the bit at a place is false, and where it is true.
-fn branches(scratch: &Scratch, side: Side, place: u64, reference: u64) -> (u64, u64)
-    ensures low { result.0 ≡ cofactor_at (composing.position side) scratch.now place false reference }
-    ensures high { result.1 ≡ cofactor_at (composing.position side) scratch.now place true reference }
+fn branches(scratch: &Scratch, operand: Operand, place: u64, reference: u64) -> (u64, u64)
+    ensures low { result.0 ≡ cofactor_at (composing.position operand) scratch.now place false reference }
+    ensures high { result.1 ≡ cofactor_at (composing.position operand) scratch.now place true reference }
 {
     match scratch.node(reference) {
-        Some(node) if position(side, node.var) == place => (node.low, node.high),
+        Some(node) if position(operand, node.var) == place => (node.low, node.high),
         _ => (reference, reference),
     }
 }

@@ -1,14 +1,28 @@
 use crate::{Branch, BranchList, Diagram, canonical, independent_variables, node, one_meaning};
+use std::process::Abort;
 use std::test::Fail;
 
 const fn branch(var: u32, low: u64, high: u64) -> Branch {
     Branch { var, low, high }
 }
 
-// Each list with its root, and whether they are canonical.
+// A list of nodes, its root, and whether they are canonical.
+type Row<'a> = (&'a [Branch], u64, bool);
+
+fn check_rows(rt: &impl Abort, rows: &[Row]) {
+    for (nodes, root, is_canonical) in rows {
+        let len = nodes.len();
+        assert_eq!(rt;
+            canonical(nodes, *root),
+            *is_canonical,
+            "root {root} of {len} nodes"
+        );
+    }
+}
+
 #[test]
-fn canonical_lists(rt: HostRuntime) {
-    let cases: [(&[Branch], u64, bool); 17] = [
+fn short_lists(rt: HostRuntime) {
+    let rows: [Row; 12] = [
         // the constants, and a root that names nothing
         (&[], 0, true),
         (&[], 1, true),
@@ -28,50 +42,37 @@ fn canonical_lists(rt: HostRuntime) {
         // a node that names a later one, and one that names itself
         (&[branch(0, 0, 3), branch(1, 0, 1)], 2, false),
         (&[branch(0, 0, 2)], 2, false),
-        // variables 0 and 1 differ: the low branch stands first
+    ];
+    check_rows(&rt, &rows);
+}
+
+// Variables 0 and 1 differ: the low branch stands first.
+#[test]
+fn order_of_nodes(rt: HostRuntime) {
+    let low = branch(1, 0, 1);
+    let high = branch(1, 1, 0);
+    let rows: [Row; 2] = [
+        (&[low, high, branch(0, 2, 3)], 4, true),
+        (&[high, low, branch(0, 3, 2)], 4, false),
+    ];
+    check_rows(&rt, &rows);
+}
+
+// With two equal nodes, and with one in their place. In the longer lists at least two of variables 0, 1 and 2 are true.
+#[test]
+fn equal_nodes(rt: HostRuntime) {
+    let last = branch(2, 0, 1);
+    let both = branch(1, 0, 2);
+    let rows: [Row; 3] = [
+        (&[last, last, branch(0, 2, 3)], 4, false),
         (
-            &[branch(1, 0, 1), branch(1, 1, 0), branch(0, 2, 3)],
-            4,
-            true,
-        ),
-        (
-            &[branch(1, 1, 0), branch(1, 0, 1), branch(0, 3, 2)],
-            4,
-            false,
-        ),
-        // two equal nodes
-        (
-            &[branch(2, 0, 1), branch(2, 0, 1), branch(0, 2, 3)],
-            4,
-            false,
-        ),
-        (
-            &[
-                branch(2, 0, 1),
-                branch(1, 0, 2),
-                branch(2, 0, 1),
-                branch(1, 4, 1),
-                branch(0, 3, 5),
-            ],
+            &[last, both, last, branch(1, 4, 1), branch(0, 3, 5)],
             6,
             false,
         ),
-        // the same with one node for the two
-        (
-            &[
-                branch(2, 0, 1),
-                branch(1, 0, 2),
-                branch(1, 2, 1),
-                branch(0, 3, 4),
-            ],
-            5,
-            true,
-        ),
+        (&[last, both, branch(1, 2, 1), branch(0, 3, 4)], 5, true),
     ];
-    for (nodes, root, want) in cases {
-        let len = nodes.len();
-        assert_eq!(rt; canonical(nodes, root), want, "root {root} of {len} nodes");
-    }
+    check_rows(&rt, &rows);
 }
 
 // Variables 0 and 1 differ, on the four lists of two bits.

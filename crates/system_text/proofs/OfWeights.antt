@@ -1,6 +1,6 @@
 -- Weights are read as they are written.
-use Rattle.std.proofs.Common.{◌≡◌, ℕ, zero, suc, ◌+◌, ◌-◌, ◌<◌, ◌≤◌, ◌^◌, Bool, true, false, not, cond, List, [], ◌∷◌, ◌++◌, length, map, take, drop, get_or, Option, Some, None, refl, sym, ap, subst, ◌∙◌, ◌&&◌, arith, decimal, append_assoc, append-nil}
-use Rattle.std.specs.Prelude.{bytes_eq, codes, nat_lt, nat_le, slice_index_or, option_map, option_and_then}
+use Rattle.std.proofs.Common.{◌≡◌, ℕ, zero, suc, ◌+◌, ◌-◌, ◌<◌, ◌≤◌, Bool, true, false, not, cond, List, [], ◌∷◌, ◌++◌, length, take, get_or, Option, Some, None, refl, sym, ap, subst, ◌∙◌, ◌&&◌, arith, decimal, append_assoc, append-nil}
+use Rattle.std.specs.Prelude.{bytes_eq, codes, nat_lt, nat_le, slice_index_or, option_map}
 use Rattle.std.specs.List.{list_all}
 use Rattle.std.proofs.lemmas.Bool.{and_parts, and_from, lt-ltb, ltb-true, le-leb, leb-true, cond-true, cond-false, false_from_ne_true, true≢false}
 use Rattle.std.proofs.lemmas.List.Recursion.{and_at}
@@ -11,7 +11,7 @@ use Rattle.system_text.specs.declared.document.WeightText.{WeightText}
 use Rattle.system_text.specs.declared.document.WeightText.TheVariants.{One, Number}
 use denote.Ref.{Bor}
 use Rattle.system_text.specs.Lines.{texts}
-use Rattle.system_text.specs.Names.{is_name, name, begins_name, reserved, is_among}
+use Rattle.system_text.specs.Names.{is_name, begins_name, reserved, is_among}
 use Rattle.system_text.specs.Numbers.{number_of}
 use Rattle.system_text.specs.FirstForm.{weights_words, weight_words, IsWeightsLine, IsWeightText}
 use Rattle.system_text.specs.Reading.{cost_up_to, weights_named, weights_of, number_weight, has_weight, right_of}

@@ -6,6 +6,7 @@ use pattern_openings::is_over;
 use pushdown_rules::System;
 use semiring_laws::Semiring;
 use std::alloc::Global;
+use std::test::Fail;
 
 /// The sets and stars of a pattern's items.
 pub type Items<'a> = &'a [(&'a [u32], bool)];
@@ -44,12 +45,12 @@ pub fn pattern_over<S: Semiring>(
     system: &System<S>,
     control: u32,
     items: Items<'_>,
-) -> Result<Pattern, PatternFault>
+) -> Result<Pattern, Fail>
     ensures { IfOk result (IsOver system.now.controls system.now.symbols) }
 {
     let pattern = pattern(alloc, control, system.symbols(), items)?;
     if !is_over(&pattern, system.controls(), system.symbols()) {
-        return Err(PatternFault::NoSymbol);
+        return Err(Fail::new("the system lacks the control"));
     }
     Ok(pattern)
 }

@@ -1,4 +1,4 @@
-use Rattle.std.proofs.Common.{◌<◌, sym, ap, subst, length}
+use Rattle.std.proofs.Common.{◌<◌, sym, subst}
 use Rattle.std.proofs.lemmas.List.{length-map}
 use Rattle.system_text.specs.Lines.{texts}
 use Rattle.system_text.proofs.OfRules.{too_short}

@@ -1,4 +1,4 @@
-use Rattle.std.proofs.Common.{◌∙◌, sym, ap}
+use Rattle.std.proofs.Common.{◌∙◌, sym}
 use Rattle.system_text.proofs.OfWeights.{right-cut}
 use Rattle.system_text.proofs.weights.right_side.Goals as goal
 
