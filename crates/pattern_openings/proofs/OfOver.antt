@@ -1,6 +1,5 @@
 -- A pattern is over a system that has its control and its symbols.
-use Rattle.std.proofs.Common.{◌≡◌, ℕ, ◌<◌, ◌≤◌, get_or, arith}
-use Rattle.config_patterns.specs.declared.item.Item.{Item}
+use Rattle.std.proofs.Common.{ℕ, ◌<◌, ◌≤◌, arith}
 use Rattle.config_patterns.specs.Membership.{Described}
 use Rattle.config_patterns.specs.Validity.{IsPattern}
 use Rattle.pattern_openings.specs.PatternOpenings.{IsOver}
