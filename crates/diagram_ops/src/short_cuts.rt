@@ -1,6 +1,6 @@
-ghost use Rattle.std.specs.Prelude.{◌≡◌, ◌<◌, ℕ, Bool, true, false, IsTrue, IfSome};
+ghost use Rattle.std.specs.Prelude.{◌≡◌, ◌<◌, ◌↔◌, ℕ, Bool, true, false, IsTrue, IfSome, IfNone};
 ghost use Rattle.truth_tables.specs.Tables.{value_bit, value3_of};
-ghost use Rattle.diagram_ops.specs.ShortCuts.{IsShortCut, IsValuation};
+ghost use Rattle.diagram_ops.specs.ShortCuts.{CanBe, IsPossibleRow, IsShortCut};
 
 // The rows of a table of three places on which its first, its second and its third place is true.
 const FIRST: u8 = 240;
@@ -13,7 +13,8 @@ const ALL: u8 = 255;
 
 /// A constant or one of the references, if it has the table's value on each row that they leave.
 pub fn short_cut(table: u8, x: u64, y: u64, z: u64) -> Option<u64>
-    ensures { IfSome result (λ r. IsShortCut table x y z r) }
+    ensures right { IfSome result (λ r. IsShortCut table x y z r) }
+    ensures found { IfNone result ((r : ℕ) → ¬ IsShortCut table x y z r) }
 {
     let rows = possible_rows(x, y, z);
     if are_same_on(rows, table, 0) {
@@ -34,16 +35,16 @@ pub fn short_cut(table: u8, x: u64, y: u64, z: u64) -> Option<u64>
     None
 }
 
-// Whether two tables have the same value on these rows.
+// Whether two tables have the same value on each of these rows.
 fn are_same_on(rows: u8, table: u8, other: u8) -> bool
-    ensures { IsTrue result → (k : ℕ) → value_bit rows k ≡ true → value_bit table k ≡ value_bit other k }
+    ensures { IsTrue result ↔ ((a b c : Bool) → value3_of rows a b c ≡ true → value3_of table a b c ≡ value3_of other a b c) }
 {
     (table ^ other) & rows == 0
 }
 
 // The rows that three references leave.
 fn possible_rows(x: u64, y: u64, z: u64) -> u8
-    ensures { (bit : ℕ → Bool) → IsValuation bit → value3_of result (bit x) (bit y) (bit z) ≡ true }
+    ensures { (a b c : Bool) → (value3_of result a b c ≡ true) ↔ IsPossibleRow x y z a b c }
 {
     rows_of(FIRST, x)
         & rows_of(SECOND, y)
@@ -55,7 +56,7 @@ fn possible_rows(x: u64, y: u64, z: u64) -> u8
 
 // The rows that a reference leaves, by those on which its place is true.
 fn rows_of(place: u8, reference: u64) -> u8
-    ensures { (bit : ℕ → Bool) → IsValuation bit → (k : ℕ) → k < 8 → value_bit place k ≡ bit reference → value_bit result k ≡ true }
+    ensures { (k : ℕ) → k < 8 → (value_bit result k ≡ true) ↔ CanBe reference (value_bit place k) }
 {
     match reference {
         0 => place ^ ALL,
@@ -66,7 +67,7 @@ fn rows_of(place: u8, reference: u64) -> u8
 
 // The rows that two references leave where they are equal, by those on which their places are true.
 fn rows_of_both(first: u8, second: u8, x: u64, y: u64) -> u8
-    ensures { (bit : ℕ → Bool) (k : ℕ) → k < 8 → value_bit first k ≡ bit x → value_bit second k ≡ bit y → value_bit result k ≡ true }
+    ensures { (k : ℕ) → k < 8 → (value_bit result k ≡ true) ↔ (x ≡ y → value_bit first k ≡ value_bit second k) }
 {
     if x == y { first ^ second ^ ALL } else { ALL }
 }

@@ -20,7 +20,7 @@ returns-in-Some-get t c =
 pub returns-in-Some-short_cut : goal.returns-in-Some-short_cut
 returns-in-Some-short_cut t c =
     applies_at_once c.args.table c.args.scratch.now (known c.args.results.now) c.args.x c.args.y c.args.z c.in-Some-short_cut.answer
-    c.lowest.ensures.reduced c.requires.results c.requires.x c.requires.y c.requires.z c.in-Some-short_cut.ensures
+    c.lowest.ensures.reduced c.requires.results c.requires.x c.requires.y c.requires.z c.in-Some-short_cut.ensures.right
 
 -- the operands where the bit is false
 pub apply-requires : goal.apply-requires

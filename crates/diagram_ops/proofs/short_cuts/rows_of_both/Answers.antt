@@ -1,9 +1,10 @@
-use Rattle.std.proofs.Common.{sym, ap, ◌∙◌}
 use Rattle.diagram_ops.proofs.OfShortCuts.{in_all, in_same}
 use Rattle.diagram_ops.proofs.short_cuts.rows_of_both.Goals as goal
 
 pub returns-then-x-y : goal.returns-then-x-y
-returns-then-x-y c = λ bit k below e f. in_same c.args.first c.args.second k (bit c.args.x) below e (f ∙ ap bit (sym c.if-x-y.true))
+returns-then-x-y c = λ k below.
+    let same = in_same c.args.first c.args.second k below in
+    (λ h e. same.0 h, λ h. same.1 (h c.if-x-y.true))
 
 pub returns-else-x-y : goal.returns-else-x-y
-returns-else-x-y c = λ bit k below e f. in_all k below
+returns-else-x-y c = λ k below. (λ h e. absurd (c.if-x-y.false e), λ h. in_all k below)
