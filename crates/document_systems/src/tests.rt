@@ -1,10 +1,13 @@
+ghost use Rattle.document_systems.specs.Systems.{HasSystem};
+
 use crate::{DocumentWeights, pattern_from, system_from};
+use config_patterns::Pattern;
 use cost_weights::Cost;
 use pushdown_rules::Config;
 use semiring_laws::Reach;
 use std::alloc::Global;
 use std::test::Fail;
-use system_text::{WeightText, read_first_form};
+use system_text::{Document, WeightText, read_first_form};
 use wpds_port::OutOfMemory;
 
 #[test]
@@ -50,6 +53,14 @@ fn weights_of_rules(rt: HostRuntime) -> Result<(), Fail> {
     Ok(())
 }
 
+// The pattern of the second side of a document's query.
+fn target_of(alloc: Global, document: &Document) -> Result<Pattern, OutOfMemory>
+    requires { HasSystem document.now }
+{
+    let symbols = document.symbols.len() as u32;
+    pattern_from(alloc, symbols, &document.query.to)
+}
+
 #[test]
 fn a_document_means_a_system(rt: HostRuntime) -> Result<(), Fail> {
     let alloc = rt.alloc();
@@ -64,7 +75,7 @@ fn a_document_means_a_system(rt: HostRuntime) -> Result<(), Fail> {
     assert_eq!(rt; system.rule(0).weight, Some(2));
     assert_eq!(rt; system.rule(1).to, 1);
     assert_eq!(rt; system.rule(1).weight, Some(100));
-    let to = pattern_from(alloc, document.symbols.len() as u32, &document.query.to)?;
+    let to = target_of(alloc, &document)?;
     assert_eq!(rt; to.control(), 1);
     assert_eq!(rt; to.items(), 2);
     for (control, stack, is) in [
