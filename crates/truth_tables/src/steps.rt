@@ -1,4 +1,4 @@
-ghost use Rattle.std.specs.Prelude.{◌≡◌, IfOk, List, option_map};
+ghost use Rattle.std.specs.Prelude.{◌≡◌, ℕ, IfOk, List, option_map};
 ghost use Rattle.wpds_port.specs.declared.Mark.TheVariants.{Comma, Close};
 ghost use Rattle.truth_tables.specs.Machine.{behind_comma, behind_close, behind_mark, after_operator, behind_name, behind_number, progress, at_last, Wanted};
 ghost use Rattle.truth_tables.specs.Operands.{operand_of, parts};
@@ -72,12 +72,8 @@ fn at_operand(
 
 // A comma behind an operand that is joined.
 #[tactic(auto, using(crate::proofs::OfStacks::comma_none, crate::proofs::OfStacks::comma_first2, crate::proofs::OfStacks::comma_first3, crate::proofs::OfStacks::comma_second3, crate::proofs::OfStacks::comma_other))]
-fn at_comma(
-    stack: &mut Vec<OpenPart>,
-    operand: Operand,
-    limit: u32,
-) -> Result<Option<Position>, OutOfMemory>
-    ensures { IfOk result (λ o. option_map (λ q. position_of q stack.new.items) o
+fn at_comma(stack: &mut Vec<OpenPart>, operand: Operand) -> Result<Option<Position>, OutOfMemory>
+    ensures { (limit : ℕ) → IfOk result (λ o. option_map (λ q. position_of q stack.new.items) o
         ≡ behind_comma (parts limit) (stack_of stack.old.items) (operand_of operand)) }
 {
     let Some(top) = stack.pop() else {
@@ -148,7 +144,7 @@ fn behind_operand(
     match mark {
         Mark::Comma => {
             let joined = join(alloc, limit, stack, 1, operand)?;
-            at_comma(stack, joined, limit)
+            at_comma(stack, joined)
         }
         Mark::Close => {
             let joined = join(alloc, limit, stack, 1, operand)?;
