@@ -2,3 +2,4 @@ pub mod Rows
 pub mod Jobs
 pub mod Reading
 pub mod Fitting
+pub mod Ways

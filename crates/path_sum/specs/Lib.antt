@@ -4,3 +4,4 @@ pub mod Saturated
 pub mod Growings
 pub mod Pairs
 pub mod Summing
+pub mod Results

@@ -1,15 +1,12 @@
-ghost use Rattle.std.specs.Prelude.{◌≡◌, ◌<◌, ◌≤◌, ◌+◌, ◌*◌, ◌↔◌, ◌∷◌, [], ℕ, List, None, Some, IfOk, IfSome, MatchOption, length, IsTrue};
+ghost use Rattle.std.specs.Prelude.{◌≡◌, ◌<◌, ◌≤◌, ◌+◌, ◌*◌, ◌↔◌, ◌∷◌, [], None, Some, IfOk, MatchOption, length};
 ghost use Rattle.semiring_laws.specs.Semiring.{Operations};
 ghost use Rattle.weighted_automata.specs.Entries.{entry_at};
-ghost use Rattle.witness_graph.specs.Tight.{IsTight};
-ghost use Rattle.config_patterns.specs.Membership.{has_member};
-ghost use Rattle.pushdown_rules.specs.Values.{value_of};
 ghost use Rattle.saturation_core.specs.Books.{IsClosed};
 ghost use Rattle.saturation_core.specs.Openings.{AreKept};
-ghost use Rattle.saturation_core.specs.States.{weight_at};
-ghost use Rattle.path_sum.specs.Sums.{ways_of, answer_place, bare_sum, IsGrown, IsSummed};
-ghost use Rattle.path_sum.specs.Answers.{AnswersOpening, listed_runs, IsListingOf, IsGrownAnswer};
+ghost use Rattle.path_sum.specs.Sums.{ways_of, answer_place, bare_sum};
+ghost use Rattle.path_sum.specs.Answers.{IsListingOf};
 ghost use Rattle.path_sum.specs.Saturated.{IsSaturatedAutomaton};
+ghost use Rattle.path_sum.specs.Results.{IsSumOver, IsSumOf};
 ghost use Rattle.path_sum.specs.Growings.{state_of};
 
 use crate::Answer;
@@ -90,14 +87,12 @@ pub fn sum_parts<S: Semiring, D: Direction<S>>(
     graph: &Graph,
     pattern: &Pattern,
 ) -> Result<Answer<S>, OutOfMemory>
-    requires automaton { IsSaturatedAutomaton S.operations D.tables D.fits_opening D.runs system.now direction.now opening.now transitions.now.transitions graph.now.nodes }
-    requires side { graph.now.side ≡ (D.tables direction.now system.now).side }
+    requires automaton { IsSaturatedAutomaton S.operations D.way system.now direction.now opening.now
+        transitions.now.transitions graph.now.nodes }
+    requires side { graph.now.side ≡ (D.way.tables direction.now system.now).side }
     requires pattern { pattern.now.control < system.now.controls }
-    ensures answers { IfOk result (λ a. AnswersOpening (S.operations system.now.semiring) (D.tables direction.now system.now).side system.now opening.now (has_member pattern.now) a.value (listed_runs a.listing)) }
-    ensures none { IfOk result (λ a. (a.listing ≡ None) ↔ (a.value ≡ (S.operations system.now.semiring).zero)) }
-    ensures side { IfOk result (λ a. IfSome a.listing (λ l. l.side ≡ (D.tables direction.now system.now).side)) }
-    ensures tight { IfOk result (λ a. IfSome a.listing (λ l. IsTight (S.operations system.now.semiring) (value_of (S.operations system.now.semiring) system.now) l.side l.nodes)) }
-    ensures grown { IfOk result (λ a. IsGrownAnswer (S.operations system.now.semiring) (D.tables direction.now system.now).side opening.now transitions.now.transitions graph.now.nodes (ways_of pattern.now) a) }
+    ensures { IfOk result (IsSumOver S.operations D.way system.now direction.now opening.now
+        transitions.now.transitions graph.now.nodes pattern.now) }
 {
     let semiring = system.semiring();
     let side = direction.side();
@@ -120,11 +115,7 @@ pub fn sum<S: Semiring, D: Direction<S>>(
 ) -> Result<Answer<S>, OutOfMemory>
     requires closed { IsClosed book.now }
     requires pattern { pattern.now.control < book.now.system.controls }
-    ensures answers { IfOk result (λ a. AnswersOpening (S.operations book.now.system.semiring) (D.tables book.now.direction book.now.system).side book.now.system book.now.opening (has_member pattern.now) a.value (listed_runs a.listing)) }
-    ensures none { IfOk result (λ a. (a.listing ≡ None) ↔ (a.value ≡ (S.operations book.now.system.semiring).zero)) }
-    ensures side { IfOk result (λ a. IfSome a.listing (λ l. l.side ≡ (D.tables book.now.direction book.now.system).side)) }
-    ensures tight { IfOk result (λ a. IfSome a.listing (λ l. IsTight (S.operations book.now.system.semiring) (value_of (S.operations book.now.system.semiring) book.now.system) l.side l.nodes)) }
-    ensures grown { IfOk result (λ a. IsGrownAnswer (S.operations book.now.system.semiring) (D.tables book.now.direction book.now.system).side book.now.opening book.now.state.transitions book.now.state.nodes (ways_of pattern.now) a) }
+    ensures { IfOk result (IsSumOf S.operations D.way book.now pattern.now) }
 {
     let system = book.system();
     let direction = book.direction();

@@ -1,6 +1,6 @@
 -- A book at its opening.
 use Rattle.std.proofs.Common.{◌≡◌, ℕ, suc, zero, List, [], ◌∷◌, refl, sym, ap, ◌∙◌, arith}
-use Rattle.std.specs.Prelude.{Bool, Option, None, Some, IsTrue, replicate}
+use Rattle.std.specs.Prelude.{Option, None, Some, IsTrue, replicate}
 use Rattle.semiring_laws.specs.Semiring.{Operations, IsSemiring}
 use Rattle.weighted_automata.specs.declared.place.Place.{Place}
 use Rattle.weighted_automata.specs.declared.transitions.Entry.{Entry}
@@ -11,12 +11,11 @@ use Rattle.pushdown_rules.specs.Pushdown.{Pushdown, IsSystem}
 use Rattle.saturation_core.specs.declared.event.Event.{Event}
 use Rattle.saturation_core.specs.declared.hand.Holding.{Holding}
 use Rattle.saturation_core.specs.declared.opening.Opening.{Opening}
-use Rattle.saturation_core.specs.Jobs.{Tables}
 use Rattle.saturation_core.specs.States.{CoreState, apply_all, replay}
 use Rattle.saturation_core.specs.Openings.{pops, with_edges, opening_state, found_so_far}
-use Rattle.saturation_core.specs.Directions.{IsDirection}
 use Rattle.saturation_core.specs.Books.{BookValue, hands_out, opened_by, IsBook}
 use Rattle.saturation_core.proofs.Kept.{book_from}
+use Rattle.saturation_core.specs.Ways.{Way, IsLawful}
 
 hands_out-none : (S W Map : Type 0) (n : ℕ) → hands_out {S = S} {W = W} {Map = Map} (replicate n None) ≡ 0
 hands_out-none S W Map zero = refl
@@ -55,13 +54,11 @@ begin p d o st es = record { system = p; direction = d; opening = o; state = st;
 pub begin_is : {S W Map D : Type 0} (p : Pushdown S W Map) (d : D) (o : Opening) (st new : CoreState S W Map) (es : List Event) → st ≡ new → es ≡ [] → begin p d o st es ≡ begin p d o new []
 begin_is p d o st new es opened empty = ap (λ i. begin p d o i es) opened ∙ ap (begin p d o new) empty
 
-module _ {S W Map D : Type 0} (operations : S → Operations W Map) (laws : (x : S) → IsSemiring (operations x)) (tables : D → Pushdown S W Map → Tables S W Map)
-    (fits_opening : D → Pushdown S W Map → Opening → Bool) (places : D → Pushdown S W Map → Opening → List Place) (runs : D → Pushdown S W Map → Opening → Place → List ℕ → Type 0)
-    (direction : (d : D) (p : Pushdown S W Map) (o : Opening) → IsSystem operations p → IsTrue (fits_opening d p o)
-    → IsDirection (operations p.semiring) p o (tables d p) (places d p o) (runs d p o)) where
+module _ {S W Map D : Type 0} (operations : S → Operations W Map) (laws : (x : S) → IsSemiring (operations x)) (way : Way S W Map D)
+    (direction : IsLawful operations way) where
   -- the opening state without events is a book
-  pub begun : (b : BookValue S W Map D) → IsSystem operations b.system → IsTrue (fits_opening b.direction b.system b.opening) → b.state ≡ opened_by operations tables b → b.journal ≡ []
-      → IsBook operations tables fits_opening places runs b
+  pub begun : (b : BookValue S W Map D) → IsSystem operations b.system → IsTrue (way.fits_opening b.direction b.system b.opening) → b.state ≡ opened_by operations way b → b.journal ≡ []
+      → IsBook operations way b
   begun b system fits opened empty =
-      book_from operations laws tables fits_opening places runs direction b system fits
-      (ap (replay (operations b.system.semiring) (tables b.direction b.system) (opened_by operations tables b)) empty ∙ ap Some (sym opened))
+      book_from operations laws way direction b system fits
+      (ap (replay (operations b.system.semiring) (way.tables b.direction b.system) (opened_by operations way b)) empty ∙ ap Some (sym opened))

@@ -1,5 +1,5 @@
 -- A book, as contracts see it.
-use Rattle.std.specs.Prelude.{◌≡◌, ℕ, ◌≤◌, Bool, List, length, [], ◌∷◌, ◌++◌, Option, None, Some, is_some, ◌+◌, ◌*◌, if◌then◌else◌, IsTrue, All}
+use Rattle.std.specs.Prelude.{◌≡◌, ℕ, ◌≤◌, List, length, [], ◌∷◌, ◌++◌, Option, None, Some, is_some, ◌+◌, ◌*◌, if◌then◌else◌, IsTrue}
 use Rattle.semiring_laws.specs.Semiring.{Operations}
 use Rattle.weighted_automata.specs.declared.place.Place.{Place}
 use Rattle.pushdown_rules.specs.Pushdown.{Pushdown, IsSystem}
@@ -11,13 +11,11 @@ use Rattle.saturation_core.specs.declared.hand.Taken.{Taken}
 use Rattle.saturation_core.specs.declared.hand.Taken.TheVariants.{Idle, Closed}
 use Rattle.saturation_core.specs.declared.hand.Taken.TheVariants.{Hand as InHand}
 use Rattle.saturation_core.specs.declared.opening.Opening.{Opening}
-use Rattle.saturation_core.specs.Jobs.{Tables, row_of, InputsFit}
 use Rattle.saturation_core.specs.declared.job.Job.{Job}
-use Rattle.saturation_core.specs.States.{CoreState, hand_at, step, replay, jobs_at}
-use Rattle.saturation_core.specs.Openings.{opening_state}
+use Rattle.saturation_core.specs.States.{CoreState, hand_at, step, replay}
 use Rattle.saturation_core.specs.Invariants.{LockInvariant}
 use Rattle.saturation_core.specs.Bound.{takes, gives, WithinRankBound}
-use Rattle.weighted_automata.specs.Entries.{entry_at}
+use Rattle.saturation_core.specs.Ways.{Way, HaveFitInputs, start_of, jobs_of_place, AreRows}
 
 pub record BookValue (S W Map D : Type 0) : Type 0 where
   pub system : Pushdown S W Map
@@ -46,30 +44,30 @@ module _ {S W Map D : Type 0} where
   abbrev pub IsClosed : BookValue S W Map D → Type 0
   IsClosed b = (b.state.queue ≡ []) × NoHand b
 
-module _ {S W Map D : Type 0} (operations : S → Operations W Map) (tables : D → Pushdown S W Map → Tables S W Map) where
+module _ {S W Map D : Type 0} (operations : S → Operations W Map) (way : Way S W Map D) where
   abbrev pub opened_by : BookValue S W Map D → CoreState S W Map
-  opened_by b = opening_state (operations b.system.semiring) (tables b.direction b.system).side b.system b.opening.edges
+  opened_by b = start_of operations way b.direction b.system b.opening
 
   abbrev pub replayed : BookValue S W Map D → Option (CoreState S W Map)
-  replayed b = replay (operations b.system.semiring) (tables b.direction b.system) (opened_by b) b.journal
+  replayed b = replay (operations b.system.semiring) (way.tables b.direction b.system) (opened_by b) b.journal
 
   -- the event makes the one book of the other, and joins the journal
   abbrev pub Makes : BookValue S W Map D → Event → BookValue S W Map D → Type 0
-  Makes old e new = (st : CoreState S W Map) × (step (operations old.system.semiring) (tables old.direction old.system) old.state e ≡ Some st)
+  Makes old e new = (st : CoreState S W Map) × (step (operations old.system.semiring) (way.tables old.direction old.system) old.state e ≡ Some st)
       × (new ≡ record old { state = st; journal = old.journal ++ e ∷ [] })
 
   -- what a seat may be answered
   abbrev pub AnswersTake : BookValue S W Map D → ℕ → Taken S W Map → BookValue S W Map D → Type 0
   AnswersTake old seat (InHand h) new =
       (x : Place) × Makes old (Take seat x) new
-      × (h ≡ record { seat = seat; jobs = jobs_at (operations old.system.semiring) (tables old.direction old.system) (entry_at x old.state.transitions) old.state.transitions })
+      × (h ≡ record { seat = seat; jobs = jobs_of_place operations way old.direction old.system x old.state.transitions })
   AnswersTake old seat (Idle seats) new = (old.state.queue ≡ []) × (NoHand old → ⊥) × (seats.bits ≡ seat_bits old.state.hands) × (new ≡ old)
   AnswersTake old seat Closed new = IsClosed old × (new ≡ old)
 
   -- jobs that a worker can work out over the book's system: rows, whose inputs have weights
   pub record CanWork (b : BookValue S W Map D) (jobs : List (Job S W Map)) : Type 0 where
-    pub rows : All (λ j. IsTrue ((tables b.direction b.system).rows (row_of j))) jobs
-    pub inputs : All (InputsFit (operations b.system.semiring)) jobs
+    pub rows : AreRows way b.direction b.system jobs
+    pub inputs : HaveFitInputs operations b.system jobs
 
   -- a hand that is answered can be worked on
   abbrev pub HandWorks : BookValue S W Map D → Taken S W Map → Type 0
@@ -78,21 +76,20 @@ module _ {S W Map D : Type 0} (operations : S → Operations W Map) (tables : D 
   HandWorks b Closed = Unit {0}
 
   -- the bound on how often transitions were taken
-  abbrev pub TakesAreBounded : (D → Pushdown S W Map → Opening → List Place) → BookValue S W Map D → Type 0
-  TakesAreBounded places b = takes b.journal
-      ≤ length (opened_by b).transitions + length (places b.direction b.system b.opening) * ((operations b.system.semiring).top_rank + 1) + gives b.journal
+  abbrev pub TakesAreBounded : BookValue S W Map D → Type 0
+  TakesAreBounded b = takes b.journal
+      ≤ length (opened_by b).transitions + length (way.places b.direction b.system b.opening) * ((operations b.system.semiring).top_rank + 1) + gives b.journal
 
   -- and on how many nodes there are
-  abbrev pub NodesAreBounded : (D → Pushdown S W Map → Opening → List Place) → BookValue S W Map D → Type 0
-  NodesAreBounded places b = length b.state.nodes
-      ≤ length (opened_by b).nodes + length (places b.direction b.system b.opening) * (operations b.system.semiring).top_rank
+  abbrev pub NodesAreBounded : BookValue S W Map D → Type 0
+  NodesAreBounded b = length b.state.nodes
+      ≤ length (opened_by b).nodes + length (way.places b.direction b.system b.opening) * (operations b.system.semiring).top_rank
 
   -- The book is the replay of its journal from its opening, and so it meets the lock invariant and the bound.
-  pub record IsBook (fits_opening : D → Pushdown S W Map → Opening → Bool) (places : D → Pushdown S W Map → Opening → List Place)
-      (runs : D → Pushdown S W Map → Opening → Place → List ℕ → Type 0) (b : BookValue S W Map D) : Type 0 where
+  pub record IsBook (b : BookValue S W Map D) : Type 0 where
     pub system : IsSystem operations b.system
-    pub fits : IsTrue (fits_opening b.direction b.system b.opening)
+    pub fits : IsTrue (way.fits_opening b.direction b.system b.opening)
     pub replays : replayed b ≡ Some b.state
-    pub lock : LockInvariant (operations b.system.semiring) (value_of (operations b.system.semiring) b.system) (runs b.direction b.system b.opening)
-        (tables b.direction b.system) (opened_by b).transitions b.state
-    pub bound : WithinRankBound (operations b.system.semiring) (places b.direction b.system b.opening) (opened_by b) b.journal b.state
+    pub lock : LockInvariant (operations b.system.semiring) (value_of (operations b.system.semiring) b.system) (way.runs b.direction b.system b.opening)
+        (way.tables b.direction b.system) (opened_by b).transitions b.state
+    pub bound : WithinRankBound (operations b.system.semiring) (way.places b.direction b.system b.opening) (opened_by b) b.journal b.state

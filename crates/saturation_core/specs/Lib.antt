@@ -6,6 +6,7 @@ pub mod Invariants
 pub mod Bound
 pub mod Openings
 pub mod Paths
+pub mod Ways
 pub mod Books
 pub mod Seen
 pub mod Gather

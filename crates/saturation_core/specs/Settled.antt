@@ -1,13 +1,12 @@
 -- A hand that was worked out, and when a book can settle it.
-use Rattle.std.specs.Prelude.{◌≡◌, ℕ, List, Option, Some, option_map, map, All}
-use Rattle.pushdown_rules.specs.Pushdown.{Pushdown}
+use Rattle.std.specs.Prelude.{◌≡◌, ℕ, List, Option, Some, option_map, All}
 use Rattle.saturation_core.specs.declared.job.Job.{Job}
 use Rattle.saturation_core.specs.declared.hand.Holding.{Holding}
-use Rattle.saturation_core.specs.Jobs.{Tables}
 use Rattle.saturation_core.specs.Worked.{Worked}
 use Rattle.saturation_core.specs.States.{hand_at}
 use Rattle.saturation_core.specs.Directions.{AgreeOn}
 use Rattle.saturation_core.specs.Books.{BookValue}
+use Rattle.saturation_core.specs.Ways.{Way, worths_of}
 
 module _ {S W Map : Type 0} where
   abbrev pub jobs_of : Holding S W Map → List (Job S W Map)
@@ -17,17 +16,17 @@ module _ {S W Map : Type 0} where
   abbrev pub jobs_out : ℕ → List (Option (Holding S W Map)) → Option (List (Job S W Map))
   jobs_out seat hands = option_map jobs_of (hand_at seat hands)
 
-module _ {S W Map D : Type 0} (tables : D → Pushdown S W Map → Tables S W Map) where
+module _ {S W Map D : Type 0} (way : Way S W Map D) where
   -- What this direction makes of the jobs over that system.
   pub record IsWorkedBy (d : D) (w : Worked S W Map) : Type 0 where
-    pub candidates : w.candidates ≡ map (tables d w.system).candidate w.jobs
-    pub side : w.side ≡ (tables d w.system).side
+    pub candidates : w.candidates ≡ worths_of way d w.system w.jobs
+    pub side : w.side ≡ (way.tables d w.system).side
 
   -- The book can settle it.
   pub record CanSettle (b : BookValue S W Map D) (w : Worked S W Map) : Type 0 where
     -- the seat's hand lists the jobs
     pub hand : jobs_out w.seat b.state.hands ≡ Some w.jobs
-    pub side : w.side ≡ (tables b.direction b.system).side
+    pub side : w.side ≡ (way.tables b.direction b.system).side
     -- the semirings are equal, and so is each rule that a job names
     pub semiring : b.system.semiring ≡ w.system.semiring
     pub rules : All (AgreeOn b.system w.system) w.jobs

@@ -1,7 +1,7 @@
 ghost use Rattle.std.specs.Prelude.{◌≡◌, ◌↔◌, ◌<◌, ◌+◌, [], ◌∷◌, ◌++◌, IsTrue, IfOk, IfErr, OnOk, OnErr, IsSome, is_some, length};
 ghost use Rattle.saturation_core.specs.declared.event.Event.TheVariants.{Take, Settle, GiveBack};
 ghost use Rattle.saturation_core.specs.States.{hand_at};
-ghost use Rattle.saturation_core.specs.Openings.{opening_state};
+ghost use Rattle.saturation_core.specs.Ways.{start_of};
 ghost use Rattle.saturation_core.specs.Bound.{takes, takes_of};
 ghost use Rattle.saturation_core.specs.Books.{IsBook, Makes, IsClosed, AnswersTake, HandWorks};
 ghost use Rattle.saturation_core.specs.Settled.{IsWorkedBy, CanSettle};
@@ -47,7 +47,8 @@ impl<'s, S: Semiring, D: Direction<S>> Model for Book<'s, S, D> {
 
     ghost view = { seen };
 
-    ghost invariant = { λ b. IsBook S.operations D.tables D.fits_opening D.places D.runs (seen b) × HasRoom b × (b.graph.side ≡ (D.tables b.direction b.system.now).side) };
+    ghost invariant = { λ b. IsBook S.operations D.way (seen b) × HasRoom b
+        × (b.graph.side ≡ (D.way.tables b.direction b.system.now).side) };
 }
 
 impl<'s, S: Semiring, D: Direction<S>> Book<'s, S, D> {
@@ -59,12 +60,12 @@ impl<'s, S: Semiring, D: Direction<S>> Book<'s, S, D> {
         direction: D,
         opening: Opening,
     ) -> Result<Book<'s, S, D>, OutOfMemory>
-        requires { IsTrue (D.fits_opening direction system.now opening) }
+        requires { IsTrue (D.way.fits_opening direction system.now opening) }
         ensures { IfOk result (λ b. b ≡ record {
           system = system.now;
           direction = direction;
           opening = opening;
-          state = opening_state (S.operations system.now.semiring) (D.tables direction system.now).side system.now opening.edges;
+          state = start_of S.operations D.way direction system.now opening;
           journal = [];
         }) }
     {
@@ -105,7 +106,7 @@ impl<'s, S: Semiring, D: Direction<S>> Book<'s, S, D> {
     /// The system. What holds of every book stands in `book`.
     pub fn system(&self) -> &'s System<S>
         ensures value { result.now ≡ self.now.system }
-        ensures book { IsBook S.operations D.tables D.fits_opening D.places D.runs self.now }
+        ensures book { IsBook S.operations D.way self.now }
     {
         self.system
     }
@@ -134,7 +135,7 @@ impl<'s, S: Semiring, D: Direction<S>> Book<'s, S, D> {
     /// The runs that were found so far.
     pub fn graph(&self) -> &Graph
         ensures nodes { result.now.nodes ≡ self.now.state.nodes }
-        ensures side { result.now.side ≡ (D.tables self.now.direction self.now.system).side }
+        ensures side { result.now.side ≡ (D.way.tables self.now.direction self.now.system).side }
     {
         &self.graph
     }
@@ -175,7 +176,7 @@ impl<'s, S: Semiring, D: Direction<S>> Book<'s, S, D> {
     /// Puts the transition of a hand back into the queue, and takes the hand away.
     pub fn give_back(&mut self, seat: u32)
         requires out { IsSome (hand_at seat self.old.state.hands) }
-        ensures { Makes S.operations D.tables self.old (GiveBack seat) self.new }
+        ensures { Makes S.operations D.way self.old (GiveBack seat) self.new }
     {
         let at = seat as usize;
         if let Some(place) = place_out(&self.out, at) {
@@ -189,8 +190,8 @@ impl<'s, S: Semiring, D: Direction<S>> Book<'s, S, D> {
     pub fn take(&mut self, alloc: Global, seat: u32) -> Result<Taken<S>, OutOfMemory>
         requires seat { seat < 64 }
         requires free { hand_at seat self.old.state.hands ≡ None }
-        ensures taken { IfOk result (λ t. AnswersTake S.operations D.tables self.old seat t self.new) }
-        ensures works { IfOk result (λ t. HandWorks S.operations D.tables self.old t) }
+        ensures taken { IfOk result (λ t. AnswersTake S.operations D.way self.old seat t self.new) }
+        ensures works { IfOk result (λ t. HandWorks S.operations D.way self.old t) }
         ensures err { OnErr result (self.new ≡ self.old) }
     {
         match front(&self.waiting) {
@@ -217,7 +218,7 @@ impl<'s, S: Semiring, D: Direction<S>> Book<'s, S, D> {
     /// Whether the book can settle this hand: the seat's hand lists its jobs, its side is the book's, and so are the
     /// semiring and each rule that a job names. No other rule is compared, and no memory is taken.
     pub fn holds(&self, done: &Done<'_, S>) -> bool
-        ensures { IsTrue result ↔ CanSettle D.tables self.now done.now }
+        ensures { IsTrue result ↔ CanSettle D.way self.now done.now }
     {
         let (one, other) = (self.system, done.system());
         let jobs = done.jobs().as_slice();
@@ -241,9 +242,9 @@ impl<'s, S: Semiring, D: Direction<S>> Book<'s, S, D> {
         alloc: Global,
         done: Done<'d, S>,
     ) -> Result<Lowered, SettleFault<'d, S>>
-        requires worked { (d : D) × IsWorkedBy D.tables d done }
-        requires holds { CanSettle D.tables self.old done }
-        ensures settled { OnOk result (Makes S.operations D.tables self.old (Settle done.entry.seat) self.new) }
+        requires worked { (d : D) × IsWorkedBy D.way d done }
+        requires holds { CanSettle D.way self.old done }
+        ensures settled { OnOk result (Makes S.operations D.way self.old (Settle done.entry.seat) self.new) }
         ensures count { IfOk result (λ l. length self.old.state.nodes + l.count ≡ length self.new.state.nodes) }
         ensures err { OnErr result (self.new ≡ self.old) }
         ensures fault { IfErr result (λ f. f.done ≡ done.entry) }
@@ -256,9 +257,9 @@ impl<'s, S: Semiring, D: Direction<S>> Book<'s, S, D> {
 
     // Settles a hand: works out what its jobs lower, makes room, and only then changes anything.
     fn apply(&mut self, alloc: Global, done: &Done<'_, S>) -> Result<Lowered, OutOfMemory>
-        requires worked { (d : D) × IsWorkedBy D.tables d done.now }
-        requires holds { CanSettle D.tables self.old done.now }
-        ensures settled { OnOk result (Makes S.operations D.tables self.old (Settle done.now.seat) self.new) }
+        requires worked { (d : D) × IsWorkedBy D.way d done.now }
+        requires holds { CanSettle D.way self.old done.now }
+        ensures settled { OnOk result (Makes S.operations D.way self.old (Settle done.now.seat) self.new) }
         ensures count { IfOk result (λ l. length self.old.state.nodes + l.count ≡ length self.new.state.nodes) }
         ensures err { OnErr result (self.new ≡ self.old) }
     {

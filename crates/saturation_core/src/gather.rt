@@ -25,13 +25,12 @@ pub const HUB: Place = Place {
 };
 
 impl Direction<Reach> for Gather {
-    ghost tables = { λ d _. gather_tables reach_operations d.side };
-
-    ghost fits_opening = { λ d _ o. fits_gather d.side o };
-
-    ghost places = { λ _ _ _. hub ∷ [] };
-
-    ghost runs = { λ _ _ _. gather_runs };
+    ghost way = { record {
+      tables = λ d _. gather_tables reach_operations d.side;
+      fits_opening = λ d _ o. fits_gather d.side o;
+      places = λ _ _ _. hub ∷ [];
+      runs = λ _ _ _. gather_runs;
+    } };
 
     ghost laws = { λ d p o _ fits. gather_direction reach_operations d.side p o fits };
 

@@ -1,6 +1,7 @@
-ghost use Rattle.std.specs.Prelude.{◌≡◌, All, IfOk, IfErr, IsTrue};
-ghost use Rattle.saturation_core.specs.Jobs.{row_of, InputsFit};
+ghost use Rattle.std.specs.Prelude.{◌≡◌, All, IfOk, IfErr};
+ghost use Rattle.saturation_core.specs.Jobs.{InputsFit};
 ghost use Rattle.saturation_core.specs.Settled.{IsWorkedBy};
+ghost use Rattle.saturation_core.specs.Ways.{AreRows, HaveFitInputs};
 
 use crate::work::candidates;
 use crate::{Direction, JobList};
@@ -135,12 +136,12 @@ impl<S: Semiring> Hand<S> {
         system: &'s System<S>,
         direction: &D,
     ) -> Result<Done<'s, S>, WorkFault<S>>
-        requires rows { All (λ j. IsTrue ((D.tables direction.now system.now).rows (row_of j))) self.jobs }
-        requires inputs { All (InputsFit (S.operations system.now.semiring)) self.jobs }
+        requires rows { AreRows D.way direction.now system.now self.jobs }
+        requires inputs { HaveFitInputs S.operations system.now self.jobs }
         ensures seat { IfOk result (λ d. d.seat ≡ self.seat) }
         ensures jobs { IfOk result (λ d. d.jobs ≡ self.jobs) }
         ensures system { IfOk result (λ d. d.system ≡ system.now) }
-        ensures worked { IfOk result (IsWorkedBy D.tables direction.now) }
+        ensures worked { IfOk result (IsWorkedBy D.way direction.now) }
         ensures fault { IfErr result (λ f. f.hand ≡ self) }
     {
         match candidates(direction, alloc, system, self.jobs.as_slice()) {

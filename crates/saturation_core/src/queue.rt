@@ -1,11 +1,9 @@
-ghost use Rattle.std.specs.Prelude.{◌≡◌, ◌<◌, ◌≤◌, ◌+◌, All, IfOk, drop, MatchOption, ◌∷◌, [], IsTrue};
+ghost use Rattle.std.specs.Prelude.{◌≡◌, ◌<◌, ◌≤◌, ◌+◌, IfOk, drop, MatchOption, ◌∷◌, [], IsTrue};
 ghost use Rattle.std.specs.VecDeque.{deque_len, deque_capacity};
-ghost use Rattle.semiring_laws.specs.Semiring.{Fits};
 ghost use Rattle.weighted_automata.specs.Places.{has_place};
-ghost use Rattle.weighted_automata.specs.Entries.{entry_at};
 ghost use Rattle.saturation_core.specs.declared.opening.Opening.{Opening as OpeningValue};
 ghost use Rattle.saturation_core.specs.Lists.{queued};
-ghost use Rattle.saturation_core.specs.States.{jobs_at};
+ghost use Rattle.saturation_core.specs.Ways.{HaveFitWeights, jobs_of_place};
 
 use crate::{Direction, JobList};
 use pushdown_rules::System;
@@ -62,9 +60,10 @@ pub fn list_jobs<S: Semiring, D: Direction<S>>(
     transitions: &Transitions<S>,
     place: Place,
 ) -> Result<JobList<S>, OutOfMemory>
-    requires fits { (o : OpeningValue) × IsTrue (D.fits_opening direction.now system.now o) }
-    requires weights { All (λ t. Fits (S.operations system.now.semiring) t.weight) transitions.now.transitions }
-    ensures { IfOk result (λ js. js ≡ jobs_at (S.operations system.now.semiring) (D.tables direction.now system.now) (entry_at place transitions.now.transitions) transitions.now.transitions) }
+    requires fits { (o : OpeningValue) × IsTrue (D.way.fits_opening direction.now system.now o) }
+    requires weights { HaveFitWeights S.operations system.now transitions.now.transitions }
+    ensures { IfOk result (λ js. js
+        ≡ jobs_of_place S.operations D.way direction.now system.now place transitions.now.transitions) }
 {
     match transitions.find(place) {
         Some(k) => direction.jobs(alloc, system, transitions, k),

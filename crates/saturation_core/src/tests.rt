@@ -79,7 +79,7 @@ fn work<'s, S: Semiring, D: Direction<S>>(
     alloc: Global,
     seat: u32,
 ) -> Result<Option<Done<'s, S>>, OutOfMemory>
-    ensures { IfOk result (λ o. IfSome o (λ w. (d : D) × IsWorkedBy D.tables d w)) }
+    ensures { IfOk result (λ o. IfSome o (λ w. (d : D) × IsWorkedBy D.way d w)) }
 {
     if seat >= 64 {
         return Ok(None);
@@ -103,7 +103,7 @@ fn settle<S: Semiring, D: Direction<S>>(
     alloc: Global,
     done: Option<Done<'_, S>>,
 ) -> Result<Option<u64>, OutOfMemory>
-    requires { IfSome done (λ w. (d : D) × IsWorkedBy D.tables d w) }
+    requires { IfSome done (λ w. (d : D) × IsWorkedBy D.way d w) }
 {
     let Some(done) = done else {
         return Ok(None);

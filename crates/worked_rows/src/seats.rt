@@ -12,7 +12,7 @@ fn work<'s, S: Semiring, D: Direction<S>>(
     book: &mut Book<'s, S, D>,
     seat: u32,
 ) -> Result<Option<Done<'s, S>>, OutOfMemory>
-    ensures { IfOk result (λ done. IfSome done (λ w. (d : D) × IsWorkedBy D.tables d w)) }
+    ensures { IfOk result (λ done. IfSome done (λ w. (d : D) × IsWorkedBy D.way d w)) }
 {
     if seat >= 64 || book.has_hand(seat) {
         return Ok(None);
@@ -33,7 +33,7 @@ fn settle<S: Semiring, D: Direction<S>>(
     book: &mut Book<'_, S, D>,
     done: Option<Done<'_, S>>,
 ) -> Result<bool, OutOfMemory>
-    requires { IfSome done (λ w. (d : D) × IsWorkedBy D.tables d w) }
+    requires { IfSome done (λ w. (d : D) × IsWorkedBy D.way d w) }
 {
     let Some(done) = done else {
         return Ok(false);

@@ -1,6 +1,6 @@
 -- What a turn of one worker makes of a book.
 use Rattle.std.proofs.Common.{◌≡◌, inl, inr, ℕ, ◌+◌, ◌-◌, ◌*◌, ◌<◌, ◌≤◌, List, [], ◌∷◌, ◌++◌, length, get_or, set, refl, sym, ap, ap₂, subst, ◌∙◌, arith}
-use Rattle.std.specs.Prelude.{Bool, true, ◌&&◌, nat_lt, IsTrue, IfSome, Option, Some, None, option_map, is_none}
+use Rattle.std.specs.Prelude.{true, ◌&&◌, nat_lt, IfSome, Option, Some, None, option_map, is_none}
 use Rattle.std.specs.List.{AllByRecursion}
 use Rattle.std.proofs.lemmas.Bool.{and_parts, cond_both, cases_eq, cases_lt, ltb-true}
 use Rattle.std.proofs.lemmas.Option.{same_Some}
@@ -9,15 +9,14 @@ use Rattle.std.proofs.lemmas.List.Elements.{All-from_recursion}
 use Rattle.semiring_laws.specs.Semiring.{Operations, IsSemiring}
 use Rattle.weighted_automata.specs.declared.place.Place.{Place}
 use Rattle.weighted_automata.specs.Entries.{entry_at}
-use Rattle.pushdown_rules.specs.Pushdown.{Pushdown, IsSystem}
+use Rattle.pushdown_rules.specs.Pushdown.{Pushdown}
 use Rattle.saturation_core.specs.declared.event.Event.TheVariants.{Take, Settle}
 use Rattle.saturation_core.specs.declared.job.Job.{Job}
 use Rattle.saturation_core.specs.declared.hand.Holding.{Holding}
-use Rattle.saturation_core.specs.declared.opening.Opening.{Opening}
 use Rattle.saturation_core.specs.Jobs.{Tables}
 use Rattle.saturation_core.specs.States.{CoreState, Change, hand_at, weight_at, lower_state, apply, apply_all, change_of, apply_jobs, jobs_at, settle, step, replay, is_front}
 use Rattle.saturation_core.specs.Openings.{pops, with_edge, with_edges, bare, opening_state}
-use Rattle.saturation_core.specs.Directions.{IsDirection, AgreeOn}
+use Rattle.saturation_core.specs.Directions.{AgreeOn}
 use Rattle.saturation_core.specs.Bound.{takes, gives}
 use Rattle.saturation_core.specs.Books.{BookValue, NoHand, Makes, IsBook, opened_by}
 use Rattle.saturation_core.specs.Worked.{Worked}
@@ -26,6 +25,7 @@ use Rattle.saturation_core.proofs.Opened.{none_out}
 use Rattle.saturation_core.proofs.Kept.{event_keeps, book_takes}
 use Rattle.worker_pool.specs.Alone.{HasTurned, HasBase, IsAlone, turns_of}
 use Rattle.worker_pool.proofs.OfAlone.{took}
+use Rattle.saturation_core.specs.Ways.{Way, IsLawful}
 
 set_none : {X : Type 0} (hs : List (Option X)) (i : ℕ) → get_or (set hs i None) i None ≡ None
 set_none hs i = elim (cases_lt i (length hs)) [
@@ -111,51 +111,50 @@ none_given (x ∷ xs) = none_given xs
 falls : (n m t u : ℕ) → m ≡ n → u ≡ t + 1 → u ≤ m → m + 1 - u < n + 1 - t
 falls n m t u same more within = omega arith
 
-module _ {S W Map D : Type 0} (operations : S → Operations W Map) (tables : D → Pushdown S W Map → Tables S W Map) where
+module _ {S W Map D : Type 0} (operations : S → Operations W Map) (way : Way S W Map D) where
   -- a book can settle what was worked out of the hand that it gave last
-  pub can_settle : (old mid : BookValue S W Map D) (x : Place) → Makes operations tables old (Take 0 x) mid → (w : Worked S W Map) → w.seat ≡ 0
-      → w.jobs ≡ jobs_at (operations old.system.semiring) (tables old.direction old.system) (entry_at x old.state.transitions) old.state.transitions
-      → w.system ≡ mid.system → (e : D) → e ≡ mid.direction → IsWorkedBy tables e w → CanSettle tables mid w
+  pub can_settle : (old mid : BookValue S W Map D) (x : Place) → Makes operations way old (Take 0 x) mid → (w : Worked S W Map) → w.seat ≡ 0
+      → w.jobs ≡ jobs_at (operations old.system.semiring) (way.tables old.direction old.system) (entry_at x old.state.transitions) old.state.transitions
+      → w.system ≡ mid.system → (e : D) → e ≡ mid.direction → IsWorkedBy way e w → CanSettle way mid w
   can_settle old mid x made w seat jobs system e direction worked =
       let P : Pushdown S W Map → Type 0 = λ p. AllByRecursion (AgreeOn mid.system p) w.jobs in
       record {
         hand = ap (λ k. jobs_out k mid.state.hands) seat ∙ ap (λ (b : BookValue S W Map D). jobs_out 0 b.state.hands) made.2
-            ∙ ap (option_map jobs_of) (hand_taken (operations old.system.semiring) (tables old.direction old.system) 0 x old.state made.0 made.1) ∙ ap Some (sym jobs);
-        side = worked.side ∙ ap₂ (λ f p. (tables f p).side) direction system;
+            ∙ ap (option_map jobs_of) (hand_taken (operations old.system.semiring) (way.tables old.direction old.system) 0 x old.state made.0 made.1) ∙ ap Some (sym jobs);
+        side = worked.side ∙ ap₂ (λ f p. (way.tables f p).side) direction system;
         semiring = ap (λ (p : Pushdown S W Map). p.semiring) (sym system);
         rules = All-from_recursion (AgreeOn mid.system w.system) w.jobs (subst P (sym system) (agrees mid.system w.jobs));
       }
 
   -- where no hand was out, none is after a turn
-  pub turned_free : (old mid new : BookValue S W Map D) (x : Place) → Makes operations tables old (Take 0 x) mid → Makes operations tables mid (Settle 0) new → NoHand old → NoHand new
+  pub turned_free : (old mid new : BookValue S W Map D) (x : Place) → Makes operations way old (Take 0 x) mid → Makes operations way mid (Settle 0) new → NoHand old → NoHand new
   turned_free old mid new x taken settled free =
-      let P : BookValue S W Map D → Type 0 = λ b. Makes operations tables b (Settle 0) new in
+      let P : BookValue S W Map D → Type 0 = λ b. Makes operations way b (Settle 0) new in
       let settled' = subst P taken.2 settled in
-      subst NoHand (sym settled'.2) (turn_frees (operations old.system.semiring) (tables old.direction old.system) x old.state taken.0 settled'.0 taken.1 settled'.1 free)
+      subst NoHand (sym settled'.2) (turn_frees (operations old.system.semiring) (way.tables old.direction old.system) x old.state taken.0 settled'.0 taken.1 settled'.1 free)
 
-module _ {S W Map D : Type 0} (operations : S → Operations W Map) (tables : D → Pushdown S W Map → Tables S W Map)
-    (fits_opening : D → Pushdown S W Map → Opening → Bool) (places : D → Pushdown S W Map → Opening → List Place) (runs : D → Pushdown S W Map → Opening → Place → List ℕ → Type 0) where
+module _ {S W Map D : Type 0} (operations : S → Operations W Map) (way : Way S W Map D) where
   -- What holds between the turns that begin with a book.
   pub record IsUnderWay (entry b : BookValue S W Map D) : Type 0 where
     pub base : HasBase entry b
     pub alone : IsAlone b.journal
     pub free : NoHand b
-    pub book : IsBook operations tables fits_opening places runs b
+    pub book : IsBook operations way b
 
   -- at most how often a transition is taken from the opening on
   abbrev most : BookValue S W Map D → ℕ
-  most b = length (opened_by operations tables b).transitions + length (places b.direction b.system b.opening) * ((operations b.system.semiring).top_rank + 1)
+  most b = length (opened_by operations way b).transitions + length (way.places b.direction b.system b.opening) * ((operations b.system.semiring).top_rank + 1)
 
   -- and how many turns are left
   abbrev pub turns_left : BookValue S W Map D → ℕ
   turns_left b = most b + 1 - takes b.journal
 
-  pub under_way : (b : BookValue S W Map D) → IsBook operations tables fits_opening places runs b → b.journal ≡ [] → IsUnderWay b b
+  pub under_way : (b : BookValue S W Map D) → IsBook operations way b → b.journal ≡ [] → IsUnderWay b b
   under_way b is none =
       let s = operations b.system.semiring in
-      let d = tables b.direction b.system in
-      let st : opened_by operations tables b ≡ b.state =
-      same_Some (opened_by operations tables b) b.state (ap (replay s d (opened_by operations tables b)) (sym none) ∙ is.replays) in
+      let d = way.tables b.direction b.system in
+      let st : opened_by operations way b ≡ b.state =
+      same_Some (opened_by operations way b) b.state (ap (replay s d (opened_by operations way b)) (sym none) ∙ is.replays) in
       record {
         base = record { system = refl; direction = refl; opening = refl };
         alone = ([], none);
@@ -164,9 +163,8 @@ module _ {S W Map D : Type 0} (operations : S → Operations W Map) (tables : D 
       }
 
   module _ (laws : (x : S) → IsSemiring (operations x))
-      (direction : (d : D) (p : Pushdown S W Map) (o : Opening) → IsSystem operations p → IsTrue (fits_opening d p o)
-      → IsDirection (operations p.semiring) p o (tables d p) (places d p o) (runs d p o))
-      (entry old new : BookValue S W Map D) (way : IsUnderWay entry old) (free : NoHand new) (turned : HasTurned operations tables true old new) where
+      (direction : IsLawful operations way)
+      (entry old new : BookValue S W Map D) (under : IsUnderWay entry old) (free : NoHand new) (turned : HasTurned operations way true old new) where
     abbrev x : Place
     x = turned.0
 
@@ -176,24 +174,24 @@ module _ {S W Map D : Type 0} (operations : S → Operations W Map) (tables : D 
     new_is : new ≡ record old { state = turned.3.0; journal = (old.journal ++ Take 0 x ∷ []) ++ Settle 0 ∷ [] }
     new_is = turned.3.2 ∙ ap (λ (b : BookValue S W Map D). record b { state = turned.3.0; journal = b.journal ++ Settle 0 ∷ [] }) turned.2.2
 
-    journal_is : new.journal ≡ turns_of (way.alone.0 ++ x ∷ [])
+    journal_is : new.journal ≡ turns_of (under.alone.0 ++ x ∷ [])
     journal_is =
-        ap (λ (b : BookValue S W Map D). b.journal) new_is ∙ ap (λ es. (es ++ Take 0 x ∷ []) ++ Settle 0 ∷ []) way.alone.1 ∙ turns_push way.alone.0 x
+        ap (λ (b : BookValue S W Map D). b.journal) new_is ∙ ap (λ es. (es ++ Take 0 x ∷ []) ++ Settle 0 ∷ []) under.alone.1 ∙ turns_push under.alone.0 x
 
-    book_after : IsBook operations tables fits_opening places runs new
+    book_after : IsBook operations way new
     book_after =
-        event_keeps operations laws tables fits_opening places runs direction mid
-        (event_keeps operations laws tables fits_opening places runs direction old way.book (Take 0 x) mid turned.2) (Settle 0) new turned.3
+        event_keeps operations laws way direction mid
+        (event_keeps operations laws way direction old under.book (Take 0 x) mid turned.2) (Settle 0) new turned.3
 
     -- a turn leads on
     pub turn_keeps : IsUnderWay entry new
     turn_keeps = record {
       base = record {
-        system = ap (λ (b : BookValue S W Map D). b.system) new_is ∙ way.base.system;
-        direction = ap (λ (b : BookValue S W Map D). b.direction) new_is ∙ way.base.direction;
-        opening = ap (λ (b : BookValue S W Map D). b.opening) new_is ∙ way.base.opening;
+        system = ap (λ (b : BookValue S W Map D). b.system) new_is ∙ under.base.system;
+        direction = ap (λ (b : BookValue S W Map D). b.direction) new_is ∙ under.base.direction;
+        opening = ap (λ (b : BookValue S W Map D). b.opening) new_is ∙ under.base.opening;
       };
-      alone = (way.alone.0 ++ x ∷ [], journal_is);
+      alone = (under.alone.0 ++ x ∷ [], journal_is);
       free = free;
       book = book_after;
     }
@@ -201,10 +199,10 @@ module _ {S W Map D : Type 0} (operations : S → Operations W Map) (tables : D 
     -- and fewer are left
     pub turn_falls : turns_left new < turns_left old
     turn_falls =
-        let bounded = book_takes operations laws tables fits_opening places runs direction new book_after in
-        let none : gives new.journal ≡ 0 = ap gives journal_is ∙ none_given (way.alone.0 ++ x ∷ []) in
-        let many : takes new.journal ≡ length (way.alone.0 ++ x ∷ []) = ap takes journal_is ∙ turns_taken (way.alone.0 ++ x ∷ []) in
-        let few : takes old.journal ≡ length way.alone.0 = ap takes way.alone.1 ∙ turns_taken way.alone.0 in
-        let one : length (way.alone.0 ++ x ∷ []) ≡ length way.alone.0 + 1 = length_push way.alone.0 x in
+        let bounded = book_takes operations laws way direction new book_after in
+        let none : gives new.journal ≡ 0 = ap gives journal_is ∙ none_given (under.alone.0 ++ x ∷ []) in
+        let many : takes new.journal ≡ length (under.alone.0 ++ x ∷ []) = ap takes journal_is ∙ turns_taken (under.alone.0 ++ x ∷ []) in
+        let few : takes old.journal ≡ length under.alone.0 = ap takes under.alone.1 ∙ turns_taken under.alone.0 in
+        let one : length (under.alone.0 ++ x ∷ []) ≡ length under.alone.0 + 1 = length_push under.alone.0 x in
         let within : takes new.journal ≤ most new = omega (arith, bounded, none) in
         falls (most old) (most new) (takes old.journal) (takes new.journal) (ap most new_is) (omega (arith, many, few, one)) within

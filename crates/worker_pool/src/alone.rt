@@ -18,7 +18,7 @@ fn turn<S: Semiring, D: Direction<S>>(
     requires free { NoHand book.old }
     requires system { system.now ≡ book.old.system }
     requires direction { direction.now ≡ book.old.direction }
-    ensures turned { IfOk result (λ more. HasTurned S.operations D.tables more book.old book.new) }
+    ensures turned { IfOk result (λ more. HasTurned S.operations D.way more book.old book.new) }
     ensures free { OnOk result (NoHand book.new) }
 {
     let Taken::Hand(hand) = book.take(alloc, 0)? else {
@@ -43,7 +43,7 @@ pub fn saturate_alone<'s, S: Semiring, D: Direction<S>>(
     ensures closed { IfOk result IsClosed }
     ensures base { IfOk result (HasBase book.entry) }
     ensures alone { IfOk result (λ b. IsAlone b.journal) }
-    ensures book { IfOk result (IsBook S.operations D.tables D.fits_opening D.places D.runs) }
+    ensures book { IfOk result (IsBook S.operations D.way) }
 {
     let mut book = book;
     let (system, direction) = (book.system(), book.direction());

@@ -1,5 +1,5 @@
 -- The answer of a sum over a book that one worker has saturated.
-use Rattle.std.proofs.Common.{◌≡◌, ◌↔◌, ℕ, ◌<◌, IsTrue, IfSome, Option, None, Some, List, refl, sym, ap, subst, ◌∙◌}
+use Rattle.std.proofs.Common.{◌≡◌, ◌↔◌, ℕ, ◌<◌, IsTrue, IfSome, Option, None, Some, List, refl, sym, subst, ◌∙◌}
 use Rattle.std.specs.Prelude.{nat_eq, Result, Ok, Err, IfOk}
 use Rattle.std.proofs.lemmas.Bool.{and_parts, eqb-true}
 use Rattle.semiring_laws.specs.Semiring.{Operations}
@@ -21,8 +21,9 @@ use Rattle.saturation_core.specs.Books.{BookValue}
 use Rattle.saturation_core.specs.Paths.{IsOpened}
 use Rattle.prestar.specs.declared.pre.Pre.{Pre}
 use Rattle.path_sum.specs.declared.answer.Answer.{Answer}
-use Rattle.path_sum.specs.Answers.{AnswersOpening, listed_runs, IsGrownAnswer}
-use Rattle.path_sum.specs.Sums.{ways_of}
+use Rattle.path_sum.specs.Answers.{listed_runs}
+use Rattle.path_sum.specs.Results.{IsSumOver, IsSumOf}
+use Rattle.backward_laws.specs.Ways.{pre_way}
 use Rattle.wpds_app.specs.Answering.{IsSaturatedFor, IsShorter, IsAnswer}
 
 -- what the law on openings says
@@ -44,22 +45,15 @@ members_are_opened law pattern controls below d = (there, back)
     back both = (law pattern controls below d both.1).0 both.0
 
 module _ {S W Map : Type 0} (operations : S → Operations W Map) (from : Described) where
-  -- what a sum says of its answer
-  pub record IsSummedUp (q : Pushdown S W Map) (o : Opening) (b : BookValue S W Map Pre) (a : Answer S W Map) : Type 0 where
-    pub answers : AnswersOpening (operations q.semiring) Backward q o (has_member from) a.value (listed_runs a.listing)
-    pub unlisted : (a.listing ≡ None) ↔ (a.value ≡ (operations q.semiring).zero)
-    pub side : IfSome a.listing (λ l. l.side ≡ Backward)
-    pub tight : IfSome a.listing (λ l. IsTight (operations q.semiring) (value_of (operations q.semiring) q) l.side l.nodes)
-    pub grown : IsGrownAnswer (operations q.semiring) Backward b.opening b.state.transitions b.state.nodes (ways_of from) a
-
   answer_is : OpeningsReadMembers → (p : Pushdown S W Map) (to : Described) → to.control < p.controls → (b : BookValue S W Map Pre) (whole a : Answer S W Map)
-      → IsSaturatedFor operations p to b → IsSummedUp b.system b.opening b whole → a.value ≡ whole.value → IsShorter whole.listing a.listing → listed_runs a.listing ≡ listed_runs whole.listing
+      → IsSaturatedFor operations p to b → IsSumOf operations (pre_way operations) b from whole → a.value ≡ whole.value → IsShorter whole.listing a.listing → listed_runs a.listing ≡ listed_runs whole.listing
       → ((nodes : List Node) → IsListing nodes → IsTight (operations p.semiring) (value_of (operations p.semiring) p) Backward nodes → IsTight (operations p.semiring) (value_of (operations p.semiring) p) Backward (shortened nodes))
       → IsAnswer operations p from to a
   answer_is law p to below b whole a saturated summed value shorter runs stays =
-      let P : Pushdown S W Map → Type 0 = λ q. IsSummedUp q b.opening b whole in
-      let Q : Opening → Type 0 = λ o. IsSummedUp p o b whole in
-      let here : IsSummedUp p (opening_of p.controls to) b whole = subst Q saturated.opening (subst P saturated.system summed) in
+      let P : Pushdown S W Map → Type 0 = λ q. IsSumOver operations (pre_way operations) q b.direction b.opening b.state.transitions b.state.nodes from whole in
+      let Q : Opening → Type 0 = λ o. IsSumOver operations (pre_way operations) p b.direction o b.state.transitions b.state.nodes from whole in
+      let there : P p = subst P saturated.system summed in
+      let here : Q (opening_of p.controls to) = subst Q saturated.opening there in
       let answers = here.answers (has_member to) (members_are_opened law to p.controls below) in
       record {
         answers =
@@ -71,7 +65,7 @@ module _ {S W Map : Type 0} (operations : S → Operations W Map) (from : Descri
         book = b;
         saturated = saturated;
         whole = whole;
-        grown = here.grown;
+        grown = there.grown;
         same_value = value;
         shorter = shorter;
       }
@@ -100,7 +94,7 @@ module _ {S W Map : Type 0} (operations : S → Operations W Map) (from : Descri
           subst (λ sd. T sd m.nodes) (sym (s.0 ∙ h)) (subst (T Backward) (sym s.1) short)
 
   pub sum_answers : {E : Type 0} → OpeningsReadMembers → (p : Pushdown S W Map) (to : Described) → to.control < p.controls → (b : BookValue S W Map Pre) → IsSaturatedFor operations p to b → (whole : Answer S W Map)
-      → IsSummedUp b.system b.opening b whole
+      → IsSumOf operations (pre_way operations) b from whole
       → ((nodes : List Node) → IsListing nodes → IsTight (operations p.semiring) (value_of (operations p.semiring) p) Backward nodes → IsTight (operations p.semiring) (value_of (operations p.semiring) p) Backward (shortened nodes))
       → (r : Result (Answer S W Map) E)
       → IfOk r (λ a. a.value ≡ whole.value) → IfOk r (λ a. IsShorter whole.listing a.listing) → IfOk r (λ a. listed_runs a.listing ≡ listed_runs whole.listing)

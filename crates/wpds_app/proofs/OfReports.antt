@@ -1,14 +1,13 @@
 -- Reports on reachability.
-use Rattle.std.proofs.Common.{◌≡◌, ◌⊎◌, inl, inr, ℕ, zero, suc, Bool, true, false, ◌&&◌, ◌||◌, List, [], ◌∷◌, ◌++◌, map, length, Option, Some, None, refl, sym, ap, subst, ◌∙◌, IsTrue, append-nil, decimal, arith}
+use Rattle.std.proofs.Common.{◌≡◌, inl, inr, ℕ, zero, suc, Bool, true, false, ◌&&◌, ◌||◌, List, [], ◌∷◌, ◌++◌, map, length, Option, Some, None, refl, sym, ap, subst, ◌∙◌, append-nil, arith}
 use Rattle.std.specs.Prelude.{codes, slice_get, unwrap_or, if◌then◌else◌}
-use Rattle.std.specs.List.{AllByRecursion, filter_map}
+use Rattle.std.specs.List.{AllByRecursion}
 use Rattle.std.proofs.lemmas.Fmt.{decimal_digit}
 use Rattle.semiring_laws.specs.declared.reach.Reach.{Reach as ReachValue}
 use Rattle.semiring_laws.specs.declared.reach.NoMap.{NoMap}
 use Rattle.semiring_laws.specs.Reach.{reach_operations}
 use Rattle.semiring_laws.specs.Combination.{combination}
 use Rattle.pushdown_rules.specs.declared.rule.Rule.{Rule}
-use Rattle.pushdown_rules.specs.Configuration.{Configuration}
 use Rattle.pushdown_rules.specs.Pushdown.{Pushdown}
 use Rattle.pushdown_rules.specs.Firing.{Run}
 use Rattle.pushdown_rules.specs.RunValue.{Frame, Machine, starting, called, returned, machine_after, product, value_from}

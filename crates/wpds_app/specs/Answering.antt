@@ -11,9 +11,7 @@ use Rattle.short_listings.specs.Shorter.{shortened}
 use Rattle.config_patterns.specs.Membership.{Described, has_member}
 use Rattle.pattern_openings.specs.PatternOpenings.{opening_of}
 use Rattle.saturation_core.specs.Books.{BookValue, IsBook, IsClosed}
-use Rattle.backward_laws.specs.Reading.{PreRun}
-use Rattle.backward_laws.specs.Fitting.{fits_pre, pre_places}
-use Rattle.backward_laws.specs.Jobs.{pre_tables}
+use Rattle.backward_laws.specs.Ways.{pre_way}
 use Rattle.prestar.specs.declared.pre.Pre.{Pre}
 use Rattle.path_sum.specs.declared.answer.Answer.{Answer}
 use Rattle.path_sum.specs.Answers.{listed_runs, IsGrownAnswer}
@@ -31,7 +29,7 @@ module _ {S W Map : Type 0} (operations : S → Operations W Map) (p : Pushdown 
   pub record IsSaturatedFor (b : BookValue S W Map Pre) : Type 0 where
     pub system : b.system ≡ p
     pub opening : b.opening ≡ opening_of p.controls to
-    pub book : IsBook operations (λ d q. pre_tables (operations q.semiring) q) (λ d q o. fits_pre q o) (λ d q o. pre_places q o) (λ d q o. PreRun q o.edges) b
+    pub book : IsBook operations (pre_way operations) b
     pub closed : IsClosed b
     pub alone : IsAlone b.journal
 

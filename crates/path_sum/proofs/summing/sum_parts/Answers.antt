@@ -5,7 +5,7 @@ use Rattle.saturation_core.specs.States.{weight_at}
 use Rattle.path_sum.specs.Sums.{answer_place}
 use Rattle.path_sum.specs.Answers.{IsListingOf}
 use Rattle.path_sum.specs.Growings.{state_of}
-use Rattle.path_sum.proofs.OfFinished.{task_is, begun_at, ready_at, round_at, kept_at, answer_answers, answer_none, answer_side, answer_tight, answer_grown}
+use Rattle.path_sum.proofs.OfFinished.{task_is, begun_at, ready_at, round_at, kept_at, answer_sums}
 use Rattle.path_sum.proofs.summing.sum_parts.Goals as goal
 
 pub rounds-init : goal.rounds-init
@@ -14,11 +14,9 @@ rounds-init g c =
     let d = c.args.direction.now in
     let valid = c.semiring-semiring.ensures.valid in
     let sums = g.met.D.Direction.sums d p c.args.opening.now valid c.requires.automaton.fits in
-    let is_task = task_is g.S.Semiring.operations g.S.Semiring.laws g.D.Direction.tables g.D.Direction.fits_opening g.D.Direction.runs c.args.system.now valid c.args.direction.now c.args.opening.now c.args.transitions.now.transitions
-    c.args.graph.now.nodes c.requires.automaton sums c.args.pattern.now c.requires.pattern
+    let is_task = task_is g.S.Semiring.laws valid c.requires.automaton sums c.args.pattern.now c.requires.pattern
     c.in_ok-task.task c.semiring-semiring.result.now c.side-side.result c.in_ok-task.ensures c.semiring-semiring.ensures.value (c.side-side.ensures p) in (
-      begun_at g.S.Semiring.operations g.S.Semiring.laws g.D.Direction.tables g.D.Direction.fits_opening g.D.Direction.runs c.args.system.now valid c.args.direction.now c.args.opening.now c.args.transitions.now.transitions
-          c.args.graph.now.nodes c.requires.automaton sums c.args.pattern.now c.requires.pattern
+      begun_at g.S.Semiring.laws valid c.requires.automaton sums c.args.pattern.now c.requires.pattern
           c.in_ok-task.task is_task (state_of c.in_ok-sum.sum) c.in_ok-sum.ensures.state,
       c.in_ok-sum.ensures.side,
     )
@@ -29,12 +27,10 @@ draw-requires g c =
     let d = c.args.direction.now in
     let valid = c.semiring-semiring.ensures.valid in
     let sums = g.met.D.Direction.sums d p c.args.opening.now valid c.requires.automaton.fits in
-    let is_task = task_is g.S.Semiring.operations g.S.Semiring.laws g.D.Direction.tables g.D.Direction.fits_opening g.D.Direction.runs c.args.system.now valid c.args.direction.now c.args.opening.now c.args.transitions.now.transitions
-    c.args.graph.now.nodes c.requires.automaton sums c.args.pattern.now c.requires.pattern
+    let is_task = task_is g.S.Semiring.laws valid c.requires.automaton sums c.args.pattern.now c.requires.pattern
     c.in_ok-task.task c.semiring-semiring.result.now c.side-side.result c.in_ok-task.ensures c.semiring-semiring.ensures.value (c.side-side.ensures p) in
     record {
-      ready = ready_at g.S.Semiring.operations g.S.Semiring.laws g.D.Direction.tables g.D.Direction.fits_opening g.D.Direction.runs c.args.system.now valid c.args.direction.now c.args.opening.now c.args.transitions.now.transitions
-          c.args.graph.now.nodes c.requires.automaton sums c.args.pattern.now c.requires.pattern
+      ready = ready_at g.S.Semiring.laws valid c.requires.automaton sums c.args.pattern.now c.requires.pattern
           c.in_ok-task.task is_task (state_of c.rounds.sum) c.in-Some.place c.next.new.waiting.items c.rounds.invariant.0 c.in-Some.ensures;
     }
 
@@ -44,11 +40,9 @@ rounds-smaller g c =
     let d = c.args.direction.now in
     let valid = c.semiring-semiring.ensures.valid in
     let sums = g.met.D.Direction.sums d p c.args.opening.now valid c.requires.automaton.fits in
-    let is_task = task_is g.S.Semiring.operations g.S.Semiring.laws g.D.Direction.tables g.D.Direction.fits_opening g.D.Direction.runs c.args.system.now valid c.args.direction.now c.args.opening.now c.args.transitions.now.transitions
-    c.args.graph.now.nodes c.requires.automaton sums c.args.pattern.now c.requires.pattern
+    let is_task = task_is g.S.Semiring.laws valid c.requires.automaton sums c.args.pattern.now c.requires.pattern
     c.in_ok-task.task c.semiring-semiring.result.now c.side-side.result c.in_ok-task.ensures c.semiring-semiring.ensures.value (c.side-side.ensures p) in
-    let round = round_at g.S.Semiring.operations g.S.Semiring.laws g.D.Direction.tables g.D.Direction.fits_opening g.D.Direction.runs c.args.system.now valid c.args.direction.now c.args.opening.now c.args.transitions.now.transitions
-    c.args.graph.now.nodes c.requires.automaton sums c.args.pattern.now c.requires.pattern
+    let round = round_at g.S.Semiring.laws valid c.requires.automaton sums c.args.pattern.now c.requires.pattern
     c.in_ok-task.task is_task (state_of c.rounds.sum) (state_of c.draw.new.self) c.in-Some.place c.next.new.waiting.items c.rounds.invariant.0 c.in-Some.ensures c.in_ok-draw.ensures.grows in
     round.1
 
@@ -58,11 +52,9 @@ rounds-preserved g c =
     let d = c.args.direction.now in
     let valid = c.semiring-semiring.ensures.valid in
     let sums = g.met.D.Direction.sums d p c.args.opening.now valid c.requires.automaton.fits in
-    let is_task = task_is g.S.Semiring.operations g.S.Semiring.laws g.D.Direction.tables g.D.Direction.fits_opening g.D.Direction.runs c.args.system.now valid c.args.direction.now c.args.opening.now c.args.transitions.now.transitions
-    c.args.graph.now.nodes c.requires.automaton sums c.args.pattern.now c.requires.pattern
+    let is_task = task_is g.S.Semiring.laws valid c.requires.automaton sums c.args.pattern.now c.requires.pattern
     c.in_ok-task.task c.semiring-semiring.result.now c.side-side.result c.in_ok-task.ensures c.semiring-semiring.ensures.value (c.side-side.ensures p) in
-    let round = round_at g.S.Semiring.operations g.S.Semiring.laws g.D.Direction.tables g.D.Direction.fits_opening g.D.Direction.runs c.args.system.now valid c.args.direction.now c.args.opening.now c.args.transitions.now.transitions
-    c.args.graph.now.nodes c.requires.automaton sums c.args.pattern.now c.requires.pattern
+    let round = round_at g.S.Semiring.laws valid c.requires.automaton sums c.args.pattern.now c.requires.pattern
     c.in_ok-task.task is_task (state_of c.rounds.sum) (state_of c.draw.new.self) c.in-Some.place c.next.new.waiting.items c.rounds.invariant.0 c.in-Some.ensures c.in_ok-draw.ensures.grows in
     (round.0, c.in_ok-draw.ensures.side ∙ c.rounds.invariant.1)
 
@@ -72,8 +64,7 @@ weight_now-requires g c =
     let d = c.args.direction.now in
     let valid = c.semiring-semiring.ensures.valid in
     let sums = g.met.D.Direction.sums d p c.args.opening.now valid c.requires.automaton.fits in
-    let kept = kept_at g.S.Semiring.operations g.S.Semiring.laws g.D.Direction.tables g.D.Direction.fits_opening g.D.Direction.runs c.args.system.now valid c.args.direction.now c.args.opening.now c.args.transitions.now.transitions
-    c.args.graph.now.nodes c.requires.automaton sums c.args.pattern.now c.requires.pattern (state_of c.rounds.sum) c.rounds.invariant.0 in
+    let kept = kept_at g.S.Semiring.laws valid c.requires.automaton sums c.args.pattern.now c.requires.pattern (state_of c.rounds.sum) c.rounds.invariant.0 in
     (length c.rounds.sum.nodes.nodes, subst (λ m. AreKept (g.S.Semiring.operations m) c.rounds.sum.pairs.transitions (length c.rounds.sum.nodes.nodes)) (sym c.semiring-semiring.ensures.value) kept)
 
 pub list_answer-requires : goal.list_answer-requires
@@ -83,66 +74,16 @@ list_answer-requires g c =
     let valid = c.semiring-semiring.ensures.valid in
     let sums = g.met.D.Direction.sums d p c.args.opening.now valid c.requires.automaton.fits in (
       g.S.Semiring.operations p.semiring,
-      kept_at g.S.Semiring.operations g.S.Semiring.laws g.D.Direction.tables g.D.Direction.fits_opening g.D.Direction.runs c.args.system.now valid c.args.direction.now c.args.opening.now c.args.transitions.now.transitions
-          c.args.graph.now.nodes c.requires.automaton sums c.args.pattern.now c.requires.pattern (state_of c.rounds.sum) c.rounds.invariant.0,
+      kept_at g.S.Semiring.laws valid c.requires.automaton sums c.args.pattern.now c.requires.pattern (state_of c.rounds.sum) c.rounds.invariant.0,
     )
 
-pub returns-clause-answers : goal.returns-clause-answers
-returns-clause-answers g c =
+pub returns : goal.returns
+returns g c =
     let p = c.args.system.now in
     let d = c.args.direction.now in
     let valid = c.semiring-semiring.ensures.valid in
     let sums = g.met.D.Direction.sums d p c.args.opening.now valid c.requires.automaton.fits in
     let value = c.in_ok-value.ensures ∙ ap (λ m. weight_at (g.S.Semiring.operations m) answer_place c.rounds.sum.pairs.transitions) c.semiring-semiring.ensures.value in
     let listing = subst (λ sd. IsListingOf sd c.rounds.sum.nodes.nodes (entry_at answer_place c.rounds.sum.pairs.transitions) c.in_ok-listing.listing) (c.rounds.invariant.1 ∙ c.requires.side) c.in_ok-listing.ensures in
-    answer_answers g.S.Semiring.operations g.S.Semiring.laws g.D.Direction.tables g.D.Direction.fits_opening g.D.Direction.runs c.args.system.now valid c.args.direction.now c.args.opening.now c.args.transitions.now.transitions
-    c.args.graph.now.nodes c.requires.automaton sums c.args.pattern.now c.requires.pattern
-    (state_of c.rounds.sum) c.rounds.invariant.0 c.in_default.ensures (record { value = c.in_ok-value.value; listing = c.in_ok-listing.listing }) value listing
-
-pub returns-clause-none : goal.returns-clause-none
-returns-clause-none g c =
-    let p = c.args.system.now in
-    let d = c.args.direction.now in
-    let valid = c.semiring-semiring.ensures.valid in
-    let sums = g.met.D.Direction.sums d p c.args.opening.now valid c.requires.automaton.fits in
-    let value = c.in_ok-value.ensures ∙ ap (λ m. weight_at (g.S.Semiring.operations m) answer_place c.rounds.sum.pairs.transitions) c.semiring-semiring.ensures.value in
-    let listing = subst (λ sd. IsListingOf sd c.rounds.sum.nodes.nodes (entry_at answer_place c.rounds.sum.pairs.transitions) c.in_ok-listing.listing) (c.rounds.invariant.1 ∙ c.requires.side) c.in_ok-listing.ensures in
-    answer_none g.S.Semiring.operations g.S.Semiring.laws g.D.Direction.tables g.D.Direction.fits_opening g.D.Direction.runs c.args.system.now valid c.args.direction.now c.args.opening.now c.args.transitions.now.transitions
-    c.args.graph.now.nodes c.requires.automaton sums c.args.pattern.now c.requires.pattern
-    (state_of c.rounds.sum) c.rounds.invariant.0 c.in_default.ensures (record { value = c.in_ok-value.value; listing = c.in_ok-listing.listing }) value listing
-
-pub returns-clause-side : goal.returns-clause-side
-returns-clause-side g c =
-    let p = c.args.system.now in
-    let d = c.args.direction.now in
-    let valid = c.semiring-semiring.ensures.valid in
-    let sums = g.met.D.Direction.sums d p c.args.opening.now valid c.requires.automaton.fits in
-    let value = c.in_ok-value.ensures ∙ ap (λ m. weight_at (g.S.Semiring.operations m) answer_place c.rounds.sum.pairs.transitions) c.semiring-semiring.ensures.value in
-    let listing = subst (λ sd. IsListingOf sd c.rounds.sum.nodes.nodes (entry_at answer_place c.rounds.sum.pairs.transitions) c.in_ok-listing.listing) (c.rounds.invariant.1 ∙ c.requires.side) c.in_ok-listing.ensures in
-    answer_side g.S.Semiring.operations g.S.Semiring.laws g.D.Direction.tables g.D.Direction.fits_opening g.D.Direction.runs c.args.system.now valid c.args.direction.now c.args.opening.now c.args.transitions.now.transitions
-    c.args.graph.now.nodes c.requires.automaton sums c.args.pattern.now c.requires.pattern
-    (state_of c.rounds.sum) c.rounds.invariant.0 c.in_default.ensures (record { value = c.in_ok-value.value; listing = c.in_ok-listing.listing }) value listing
-
-pub returns-clause-tight : goal.returns-clause-tight
-returns-clause-tight g c =
-    let p = c.args.system.now in
-    let d = c.args.direction.now in
-    let valid = c.semiring-semiring.ensures.valid in
-    let sums = g.met.D.Direction.sums d p c.args.opening.now valid c.requires.automaton.fits in
-    let value = c.in_ok-value.ensures ∙ ap (λ m. weight_at (g.S.Semiring.operations m) answer_place c.rounds.sum.pairs.transitions) c.semiring-semiring.ensures.value in
-    let listing = subst (λ sd. IsListingOf sd c.rounds.sum.nodes.nodes (entry_at answer_place c.rounds.sum.pairs.transitions) c.in_ok-listing.listing) (c.rounds.invariant.1 ∙ c.requires.side) c.in_ok-listing.ensures in
-    answer_tight g.S.Semiring.operations g.S.Semiring.laws g.D.Direction.tables g.D.Direction.fits_opening g.D.Direction.runs c.args.system.now valid c.args.direction.now c.args.opening.now c.args.transitions.now.transitions
-    c.args.graph.now.nodes c.requires.automaton sums c.args.pattern.now c.requires.pattern
-    (state_of c.rounds.sum) c.rounds.invariant.0 c.in_default.ensures (record { value = c.in_ok-value.value; listing = c.in_ok-listing.listing }) value listing
-
-pub returns-clause-grown : goal.returns-clause-grown
-returns-clause-grown g c =
-    let p = c.args.system.now in
-    let d = c.args.direction.now in
-    let valid = c.semiring-semiring.ensures.valid in
-    let sums = g.met.D.Direction.sums d p c.args.opening.now valid c.requires.automaton.fits in
-    let value = c.in_ok-value.ensures ∙ ap (λ m. weight_at (g.S.Semiring.operations m) answer_place c.rounds.sum.pairs.transitions) c.semiring-semiring.ensures.value in
-    let listing = subst (λ sd. IsListingOf sd c.rounds.sum.nodes.nodes (entry_at answer_place c.rounds.sum.pairs.transitions) c.in_ok-listing.listing) (c.rounds.invariant.1 ∙ c.requires.side) c.in_ok-listing.ensures in
-    answer_grown g.S.Semiring.operations g.S.Semiring.laws g.D.Direction.tables g.D.Direction.fits_opening g.D.Direction.runs c.args.system.now valid c.args.direction.now c.args.opening.now c.args.transitions.now.transitions
-    c.args.graph.now.nodes c.requires.automaton sums c.args.pattern.now c.requires.pattern
+    answer_sums g.S.Semiring.laws valid c.requires.automaton sums c.args.pattern.now c.requires.pattern
     (state_of c.rounds.sum) c.rounds.invariant.0 c.in_default.ensures (record { value = c.in_ok-value.value; listing = c.in_ok-listing.listing }) value listing

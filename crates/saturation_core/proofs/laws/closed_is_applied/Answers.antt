@@ -2,4 +2,4 @@ use Rattle.saturation_core.proofs.Kept.{closed_applies}
 use Rattle.saturation_core.proofs.laws.closed_is_applied.Goals as goal
 
 pub returns : goal.returns
-returns g c = closed_applies g.S.Semiring.operations g.S.Semiring.laws g.D.Direction.tables g.D.Direction.fits_opening g.D.Direction.places g.D.Direction.runs g.met.D.Direction.laws
+returns g c = closed_applies g.S.Semiring.operations g.S.Semiring.laws g.D.Direction.way g.met.D.Direction.laws

@@ -2,4 +2,4 @@ use Rattle.saturation_core.proofs.Kept.{book_from}
 use Rattle.saturation_core.proofs.laws.every_order_keeps.Goals as goal
 
 pub returns : goal.returns
-returns g c = book_from g.S.Semiring.operations g.S.Semiring.laws g.D.Direction.tables g.D.Direction.fits_opening g.D.Direction.places g.D.Direction.runs g.met.D.Direction.laws
+returns g c = book_from g.S.Semiring.operations g.S.Semiring.laws g.D.Direction.way g.met.D.Direction.laws

@@ -2,7 +2,7 @@ use Rattle.saturation_core.proofs.Kept.{book_takes, book_nodes}
 use Rattle.saturation_core.proofs.laws.takes_are_bounded.Goals as goal
 
 pub returns-clause-takes : goal.returns-clause-takes
-returns-clause-takes g c = book_takes g.S.Semiring.operations g.S.Semiring.laws g.D.Direction.tables g.D.Direction.fits_opening g.D.Direction.places g.D.Direction.runs g.met.D.Direction.laws
+returns-clause-takes g c = book_takes g.S.Semiring.operations g.S.Semiring.laws g.D.Direction.way g.met.D.Direction.laws
 
 pub returns-clause-nodes : goal.returns-clause-nodes
-returns-clause-nodes g c = book_nodes g.S.Semiring.operations g.S.Semiring.laws g.D.Direction.tables g.D.Direction.fits_opening g.D.Direction.places g.D.Direction.runs g.met.D.Direction.laws
+returns-clause-nodes g c = book_nodes g.S.Semiring.operations g.S.Semiring.laws g.D.Direction.way g.met.D.Direction.laws

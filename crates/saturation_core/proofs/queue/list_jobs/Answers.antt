@@ -14,11 +14,11 @@ pub returns-in-Some : goal.returns-in-Some
 returns-in-Some g c =
     let there = indexed c.args.place c.args.transitions.now.transitions c.in-Some.k (sym c.find.ensures.index ∙ c.in-Some.is) in
     let s = g.S.Semiring.operations c.args.system.now.semiring in
-    let d = g.D.Direction.tables c.args.direction.now c.args.system.now in
+    let d = g.D.Direction.way.tables c.args.direction.now c.args.system.now in
     subst (λ o. IfOk c.jobs.result (λ js. js ≡ jobs_at s d o c.args.transitions.now.transitions)) (sym there.2) (c.jobs.ensures there.0 there.1)
 
 pub returns-in-None : goal.returns-in-None
 returns-in-None g c =
     let s = g.S.Semiring.operations c.args.system.now.semiring in
-    let d = g.D.Direction.tables c.args.direction.now c.args.system.now in
+    let d = g.D.Direction.way.tables c.args.direction.now c.args.system.now in
     c.new-in-None.ensures ∙ c.new.ensures.items ∙ ap (λ o. jobs_at s d o c.args.transitions.now.transitions) (sym (unindexed c.args.place c.args.transitions.now.transitions (sym c.find.ensures.index ∙ c.in-None.is)))

@@ -7,9 +7,9 @@ use Rattle.worker_pool.proofs.alone.turn.Goals as goal
 
 pub settle-requires-clause-holds : goal.settle-requires-clause-holds
 settle-requires-clause-holds g c =
-    let taken = subst (λ t. AnswersTake g.S.Semiring.operations g.D.Direction.tables c.args.book.now 0 t c.take.new.self) c.in-Hand.is c.in_ok-hand.ensures.taken in
+    let taken = subst (λ t. AnswersTake g.S.Semiring.operations g.D.Direction.way c.args.book.now 0 t c.take.new.self) c.in-Hand.is c.in_ok-hand.ensures.taken in
     let base = taken.1.2 in
-    can_settle g.S.Semiring.operations g.D.Direction.tables c.args.book.now c.take.new.self taken.0 taken.1 c.in-Ok.done
+    can_settle g.S.Semiring.operations g.D.Direction.way c.args.book.now c.take.new.self taken.0 taken.1 c.in-Ok.done
     (c.in-Ok.ensures.seat ∙ ap (λ h. h.seat) taken.2)
     (c.in-Ok.ensures.jobs ∙ ap (λ h. h.jobs) taken.2)
     (c.in-Ok.ensures.system ∙ c.requires.system ∙ sym (ap (λ b. b.system) base))
@@ -18,12 +18,12 @@ settle-requires-clause-holds g c =
     c.in-Ok.ensures.worked
 
 -- the turn that was made
-made : (g : _) (c : goal.In-Ok-settle g) → (x : Place) × Makes g.S.Semiring.operations g.D.Direction.tables c.args.book.now (Take 0 x) c.take.new.self
-    × Makes g.S.Semiring.operations g.D.Direction.tables c.take.new.self (Settle 0) c.settle.new.self
+made : (g : _) (c : goal.In-Ok-settle g) → (x : Place) × Makes g.S.Semiring.operations g.D.Direction.way c.args.book.now (Take 0 x) c.take.new.self
+    × Makes g.S.Semiring.operations g.D.Direction.way c.take.new.self (Settle 0) c.settle.new.self
 made g c =
-    let taken = subst (λ t. AnswersTake g.S.Semiring.operations g.D.Direction.tables c.args.book.now 0 t c.take.new.self) c.in-Hand.is c.in_ok-hand.ensures.taken in
+    let taken = subst (λ t. AnswersTake g.S.Semiring.operations g.D.Direction.way c.args.book.now 0 t c.take.new.self) c.in-Hand.is c.in_ok-hand.ensures.taken in
     let seat = c.in-Ok.ensures.seat ∙ ap (λ h. h.seat) taken.2 in
-    (taken.0, taken.1, subst (λ k. Makes g.S.Semiring.operations g.D.Direction.tables c.take.new.self (Settle k) c.settle.new.self) seat c.in-Ok-settle.ensures.settled)
+    (taken.0, taken.1, subst (λ k. Makes g.S.Semiring.operations g.D.Direction.way c.take.new.self (Settle k) c.settle.new.self) seat c.in-Ok-settle.ensures.settled)
 
 pub returns-clause-turned : goal.returns-clause-turned
 returns-clause-turned g c = let turn = made g c in (turn.0, c.take.new.self, turn.1, turn.2)
@@ -31,4 +31,4 @@ returns-clause-turned g c = let turn = made g c in (turn.0, c.take.new.self, tur
 pub returns-clause-free : goal.returns-clause-free
 returns-clause-free g c =
     let turn = made g c in
-    turned_free g.S.Semiring.operations g.D.Direction.tables c.args.book.now c.take.new.self c.settle.new.self turn.0 turn.1 turn.2 c.requires.free
+    turned_free g.S.Semiring.operations g.D.Direction.way c.args.book.now c.take.new.self c.settle.new.self turn.0 turn.1 turn.2 c.requires.free

@@ -6,10 +6,8 @@ use Rattle.wpds_app.proofs.answering.answer.Goals as goal
 
 pub returns : goal.returns
 returns g c =
-    let summed = c.in_ok-whole.ensures in
     let p = c.args.system.now in
     let s = g.S.Semiring.operations p.semiring in
     let made = c.made_shorter.ensures in
     sum_answers g.S.Semiring.operations c.args.from.now c.openings_read_members.ensures p c.args.to.now c.requires.to.control c.in_ok-book.book c.in_ok-book.ensures c.in_ok-whole.whole
-    (record { answers = summed.answers; unlisted = summed.none; side = summed.side; tight = summed.tight; grown = summed.grown })
-    (stays_tight s (value_of s p) Pre) c.made_shorter.result made.value made.shorter made.runs
+    c.in_ok-whole.ensures (stays_tight s (value_of s p) Pre) c.made_shorter.result made.value made.shorter made.runs

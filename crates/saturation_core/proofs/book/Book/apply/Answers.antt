@@ -13,55 +13,55 @@ use Rattle.saturation_core.proofs.book.Book.apply.Goals as goal
 
 pub plan_jobs-requires-clause-worths : goal.plan_jobs-requires-clause-worths
 plan_jobs-requires-clause-worths g c =
-    let r = ready g.S.Semiring.operations g.D.Direction.tables g.met.D.Direction.same_candidate (seen c.self.inside) c.args.self.now c.self.view_is c.args.done.now c.requires.holds c.requires.worked
+    let r = ready g.S.Semiring.operations g.D.Direction.way g.met.D.Direction.same_candidate (seen c.self.inside) c.args.self.now c.self.view_is c.args.done.now c.requires.holds c.requires.worked
     c.seat-seat.result c.as_slice-jobs.result.now c.as_slice-worths.result.now c.seat-seat.ensures (c.as_slice-jobs.ensures ∙ c.jobs.ensures.value) (c.as_slice-worths.ensures ∙ c.candidates.ensures) in
     subst (λ z. All (Fits (g.S.Semiring.operations z)) c.as_slice-worths.result.now) (sym c.semiring-semiring.ensures.value)
-    (worths_fit g.S.Semiring.operations g.S.Semiring.laws g.D.Direction.tables g.D.Direction.fits_opening g.D.Direction.places g.D.Direction.runs g.met.D.Direction.laws
+    (worths_fit g.S.Semiring.operations g.S.Semiring.laws g.D.Direction.way g.met.D.Direction.laws
     (seen c.self.inside) c.self.invariant.0 c.seat-seat.result c.as_slice-jobs.result.now r.out c.as_slice-worths.result.now r.worths)
 
 pub plan_jobs-requires-clause-len : goal.plan_jobs-requires-clause-len
 plan_jobs-requires-clause-len g c =
-    let r = ready g.S.Semiring.operations g.D.Direction.tables g.met.D.Direction.same_candidate (seen c.self.inside) c.args.self.now c.self.view_is c.args.done.now c.requires.holds c.requires.worked
+    let r = ready g.S.Semiring.operations g.D.Direction.way g.met.D.Direction.same_candidate (seen c.self.inside) c.args.self.now c.self.view_is c.args.done.now c.requires.holds c.requires.worked
     c.seat-seat.result c.as_slice-jobs.result.now c.as_slice-worths.result.now c.seat-seat.ensures (c.as_slice-jobs.ensures ∙ c.jobs.ensures.value) (c.as_slice-worths.ensures ∙ c.candidates.ensures) in
-    worths_long g.S.Semiring.operations g.S.Semiring.laws g.D.Direction.tables g.D.Direction.fits_opening g.D.Direction.places g.D.Direction.runs g.met.D.Direction.laws
+    worths_long g.S.Semiring.operations g.S.Semiring.laws g.D.Direction.way g.met.D.Direction.laws
     (seen c.self.inside) c.self.invariant.0 c.seat-seat.result c.as_slice-jobs.result.now r.out c.as_slice-worths.result.now r.worths
 
 pub plan_jobs-requires-clause-kept : goal.plan_jobs-requires-clause-kept
 plan_jobs-requires-clause-kept g c =
-    let kept = book_keeps g.S.Semiring.operations g.S.Semiring.laws g.D.Direction.tables g.D.Direction.fits_opening g.D.Direction.places g.D.Direction.runs g.met.D.Direction.laws (seen c.self.inside) c.self.invariant.0 in
+    let kept = book_keeps g.S.Semiring.operations g.S.Semiring.laws g.D.Direction.way g.met.D.Direction.laws (seen c.self.inside) c.self.invariant.0 in
     let ts = c.self.inside.transitions.transitions in
     subst (λ z. AreKept (g.S.Semiring.operations z) ts c.len-nodes.result) (sym c.semiring-semiring.ensures.value)
     (subst (AreKept (g.S.Semiring.operations c.self.inside.system.now.semiring) ts) (sym c.len-nodes.ensures.len) kept)
 
 pub lower_all-requires-clause-nodes : goal.lower_all-requires-clause-nodes
 lower_all-requires-clause-nodes g c =
-    let r = ready g.S.Semiring.operations g.D.Direction.tables g.met.D.Direction.same_candidate (seen c.self.inside) c.args.self.now c.self.view_is c.args.done.now c.requires.holds c.requires.worked
+    let r = ready g.S.Semiring.operations g.D.Direction.way g.met.D.Direction.same_candidate (seen c.self.inside) c.args.self.now c.self.view_is c.args.done.now c.requires.holds c.requires.worked
     c.seat-seat.result c.as_slice-jobs.result.now c.as_slice-worths.result.now c.seat-seat.ensures (c.as_slice-jobs.ensures ∙ c.jobs.ensures.value) (c.as_slice-worths.ensures ∙ c.candidates.ensures) in
-    let planned = planned_is g.S.Semiring.operations g.D.Direction.tables c.self.inside.system.now.semiring c.semiring-semiring.result.now (changes_with c.as_slice-jobs.result.now c.as_slice-worths.result.now) c.len-nodes.result
+    let planned = planned_is g.S.Semiring.operations g.D.Direction.way c.self.inside.system.now.semiring c.semiring-semiring.result.now (changes_with c.as_slice-jobs.result.now c.as_slice-worths.result.now) c.len-nodes.result
     c.self.inside.transitions.transitions c.in_ok-plan.plan.items c.in_ok-plan.ensures c.semiring-semiring.ensures.value in
     subst (λ ns. AreNodesFrom (length ns) c.in_ok-plan.plan.items) (sym c.make_room.ensures.nodes)
-    (nodes_next g.S.Semiring.operations g.S.Semiring.laws g.D.Direction.tables g.D.Direction.fits_opening g.D.Direction.places g.D.Direction.runs g.met.D.Direction.laws
+    (nodes_next g.S.Semiring.operations g.S.Semiring.laws g.D.Direction.way g.met.D.Direction.laws
     (seen c.self.inside) c.self.invariant.0 c.seat-seat.result c.as_slice-jobs.result.now r.out c.as_slice-worths.result.now r.worths
     c.len-nodes.result c.in_ok-plan.plan.items c.len-nodes.ensures.len planned)
 
 pub push_reserved-requires : goal.push_reserved-requires
 push_reserved-requires g c =
-    let r = ready g.S.Semiring.operations g.D.Direction.tables g.met.D.Direction.same_candidate (seen c.self.inside) c.args.self.now c.self.view_is c.args.done.now c.requires.holds c.requires.worked
+    let r = ready g.S.Semiring.operations g.D.Direction.way g.met.D.Direction.same_candidate (seen c.self.inside) c.args.self.now c.self.view_is c.args.done.now c.requires.holds c.requires.worked
     c.seat-seat.result c.as_slice-jobs.result.now c.as_slice-worths.result.now c.seat-seat.ensures (c.as_slice-jobs.ensures ∙ c.jobs.ensures.value) (c.as_slice-worths.ensures ∙ c.candidates.ensures) in
     omega (arith, one_out c.self.inside.out.items c.seat-seat.result c.as_slice-jobs.result.now r.out, c.self.invariant.1.journal)
 
-made : (g : _) (c : goal.After-put g) → Makes g.S.Semiring.operations g.D.Direction.tables (seen c.self.inside) (Settle c.seat-seat.result)
+made : (g : _) (c : goal.After-put g) → Makes g.S.Semiring.operations g.D.Direction.way (seen c.self.inside) (Settle c.seat-seat.result)
     (record (seen c.self.inside) {
       state = state_with c.lower_all.new.transitions.transitions c.lower_all.new.graph.nodes c.lower_all.new.waiting.items c.put.new.out.items;
       journal = c.push_reserved.new.self.items;
     })
 made g c =
-    let r = ready g.S.Semiring.operations g.D.Direction.tables g.met.D.Direction.same_candidate (seen c.self.inside) c.args.self.now c.self.view_is c.args.done.now c.requires.holds c.requires.worked
+    let r = ready g.S.Semiring.operations g.D.Direction.way g.met.D.Direction.same_candidate (seen c.self.inside) c.args.self.now c.self.view_is c.args.done.now c.requires.holds c.requires.worked
     c.seat-seat.result c.as_slice-jobs.result.now c.as_slice-worths.result.now c.seat-seat.ensures (c.as_slice-jobs.ensures ∙ c.jobs.ensures.value) (c.as_slice-worths.ensures ∙ c.candidates.ensures) in
-    let planned = planned_is g.S.Semiring.operations g.D.Direction.tables c.self.inside.system.now.semiring c.semiring-semiring.result.now (changes_with c.as_slice-jobs.result.now c.as_slice-worths.result.now) c.len-nodes.result
+    let planned = planned_is g.S.Semiring.operations g.D.Direction.way c.self.inside.system.now.semiring c.semiring-semiring.result.now (changes_with c.as_slice-jobs.result.now c.as_slice-worths.result.now) c.len-nodes.result
     c.self.inside.transitions.transitions c.in_ok-plan.plan.items c.in_ok-plan.ensures c.semiring-semiring.ensures.value in
     let b = seen c.self.inside in
-    settled g.S.Semiring.operations g.D.Direction.tables b c.seat-seat.result c.as_slice-jobs.result.now c.as_slice-worths.result.now c.len-nodes.result c.in_ok-plan.plan.items
+    settled g.S.Semiring.operations g.D.Direction.way b c.seat-seat.result c.as_slice-jobs.result.now c.as_slice-worths.result.now c.len-nodes.result c.in_ok-plan.plan.items
     r.out r.worths c.len-nodes.ensures.len planned
     c.lower_all.new.transitions.transitions c.lower_all.new.graph.nodes c.lower_all.new.waiting.items c.put.new.out.items c.push_reserved.new.self.items
     (put_on _ c.in_ok-plan.plan.items b.state _ _ _ (c.lower_all.ensures.state c.self.inside.out.items) c.make_room.ensures.transitions c.make_room.ensures.nodes c.make_room.ensures.items)
@@ -69,13 +69,13 @@ made g c =
 
 pub invariant_of-self-2 : goal.invariant_of-self-2
 invariant_of-self-2 g c =
-    let r = ready g.S.Semiring.operations g.D.Direction.tables g.met.D.Direction.same_candidate (seen c.self.inside) c.args.self.now c.self.view_is c.args.done.now c.requires.holds c.requires.worked
+    let r = ready g.S.Semiring.operations g.D.Direction.way g.met.D.Direction.same_candidate (seen c.self.inside) c.args.self.now c.self.view_is c.args.done.now c.requires.holds c.requires.worked
     c.seat-seat.result c.as_slice-jobs.result.now c.as_slice-worths.result.now c.seat-seat.ensures (c.as_slice-jobs.ensures ∙ c.jobs.ensures.value) (c.as_slice-worths.ensures ∙ c.candidates.ensures) in
     let seats : length c.self.inside.out.items ≡ 64 = c.self.invariant.0.lock.shape.seats in
     let one = one_out c.self.inside.out.items c.seat-seat.result c.as_slice-jobs.result.now r.out in
     let now = ap hands_out c.put.ensures in
     let few = hands_out-seats c.self.inside.out.items c.put.new.out.items c.seat-seat.result _ c.put.ensures in (
-      event_keeps g.S.Semiring.operations g.S.Semiring.laws g.D.Direction.tables g.D.Direction.fits_opening g.D.Direction.places g.D.Direction.runs g.met.D.Direction.laws
+      event_keeps g.S.Semiring.operations g.S.Semiring.laws g.D.Direction.way g.met.D.Direction.laws
           (seen c.self.inside) c.self.invariant.0 (Settle c.seat-seat.result) _ (made g c),
       record {
         journal = omega (arith, one, now, c.self.invariant.1.journal, c.push_reserved.ensures.len, c.push_reserved.ensures.capacity);
@@ -90,13 +90,13 @@ returns-clause-settled g c =
       state = state_with c.lower_all.new.transitions.transitions c.lower_all.new.graph.nodes c.lower_all.new.waiting.items c.put.new.out.items;
       journal = c.push_reserved.new.self.items;
     } in
-    subst (λ k. Makes g.S.Semiring.operations g.D.Direction.tables c.args.self.now (Settle k) new) c.seat-seat.ensures
-    (subst (λ b. Makes g.S.Semiring.operations g.D.Direction.tables b (Settle c.seat-seat.result) new) c.self.view_is (made g c))
+    subst (λ k. Makes g.S.Semiring.operations g.D.Direction.way c.args.self.now (Settle k) new) c.seat-seat.ensures
+    (subst (λ b. Makes g.S.Semiring.operations g.D.Direction.way b (Settle c.seat-seat.result) new) c.self.view_is (made g c))
 
 pub returns-clause-count : goal.returns-clause-count
 returns-clause-count g c =
     let b = seen c.self.inside in
     let was : length c.args.self.now.state.nodes ≡ length b.state.nodes = ap (λ v. length v.state.nodes) (sym c.self.view_is) in
-    let all = settled_nodes g.S.Semiring.operations g.D.Direction.tables b c.in_ok-plan.plan.items c.lower_all.new.transitions.transitions c.lower_all.new.graph.nodes c.lower_all.new.waiting.items
+    let all = settled_nodes g.S.Semiring.operations g.D.Direction.way b c.in_ok-plan.plan.items c.lower_all.new.transitions.transitions c.lower_all.new.graph.nodes c.lower_all.new.waiting.items
     (put_on _ c.in_ok-plan.plan.items b.state _ _ _ (c.lower_all.ensures.state c.self.inside.out.items) c.make_room.ensures.transitions c.make_room.ensures.nodes c.make_room.ensures.items) in
     omega (arith, was, all)

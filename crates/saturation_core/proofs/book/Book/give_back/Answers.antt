@@ -15,9 +15,9 @@ enqueue-requires g c = omega (arith, hands_out-read c.self.inside.out.items c.ar
 pub push_reserved-requires : goal.push_reserved-requires
 push_reserved-requires g c = omega (arith, hands_out-read c.self.inside.out.items c.args.seat c.in-Some.place (ap (λ hands. option_map (λ h. h.place) (hand_at c.args.seat hands)) (sym c.deref.ensures.value) ∙ sym c.place_out.ensures ∙ c.in-Some.is), c.self.invariant.1.journal)
 
-made : (g : _) (c : goal.After-put g) → Makes g.S.Semiring.operations g.D.Direction.tables (seen c.self.inside) (GiveBack c.args.seat)
+made : (g : _) (c : goal.After-put g) → Makes g.S.Semiring.operations g.D.Direction.way (seen c.self.inside) (GiveBack c.args.seat)
     (after (seen c.self.inside) c.enqueue.new.queue.items c.put.new.out.items c.push_reserved.new.self.items)
-made g c = given g.S.Semiring.operations g.D.Direction.tables (seen c.self.inside) c.args.seat c.in-Some.place
+made g c = given g.S.Semiring.operations g.D.Direction.way (seen c.self.inside) c.args.seat c.in-Some.place
     c.enqueue.new.queue.items c.put.new.out.items c.push_reserved.new.self.items
     (ap (λ hands. option_map (λ h. h.place) (hand_at c.args.seat hands)) (sym c.deref.ensures.value) ∙ sym c.place_out.ensures ∙ c.in-Some.is)
     c.enqueue.ensures.items
@@ -26,7 +26,7 @@ made g c = given g.S.Semiring.operations g.D.Direction.tables (seen c.self.insid
 
 pub invariant_of-self : goal.invariant_of-self
 invariant_of-self g c = (
-  event_keeps g.S.Semiring.operations g.S.Semiring.laws g.D.Direction.tables g.D.Direction.fits_opening g.D.Direction.places g.D.Direction.runs g.met.D.Direction.laws
+  event_keeps g.S.Semiring.operations g.S.Semiring.laws g.D.Direction.way g.met.D.Direction.laws
       (seen c.self.inside) c.self.invariant.0 (GiveBack c.args.seat) _ (made g c),
   let one = hands_out-read c.self.inside.out.items c.args.seat c.in-Some.place (ap (λ hands. option_map (λ h. h.place) (hand_at c.args.seat hands)) (sym c.deref.ensures.value) ∙ sym c.place_out.ensures ∙ c.in-Some.is) in
       let now = ap hands_out c.put.ensures in
@@ -39,5 +39,5 @@ invariant_of-self g c = (
 
 pub returns-in-Some : goal.returns-in-Some
 returns-in-Some g c =
-    subst (λ b. Makes g.S.Semiring.operations g.D.Direction.tables b (GiveBack c.args.seat)
+    subst (λ b. Makes g.S.Semiring.operations g.D.Direction.way b (GiveBack c.args.seat)
     (after (seen c.self.inside) c.enqueue.new.queue.items c.put.new.out.items c.push_reserved.new.self.items)) c.self.view_is (made g c)

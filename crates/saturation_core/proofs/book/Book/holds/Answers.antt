@@ -11,7 +11,7 @@ pub lists-requires-clause-out : goal.lists-requires-clause-out
 lists-requires-clause-out g c =
     subst (λ z. IfSome (jobs_out c.seat.result c.deref.result.now) (All (InputsFit (g.S.Semiring.operations z)))) (sym c.semiring-3.ensures.value)
     (subst (λ hs. IfSome (jobs_out c.seat.result hs) (All (InputsFit (g.S.Semiring.operations c.self.inside.system.now.semiring)))) (sym c.deref.ensures.value)
-    (out_fits g.S.Semiring.operations g.S.Semiring.laws g.D.Direction.tables g.D.Direction.fits_opening g.D.Direction.places g.D.Direction.runs g.met.D.Direction.laws (seen c.self.inside) c.self.invariant.0 c.seat.result))
+    (out_fits g.S.Semiring.operations g.S.Semiring.laws g.D.Direction.way g.met.D.Direction.laws (seen c.self.inside) c.self.invariant.0 c.seat.result))
 
 pub lists-requires-clause-jobs : goal.lists-requires-clause-jobs
 lists-requires-clause-jobs g c =
@@ -26,9 +26,9 @@ returns g c =
     let w = c.args.done.now in
     let one : b.system.semiring ≡ w.system.semiring =
     sym c.semiring.ensures.value ∙ c.same_kind.ensures.0 c.if-not-same_kind.false ∙ c.semiring-2.ensures.value ∙ ap (λ p. p.semiring) c.system-other.ensures in
-    let side : w.side ≡ (g.D.Direction.tables b.direction b.system).side =
+    let side : w.side ≡ (g.D.Direction.way.tables b.direction b.system).side =
     sym c.side-2.ensures ∙ sym (c.same_side.ensures.0 c.if-not-same_side.false) ∙ sym (c.side.ensures b.system) in
     let rules = subst (λ q. All (AgreeOn b.system q) c.as_slice-jobs.result.now) c.system-other.ensures (c.agree.ensures.0 c.if-not-agree.false) in
-    subst (λ x. IsTrue c.lists.result ↔ CanSettle g.D.Direction.tables x w) c.self.view_is
-    (decides g.D.Direction.tables b w c.seat.result c.deref.result.now c.as_slice-jobs.result.now c.seat.ensures c.deref.ensures.value (c.as_slice-jobs.ensures ∙ c.jobs.ensures.value)
+    subst (λ x. IsTrue c.lists.result ↔ CanSettle g.D.Direction.way x w) c.self.view_is
+    (decides g.D.Direction.way b w c.seat.result c.deref.result.now c.as_slice-jobs.result.now c.seat.ensures c.deref.ensures.value (c.as_slice-jobs.ensures ∙ c.jobs.ensures.value)
     side one rules c.lists.result c.lists.ensures)

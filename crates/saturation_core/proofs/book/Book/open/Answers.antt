@@ -5,10 +5,10 @@ use Rattle.saturation_core.proofs.book.Book.open.Goals as goal
 
 opened : (g : _) (c : goal.After-new g)
     → state_of c.transitions-2.inside.entries.items c.graph-2.inside.nodes.items c.add_pops_of.new.waiting.items c.in_ok-no_hands.field-0.items
-    ≡ opening_state (g.S.Semiring.operations c.args.system.now.semiring) (g.D.Direction.tables c.args.direction c.args.system.now).side c.args.system.now c.args.opening.edges
+    ≡ opening_state (g.S.Semiring.operations c.args.system.now.semiring) (g.D.Direction.way.tables c.args.direction c.args.system.now).side c.args.system.now c.args.opening.edges
 opened g c =
     filled (g.S.Semiring.operations c.args.system.now.semiring) (g.S.Semiring.operations c.semiring-semiring.result.now) c.args.system.now
-    c.args.opening.edges c.as_slice-edges.result.now c.side-side.result (g.D.Direction.tables c.args.direction c.args.system.now).side
+    c.args.opening.edges c.as_slice-edges.result.now c.side-side.result (g.D.Direction.way.tables c.args.direction c.args.system.now).side
     _ _ _ _ _ _ _ _ _ _ _
     (ap g.S.Semiring.operations c.semiring-semiring.ensures.value) c.as_slice-edges.ensures (c.side-side.ensures c.args.system.now)
     (ap (λ t. t.transitions) c.new-transitions.ensures) c.in_ok-graph.ensures.nodes c.new-waiting.ensures.items
@@ -17,7 +17,7 @@ opened g c =
 
 pub invariant_of-result-3 : goal.invariant_of-result-3
 invariant_of-result-3 g c = (
-  begun g.S.Semiring.operations g.S.Semiring.laws g.D.Direction.tables g.D.Direction.fits_opening g.D.Direction.places g.D.Direction.runs g.met.D.Direction.laws
+  begun g.S.Semiring.operations g.S.Semiring.laws g.D.Direction.way g.met.D.Direction.laws
       _ c.semiring-semiring.ensures.valid c.requires (opened g c) c.new.ensures.items,
   let none = no_hand_out c.in_ok-no_hands.field-0.items c.in_ok-no_hands.ensures in
       record {
