@@ -1,5 +1,4 @@
 mod OfReplies
 mod OfWords
-mod OfAnswers
 mod OfReports
 mod OfReporting

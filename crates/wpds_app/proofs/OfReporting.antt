@@ -9,7 +9,7 @@ use Rattle.system_text.specs.declared.document.WeightText.{WeightText}
 use Rattle.system_text.specs.declared.document.WeightsLine.{WeightsLine}
 use Rattle.document_systems.specs.Systems.{system_of, pattern_of}
 use Rattle.path_sum.specs.declared.answer.Answer.{Answer}
-use Rattle.wpds_app.specs.Answering.{IsAnswer}
+use Rattle.query_answers.specs.Answering.{IsAnswer}
 use Rattle.wpds_app.specs.Reports.{query_text, IsReported, IsReportBy, IsReport}
 
 -- an answer stays one where the system and the patterns are equal

@@ -15,7 +15,7 @@ use Rattle.document_systems.specs.Weights.{reach_weight, reach_text, cost_weight
 use Rattle.document_systems.specs.Systems.{system_of, configuration_of, pattern_of}
 use Rattle.report_text.specs.Listings.{query_line, listing_text}
 use Rattle.path_sum.specs.declared.answer.Answer.{Answer}
-use Rattle.wpds_app.specs.Answering.{IsAnswer}
+use Rattle.query_answers.specs.Answering.{IsAnswer}
 
 abbrev pub shown : Option Listing → List ℕ
 shown None = []

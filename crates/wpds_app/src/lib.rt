@@ -1,7 +1,6 @@
 //! The top call: from the bytes that are read to the bytes that are written.
 #![tactic(auto)]
 
-mod answering;
 mod laws;
 mod program;
 mod reply;

@@ -3,10 +3,10 @@ ghost use Rattle.std.specs.String.{string_bytes};
 ghost use Rattle.document_systems.specs.Systems.{HasSystem};
 ghost use Rattle.wpds_app.specs.Reports.{query_text, IsReported, IsReport};
 
-use crate::answering::answer;
 use cost_weights::Cost;
 use document_systems::{DocumentWeights, pattern_from, system_from};
 use path_sum::Answer;
+use query_answers::answer;
 use report_text::{listing_text, query_line};
 use semiring_laws::Reach;
 use std::alloc::Global;

@@ -24,7 +24,7 @@ use Rattle.path_sum.specs.declared.answer.Answer.{Answer}
 use Rattle.path_sum.specs.Answers.{listed_runs}
 use Rattle.path_sum.specs.Results.{IsSumOver, IsSumOf}
 use Rattle.backward_laws.specs.Ways.{pre_way}
-use Rattle.wpds_app.specs.Answering.{IsSaturatedFor, IsShorter, IsAnswer}
+use Rattle.query_answers.specs.Answering.{IsSaturatedFor, IsShorter, IsAnswer}
 
 -- what the law on openings says
 abbrev pub OpeningsReadMembers : Type 0

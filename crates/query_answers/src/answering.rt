@@ -1,7 +1,7 @@
 ghost use Rattle.std.specs.Prelude.{◌≡◌, ◌<◌, IfOk};
 ghost use Rattle.pattern_openings.specs.PatternOpenings.{IsOver};
 ghost use Rattle.path_sum.specs.Answers.{listed_runs};
-ghost use Rattle.wpds_app.specs.Answering.{IsSaturatedFor, IsShorter, IsAnswer};
+ghost use Rattle.query_answers.specs.Answering.{IsSaturatedFor, IsShorter, IsAnswer};
 
 use config_patterns::Pattern;
 use path_sum::{Answer, sum};
@@ -56,7 +56,7 @@ fn made_shorter<S: Semiring>(alloc: Global, answer: Answer<S>) -> Result<Answer<
 
 /// The answer to the query for runs from a pattern to a pattern: backwards from the second, by one worker, and then the
 /// sum over the paths that read the first, with a listing that is made shorter.
-pub(crate) fn answer<S: Semiring>(
+pub fn answer<S: Semiring>(
     alloc: Global,
     system: &System<S>,
     from: &Pattern,

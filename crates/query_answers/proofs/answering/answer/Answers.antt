@@ -1,8 +1,8 @@
 use Rattle.short_listings.proofs.OfTight.{stays_tight}
 use Rattle.pushdown_rules.specs.Values.{value_of}
 use Rattle.witness_graph.specs.declared.node.Side.TheVariants.{Pre}
-use Rattle.wpds_app.proofs.OfAnswers.{sum_answers}
-use Rattle.wpds_app.proofs.answering.answer.Goals as goal
+use Rattle.query_answers.proofs.OfAnswers.{sum_answers}
+use Rattle.query_answers.proofs.answering.answer.Goals as goal
 
 pub returns : goal.returns
 returns g c =
