@@ -1,2 +1,3 @@
 pub mod Weights
 pub mod Systems
+pub mod WeightLaws

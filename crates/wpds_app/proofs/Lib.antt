@@ -2,3 +2,4 @@ mod OfReplies
 mod OfWords
 mod OfReports
 mod OfReporting
+pub mod OfQueries

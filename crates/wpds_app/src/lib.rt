@@ -8,7 +8,7 @@ mod report;
 mod status;
 mod words;
 
-pub use laws::reports_tell_reachability;
+pub use laws::{costs_are_the_cheapest, reports_tell_reachability, unreachable_where_infeasible};
 pub use program::run;
 pub use status::Status;
 

@@ -2,6 +2,7 @@ ghost use Rattle.std.specs.Prelude.{◌≡◌, ◌≢◌, ◌↔◌, ℕ, List, 
 ghost use Rattle.std.specs.String.{string_bytes};
 ghost use Rattle.std.specs.Io.KnownBytes.{Appends};
 ghost use Rattle.wpds_port.specs.Causes.{Rose};
+ghost use Rattle.wpds_port.specs.Reading.{ConsumesPart};
 ghost use Rattle.wpds_port.specs.Writing.{AppendsPart};
 ghost use Rattle.wpds_app.specs.Running.{Replies, IsCutShort, IsDecided, IsDecidedBy};
 ghost use Rattle.wpds_app.specs.Commands.{IsCommand, usage_text};
@@ -55,6 +56,9 @@ pub fn run<R: Source, W: Sink>(
     ensures words_accepted { result ≢ Status.WordsRefused → result ≢ Status.WriteFault → IsCommand (map string_bytes words.now) }
     ensures usage { result ≡ Status.WordsRefused → Appends (W.written sink.old) (W.written sink.new) usage_text }
     ensures unread { (IsCommand (map string_bytes words.now) → ⊥) → R.left source.new ≡ R.left source.old }
+
+    // Of what was left at most its first 4,194,305 bytes are read, whatever comes of it.
+    ensures read_at_most { ConsumesPart (R.left source.old) (R.left source.new) 4194305 }
 
     // A fault comes only where its side failed in this call.
     ensures read_fault { result ≡ Status.ReadFault → Rose (R.faults source.old) (R.faults source.new) }

@@ -1,6 +1,7 @@
 ghost use Rattle.std.specs.Prelude.{◌≡◌, ◌≤◌, ◌++◌, ◌∷◌, [], length, IfOk, IsErrOf};
 ghost use Rattle.std.specs.String.{string_bytes};
 ghost use Rattle.wpds_port.specs.Causes.{Rose};
+ghost use Rattle.wpds_port.specs.Reading.{ConsumesPart};
 ghost use Rattle.wpds_port.specs.Refusals.{refusal_text};
 ghost use Rattle.wpds_app.specs.Running.{HasReply, IsReply};
 
@@ -60,6 +61,7 @@ pub(crate) fn read_and_reply<R: Source>(
 ) -> Result<Reply, InputFault>
     ensures reply { IfOk result (λ r. HasReply (R.left source.old) (R.left source.new) brief r.status (string_bytes r.text)) }
     ensures fault { IsErrOf result InputFault.Read → Rose (R.faults source.old) (R.faults source.new) }
+    ensures read_at_most { ConsumesPart (R.left source.old) (R.left source.new) 4194305 }
 {
     let input = read_up_to(alloc, source, MOST_BYTES + 1)?;
     Ok(reply_to(alloc, &input, brief)?)
