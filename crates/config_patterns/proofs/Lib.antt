@@ -1,10 +1,11 @@
-pub mod OfTests
-pub mod OfMembers
-pub mod OfPaths
-pub mod OfPlaces
-pub mod OfCounts
-pub mod OfItems
-pub mod OfSets
-pub mod OfSkips
-pub mod OfOnce
-pub mod Rows
+mod SetTestLemmas
+mod MemberLemmas
+mod PathLemmas
+mod PlaceLemmas
+mod CountLemmas
+mod ItemLemmas
+mod SetLemmas
+mod SkipLemmas
+mod OnceLemmas
+mod Examples
+pub mod CallerLemmas

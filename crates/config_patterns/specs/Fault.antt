@@ -1,14 +1,14 @@
 -- Which items are refused.
 use Rattle.std.specs.Prelude.{ℕ, Bool, nat_le, nat_lt, List, [], ◌∷◌, ◌++◌, length, Option, None, Some, Result, Ok, Err, ◌<◌, ◌≤◌, All}
 use Rattle.std.specs.List.{list_any}
-use Rattle.wpds_port.specs.Faults.{first_fault}
+use Rattle.wpds_base.specs.Faults.{first_fault}
 use Rattle.config_patterns.specs.declared.pattern.PatternFault.{PatternFault}
 use Rattle.config_patterns.specs.declared.pattern.PatternFault.TheVariants.{NoSymbol, TooManyItems, TooManyEdges, Memory}
-use Rattle.config_patterns.specs.Membership.{Described}
+use Rattle.config_patterns.specs.Membership.{PatternValue}
 use Rattle.config_patterns.specs.Edges.{edges_of}
 
 -- The refusals of an item, in the order in which they count.
-abbrev pub item_fault : Described → List ℕ → Bool → Option PatternFault
+abbrev pub item_fault : PatternValue → List ℕ → Bool → Option PatternFault
 item_fault p set star = first_fault (
     (list_any (λ g. nat_le p.symbols g) set, NoSymbol)
     ∷ (nat_le 1000 (length p.items), TooManyItems)
@@ -24,7 +24,7 @@ refusal_of (Err TooManyItems) = Some TooManyItems
 refusal_of (Err TooManyEdges) = Some TooManyEdges
 
 -- what holds of an item that is not refused
-pub record IsAccepted (p : Described) (symbols_of : List ℕ) (starred : Bool) : Type 0 where
+pub record IsAccepted (p : PatternValue) (symbols_of : List ℕ) (starred : Bool) : Type 0 where
   pub below : All (λ g. g < p.symbols) symbols_of
   pub few_items : length p.items < 1000
   pub few_edges : length (edges_of (p.items ++ record { set = symbols_of; star = starred } ∷ [])) ≤ 1000000

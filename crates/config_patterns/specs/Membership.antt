@@ -5,7 +5,7 @@ use Rattle.pushdown_rules.specs.Configuration.{Configuration}
 use Rattle.config_patterns.specs.declared.item.Item.{Item}
 
 -- A control, and the items that a stack is to match. Their symbols are below a count.
-pub record Described : Type 0 where
+pub record PatternValue : Type 0 where
   pub control : ℕ
   pub symbols : ℕ
   pub items : List Item
@@ -38,5 +38,5 @@ items_match [] stack = is_bare stack
 items_match (x ∷ xs) stack = item_matches x (items_match xs) stack
 
 -- the configuration is a member of the pattern
-abbrev pub has_member : Described → Configuration → Bool
+abbrev pub has_member : PatternValue → Configuration → Bool
 has_member p c = nat_eq c.control p.control && items_match p.items c.stack

@@ -1,17 +1,9 @@
 -- Paths along edges, and what they read.
 use Rattle.std.specs.Prelude.{◌≡◌, ◌⊎◌, ℕ, suc, ◌+◌, drop, List, [], ◌∷◌, IsTrue}
+use Rattle.wpds_base.specs.Lists.{IsIn}
 use Rattle.config_patterns.specs.declared.item.Item.{Item}
 use Rattle.config_patterns.specs.declared.edge.Edge.{Edge}
 use Rattle.config_patterns.specs.Edges.{edges_of, is_final_of, leads_to, stays_on}
-
-abbrev pub IsIn : Edge → List Edge → Type 0
-IsIn e [] = ⊥
-IsIn e (d ∷ ds) = (d ≡ e) ⊎ IsIn e ds
-
--- no edge stands twice
-abbrev pub IsOnce : List Edge → Type 0
-IsOnce [] = Unit {0}
-IsOnce (e ∷ es) = (IsIn e es → ⊥) × IsOnce es
 
 -- a path of edges leads from a state over the symbols to a state
 abbrev pub Reads : List Edge → ℕ → List ℕ → ℕ → Type 0

@@ -1,7 +1,7 @@
 -- What holds of each pattern.
 use Rattle.std.specs.Prelude.{◌≡◌, ℕ, ◌<◌, ◌≤◌, Bool, true, ◌&&◌, not, List, [], ◌∷◌, length, All, IsTrue, Option, None, Some}
 use Rattle.config_patterns.specs.declared.item.Item.{Item}
-use Rattle.config_patterns.specs.Membership.{Described, has_symbol}
+use Rattle.config_patterns.specs.Membership.{PatternValue, has_symbol}
 use Rattle.config_patterns.specs.Edges.{edges_of, finals_of}
 
 -- no symbol stands twice
@@ -15,7 +15,7 @@ pub record IsItem (symbols : ℕ) (x : Item) : Type 0 where
   pub distinct : IsTrue (is_set x.set)
 
 -- A pattern within the limits.
-pub record IsPattern (p : Described) : Type 0 where
+pub record IsPattern (p : PatternValue) : Type 0 where
   pub few_items : length p.items ≤ 1000
   pub few_edges : length (edges_of p.items) ≤ 1000000
   pub items : All (IsItem p.symbols) p.items

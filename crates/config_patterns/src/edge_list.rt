@@ -3,7 +3,7 @@ ghost use Rattle.config_patterns.specs.Edges.{edges_into, edges_on, edges_back, 
 
 use crate::{Edge, Item};
 use std::alloc::Global;
-use wpds_port::OutOfMemory;
+use wpds_base::OutOfMemory;
 
 // Adds an edge on each symbol of a set.
 fn push_into(edges: &mut Vec<Edge>, from: u32, to: u32, set: &[u32]) -> Result<(), OutOfMemory>
@@ -26,7 +26,7 @@ fn push_on(edges: &mut Vec<Edge>, from: usize, items: &[Item]) -> Result<(), Out
     ensures { OnOk result (edges.new.items ≡ edges.old.items ++ edges_on from (suc from) (drop from items.now)) }
 {
     for i in from..items.len() {
-        push_into(edges, from as u32, i as u32 + 1, items[i].set.symbols())?;
+        push_into(edges, from as u32, i as u32 + 1, items[i].set.as_slice())?;
         if !items[i].star {
             return Ok(());
         }
@@ -39,13 +39,17 @@ fn push_back(edges: &mut Vec<Edge>, at: u32, item: &Item) -> Result<(), OutOfMem
     ensures { OnOk result (edges.new.items ≡ edges.old.items ++ edges_back at item.now) }
 {
     if item.star {
-        push_into(edges, at, at, item.set.symbols())?;
+        push_into(edges, at, at, item.set.as_slice())?;
     }
     Ok(())
 }
 
 /// The edges of the items, for which there is space from the start.
-pub fn list_edges(alloc: Global, items: &[Item], count: u64) -> Result<Vec<Edge>, OutOfMemory>
+pub(crate) fn list_edges(
+    alloc: Global,
+    items: &[Item],
+    count: u64,
+) -> Result<Vec<Edge>, OutOfMemory>
     requires { length items.now ≤ 1000 }
     ensures { IfOk result (λ edges. edges.items ≡ edges_of items.now) }
 {

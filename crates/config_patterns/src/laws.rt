@@ -4,7 +4,8 @@ ghost use Rattle.config_patterns.specs.Membership.{items_match};
 ghost use Rattle.config_patterns.specs.declared.edge.Edge.{Edge as EdgeValue};
 ghost use Rattle.config_patterns.specs.Edges.{edges_of};
 ghost use Rattle.config_patterns.specs.Validity.{is_set};
-ghost use Rattle.config_patterns.specs.Paths.{IsEdge, IsIn, IsOnce, IsRead};
+ghost use Rattle.wpds_base.specs.Lists.{IsIn, IsOnce};
+ghost use Rattle.config_patterns.specs.Paths.{IsEdge, IsRead};
 
 /// A law on patterns: a path of the edges leads from state 0 to a final state over a list of symbols exactly where the
 /// items match it.

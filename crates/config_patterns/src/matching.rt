@@ -25,7 +25,7 @@ fn advance(items: &[Item], symbol: u32, places: &mut [bool])
     let mut entered = false;
     for (i, item) in items.iter().enumerate() {
         let here = places[i] || skipped;
-        let takes = here && item.set.has(symbol);
+        let takes = here && has_symbol(item.set.as_slice(), symbol);
         places[i] = entered || takes && item.star;
         skipped = here && item.star;
         entered = takes && !item.star;
@@ -47,7 +47,7 @@ fn may_end(items: &[Item], places: &[bool]) -> bool
 
 /// Whether the items match the stack of a configuration. It takes no memory; for each symbol it goes over the items
 /// once.
-pub fn match_stack(items: &[Item], config: &Config) -> bool
+pub(crate) fn match_stack(items: &[Item], config: &Config) -> bool
     requires { length items.now ≤ 1000 }
     ensures { result ≡ items_match items.now config.now.stack }
 {

@@ -13,7 +13,7 @@ use pushdown_rules::Config;
 use std::alloc::{AllocFailed, Global};
 use std::marker::Model;
 use thiserror::Error;
-use wpds_port::OutOfMemory;
+use wpds_base::OutOfMemory;
 
 const MAX_ITEMS: usize = 1_000;
 
@@ -65,10 +65,10 @@ pub struct Pattern {
 }
 
 impl Model for Pattern {
-    ghost use Rattle.config_patterns.specs.Membership.{Described};
+    ghost use Rattle.config_patterns.specs.Membership.{PatternValue};
     ghost use Rattle.config_patterns.specs.Validity.{AreCounts, IsPattern};
 
-    ghost Value = { Described };
+    ghost Value = { PatternValue };
 
     ghost view = { λ p. record { control = p.control; symbols = p.symbols; items = p.items.items } };
 
@@ -127,7 +127,7 @@ impl Pattern {
         ensures { IfOk result (λ l. l ≡ edges_of self.now.items) }
     {
         let edges = list_edges(alloc, &self.items, self.edges)?;
-        Ok(EdgeList::new(edges))
+        Ok(EdgeList::from_vec(edges))
     }
 
     /// Whether the automaton may stop in a state.
@@ -146,7 +146,7 @@ impl Pattern {
         ensures err { OnErr result (self.new ≡ self.old) }
     {
         let edges = self.admit(set, star)?;
-        let set = SymbolSet::new(alloc, set)?;
+        let set = SymbolSet::from_vec(set.to_vec(alloc)?);
         self.items.push(Item { set, star })?;
         self.edges = edges;
         self.finals = if star { self.finals + 1 } else { 1 };

@@ -109,11 +109,14 @@ fn edges_in_their_order(rt: HostRuntime) -> Result<(), Fail> {
     ] {
         assert_eq!(rt; pattern.is_final(state), is_final, "state {state}");
     }
-    let same = EdgeList::new(edges.into_vec());
+    let same = EdgeList::from_vec(edges.into_vec());
     assert_eq!(rt; same.as_slice().len(), 9);
-    let set = SymbolSet::new(alloc, &[4, 2])?;
-    assert_eq!(rt; set.symbols(), [4, 2].as_slice());
-    assert_eq!(rt; (set.has(2), set.has(3)), (true, false));
+    let set = SymbolSet::from_vec(vec![in alloc; 4, 2]?);
+    assert_eq!(rt; set.as_slice(), [4, 2].as_slice());
+    assert_eq!(rt;
+        (has_symbol(set.as_slice(), 2), has_symbol(set.as_slice(), 3)),
+        (true, false)
+    );
     Ok(())
 }
 

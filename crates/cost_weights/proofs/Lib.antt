@@ -1,1 +1,1 @@
-pub mod OfCosts
+mod CostLemmas

@@ -13,7 +13,7 @@ use semiring_laws::{NoMap, Semiring};
 use std::alloc::Global;
 use std::marker::Model;
 use thiserror::Error;
-use wpds_port::OutOfMemory;
+use wpds_base::OutOfMemory;
 
 const MAX_CAP: u64 = 1_000_000_000_000_000_000;
 

@@ -4,7 +4,7 @@ use crate::{Cost, CostFault};
 use semiring_laws::{NoMap, Semiring};
 use std::alloc::Global;
 use std::test::Fail;
-use wpds_port::OutOfMemory;
+use wpds_base::OutOfMemory;
 
 const LARGEST: u64 = 1_000_000_000_000_000_000;
 

@@ -8,7 +8,7 @@ use diagram_ops::{apply2, apply3, compose_relations};
 use diagram_store::Diagram;
 use std::alloc::Global;
 use std::env;
-use wpds_port::OutOfMemory;
+use wpds_base::OutOfMemory;
 
 // Operators of two and of three places, by their tables.
 const AND: u8 = 8;

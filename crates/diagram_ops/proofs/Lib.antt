@@ -1,14 +1,14 @@
-pub mod OfKeeping
-pub mod OfPushes
-pub mod OfCopies
-pub mod OfCofactors
-pub mod OfApplying
-pub mod OfImages
-pub mod OfRenaming
-pub mod OfTables
-pub mod OfPicking
-pub mod OfQuantifying
-pub mod OfComposing
-pub mod OfRelations
-pub mod OfVariables
-pub mod OfShortCuts
+mod KeepingLemmas
+mod PushLemmas
+mod CopyLemmas
+mod CofactorLemmas
+mod ApplyingLemmas
+mod ImageLemmas
+mod RenamingLemmas
+mod TableLemmas
+mod PickingLemmas
+mod QuantifyingLemmas
+mod ComposingLemmas
+mod RelationLemmas
+mod VariableLemmas
+mod ShortCutLemmas

@@ -12,7 +12,7 @@ use bumpalo::Bump;
 use diagram_store::Diagram;
 use std::alloc::Global;
 use truth_tables::value2;
-use wpds_port::OutOfMemory;
+use wpds_base::OutOfMemory;
 
 /// The operator of three places with the table `T`, on all bits.
 ///

@@ -8,13 +8,13 @@ use crate::scratch::Scratch;
 use crate::short_cuts::short_cut;
 use crate::table::Table;
 use truth_tables::value3;
-use wpds_port::OutOfMemory;
+use wpds_base::OutOfMemory;
 
 /// The table of three places that is the first or the second, whatever the third.
-pub const OR: u8 = 252;
+pub(crate) const OR: u8 = 252;
 
 /// The operator with this table at three references, by their lowest variable. Each triple is worked out once.
-pub fn apply(
+pub(crate) fn apply(
     scratch: &mut Scratch,
     results: &mut Table,
     table: u8,

@@ -16,7 +16,7 @@ use crate::table::Table;
 use bumpalo::Bump;
 use diagram_store::Diagram;
 use std::alloc::Global;
-use wpds_port::OutOfMemory;
+use wpds_base::OutOfMemory;
 
 /// The relation that leads from `x` to `z` exactly where `a` leads from `x` to some `y`, and `b` from `y` to `z`.
 ///
@@ -48,7 +48,7 @@ pub fn compose_relations(
 
 /// One of the two relations. The new values of the first are the old ones of the second.
 #[derive(Clone, Copy)]
-pub enum Operand {
+pub(crate) enum Operand {
     First,
     Second,
 }

@@ -7,7 +7,7 @@ use crate::scratch::Scratch;
 use diagram_store::{Branch, BranchList, Diagram};
 use std::alloc::Global;
 use std::collections::HashMap;
-use wpds_port::OutOfMemory;
+use wpds_base::OutOfMemory;
 
 // Nodes in canonical order, and the place of each scratch reference that has one.
 #[derive(Drop)]
@@ -17,7 +17,11 @@ struct Copy {
 }
 
 /// The diagram with the meaning of a scratch reference.
-pub fn copied_out(alloc: Global, scratch: &Scratch, root: u64) -> Result<Diagram, OutOfMemory>
+pub(crate) fn copied_out(
+    alloc: Global,
+    scratch: &Scratch,
+    root: u64,
+) -> Result<Diagram, OutOfMemory>
     requires { root < length scratch.now + 2 }
     ensures { IfOk result (λ d. (bits : ℕ → Bool) → value_at d.nodes d.root bits ≡ value_at scratch.now root bits) }
 {
@@ -28,7 +32,7 @@ pub fn copied_out(alloc: Global, scratch: &Scratch, root: u64) -> Result<Diagram
     let place = copy_from(scratch, &mut copy, root)?;
     Ok(Diagram {
         root: place,
-        nodes: BranchList::new(copy.nodes),
+        nodes: BranchList::from_vec(copy.nodes),
     })
 }
 

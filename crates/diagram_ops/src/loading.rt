@@ -6,10 +6,10 @@ ghost use Rattle.diagram_ops.specs.Scratch.{Keeps, Stands};
 use crate::scratch::Scratch;
 use diagram_store::{Branch, Diagram};
 use std::alloc::Global;
-use wpds_port::OutOfMemory;
+use wpds_base::OutOfMemory;
 
 /// The places of the constants.
-pub fn first_places(alloc: Global) -> Result<Vec<u64>, OutOfMemory>
+pub(crate) fn first_places(alloc: Global) -> Result<Vec<u64>, OutOfMemory>
     ensures { IfOk result (λ p. p.items ≡ 0 ∷ 1 ∷ []) }
 {
     let mut places = Vec::new(alloc);
@@ -19,7 +19,11 @@ pub fn first_places(alloc: Global) -> Result<Vec<u64>, OutOfMemory>
 }
 
 /// Adds the nodes of a diagram, and answers the place of its root.
-pub fn load(alloc: Global, scratch: &mut Scratch, diagram: &Diagram) -> Result<u64, OutOfMemory>
+pub(crate) fn load(
+    alloc: Global,
+    scratch: &mut Scratch,
+    diagram: &Diagram,
+) -> Result<u64, OutOfMemory>
     requires { IsReduced scratch.old }
     ensures reduced { IfOk result (λ _. IsReduced scratch.new) }
     ensures keeps { IfOk result (λ _. Keeps scratch.old scratch.new) }
@@ -57,7 +61,7 @@ fn load_node(
 }
 
 /// The place of a reference.
-pub fn place_at(places: &[u64], reference: u64) -> u64
+pub(crate) fn place_at(places: &[u64], reference: u64) -> u64
     requires { reference < length places.now }
     ensures { result ≡ slice_index_or places.now reference 0 }
 {

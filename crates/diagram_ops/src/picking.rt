@@ -4,38 +4,10 @@ ghost use Rattle.diagram_store.specs.Nodes.{HasVariablesBelow};
 
 use diagram_store::{Diagram, node};
 use std::alloc::Global;
-use std::marker::Model;
-use wpds_port::OutOfMemory;
+use wpds_base::{OutOfMemory, Sequence};
 
 /// A list of bits, one for each variable.
-#[derive(Drop)]
-pub struct Bits {
-    bits: Vec<bool>,
-}
-
-impl Model for Bits {
-    ghost use Rattle.std.specs.Prelude.{List, Bool};
-
-    ghost Value = { List Bool };
-
-    ghost view = { λ b. b.bits.items };
-}
-
-impl Bits {
-    /// These bits. It takes no memory.
-    pub fn new(bits: Vec<bool>) -> Bits
-        ensures { result ≡ bits.items }
-    {
-        Bits { bits }
-    }
-
-    /// The bits.
-    pub fn as_slice(&self) -> &[bool]
-        ensures { result.now ≡ self.now }
-    {
-        &self.bits
-    }
-}
+pub type Bits = Sequence<bool>;
 
 /// So many bits on which the diagram is true, or `None` for the false diagram.
 ///
@@ -55,5 +27,5 @@ pub fn pick(alloc: Global, a: &Diagram, count: u32) -> Result<Option<Bits>, OutO
         bits[found.var as usize] = high;
         at = if high { found.high } else { found.low };
     }
-    Ok(Some(Bits::new(bits)))
+    Ok(Some(Bits::from_vec(bits)))
 }

@@ -14,7 +14,7 @@ use crate::table::Table;
 use bumpalo::Bump;
 use diagram_store::{Branch, Diagram};
 use std::alloc::Global;
-use wpds_port::OutOfMemory;
+use wpds_base::OutOfMemory;
 
 /// The diagram that is true on exactly those bits for which `a` is true on some bits that differ from them
 /// in `vars` at most.

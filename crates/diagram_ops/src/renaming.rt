@@ -5,7 +5,7 @@ ghost use Rattle.diagram_ops.specs.Renaming.{Rises, with_variable};
 
 use diagram_store::{Branch, BranchList, Diagram};
 use std::alloc::Global;
-use wpds_port::OutOfMemory;
+use wpds_base::OutOfMemory;
 
 /// The diagram whose value on all bits is that of `a` where each variable `v` has the bit of `map[v]`.
 ///
@@ -19,7 +19,7 @@ pub fn rename(alloc: Global, a: &Diagram, map: &[u32]) -> Result<Diagram, OutOfM
     let nodes = renamed(alloc, a.nodes(), map)?;
     Ok(Diagram {
         root: a.root,
-        nodes: BranchList::new(nodes),
+        nodes: BranchList::from_vec(nodes),
     })
 }
 

@@ -10,7 +10,7 @@ use crate::scratch::Scratch;
 use bumpalo::Bump;
 use diagram_store::{Branch, Diagram};
 use std::alloc::Global;
-use wpds_port::OutOfMemory;
+use wpds_base::OutOfMemory;
 
 /// The diagram whose value on all bits is that of `a` on the bits with `var` set to `value`.
 pub fn restrict(alloc: Global, a: &Diagram, var: u32, value: bool) -> Result<Diagram, OutOfMemory>

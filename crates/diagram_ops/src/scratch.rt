@@ -7,11 +7,11 @@ use bumpalo::Bump;
 use diagram_store::{Branch, node};
 use std::alloc::Global;
 use std::marker::Model;
-use wpds_port::OutOfMemory;
+use wpds_base::OutOfMemory;
 
 /// Reduced nodes in an arena, and a table that finds each by its parts.
 #[derive(Drop)]
-pub struct Scratch<'a> {
+pub(crate) struct Scratch<'a> {
     nodes: Vec<Branch, &'a Bump>,
     places: Table,
 }
@@ -31,7 +31,7 @@ impl<'a> Model for Scratch<'a> {
 
 impl<'a> Scratch<'a> {
     /// No nodes yet. The nodes lie in the arena.
-    pub fn new(alloc: Global, arena: &'a Bump) -> Scratch<'a>
+    pub(crate) fn new(alloc: Global, arena: &'a Bump) -> Scratch<'a>
         ensures empty { result ≡ [] }
         ensures reduced { IsReduced result }
     {
@@ -42,7 +42,7 @@ impl<'a> Scratch<'a> {
     }
 
     /// The node that a reference names.
-    pub fn node(&self, reference: u64) -> Option<Branch>
+    pub(crate) fn node(&self, reference: u64) -> Option<Branch>
         ensures found { result ≡ node_at self.now reference }
         ensures reduced { IsReduced self.now }
     {
@@ -50,7 +50,7 @@ impl<'a> Scratch<'a> {
     }
 
     /// The choice by a variable that comes before those of both branches.
-    pub fn branch(&mut self, var: u32, low: u64, high: u64) -> Result<u64, OutOfMemory>
+    pub(crate) fn branch(&mut self, var: u32, low: u64, high: u64) -> Result<u64, OutOfMemory>
         requires low { low < length self.old + 2 }
         requires high { high < length self.old + 2 }
         requires low_above { IsAbove self.old var low }

@@ -12,7 +12,7 @@ const THIRD: u8 = 170;
 const ALL: u8 = 255;
 
 /// A constant or one of the references, if it has the table's value on each row that they leave.
-pub fn short_cut(table: u8, x: u64, y: u64, z: u64) -> Option<u64>
+pub(crate) fn short_cut(table: u8, x: u64, y: u64, z: u64) -> Option<u64>
     ensures right { IfSome result (λ r. IsShortCut table x y z r) }
     ensures found { IfNone result ((r : ℕ) → ¬ IsShortCut table x y z r) }
 {

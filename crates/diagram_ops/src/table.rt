@@ -3,17 +3,17 @@ ghost use Rattle.diagram_ops.specs.Tables.{known, same_key};
 
 use std::alloc::Global;
 use std::collections::HashMap;
-use wpds_port::OutOfMemory;
+use wpds_base::OutOfMemory;
 
 /// A number at three numbers, looked up by hash.
 #[derive(Drop)]
-pub struct Table {
+pub(crate) struct Table {
     entries: HashMap<(u64, u64, u64), u64>,
 }
 
 impl Table {
     /// A table that knows nothing. It takes no memory.
-    pub fn new(alloc: Global) -> Table
+    pub(crate) fn new(alloc: Global) -> Table
         ensures { (x y z : ℕ) → known result x y z ≡ None }
     {
         Table {
@@ -22,14 +22,14 @@ impl Table {
     }
 
     /// The number that stands at three numbers.
-    pub fn get(&self, x: u64, y: u64, z: u64) -> Option<u64>
+    pub(crate) fn get(&self, x: u64, y: u64, z: u64) -> Option<u64>
         ensures { result ≡ known self.now x y z }
     {
         self.entries.get(&(x, y, z)).copied()
     }
 
     /// Puts a number at three numbers, in place of the one that stands there.
-    pub fn insert(&mut self, x: u64, y: u64, z: u64, value: u64) -> Result<(), OutOfMemory>
+    pub(crate) fn insert(&mut self, x: u64, y: u64, z: u64, value: u64) -> Result<(), OutOfMemory>
         ensures ok { OnOk result ((a b c : ℕ) → known self.new a b c ≡ cond (same_key (x, y, z) (a, b, c)) (Some value) (known self.old a b c)) }
         ensures err { OnErr result ((a b c : ℕ) → known self.new a b c ≡ known self.old a b c) }
     {

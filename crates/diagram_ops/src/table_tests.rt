@@ -5,7 +5,7 @@ use diagram_store::Diagram;
 use std::alloc::Global;
 use std::test::Fail;
 use truth_tables::{value2, value3};
-use wpds_port::OutOfMemory;
+use wpds_base::OutOfMemory;
 
 // A function of six variables is the table of its 64 rows. On row k, variable v is bit v of k.
 const ROWS: u32 = 64;

@@ -1,7 +1,8 @@
-pub mod OfNodes
-pub mod OfValues
-pub mod OfMeanings
-pub mod OfTurns
-pub mod OfBits
-pub mod OfFitting
-pub mod OfSmall
+mod NodeLemmas
+mod ValueLemmas
+mod MeaningLemmas
+mod TurnLemmas
+mod BitLemmas
+mod FittingLemmas
+mod SmallLemmas
+pub mod CallerLemmas

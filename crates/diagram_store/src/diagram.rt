@@ -6,7 +6,7 @@ ghost use Rattle.diagram_store.specs.Nodes.{HasVariablesBelow};
 use crate::branch::{are_same, have_variables_below, node};
 use crate::{Branch, BranchList};
 use std::alloc::Global;
-use wpds_port::OutOfMemory;
+use wpds_base::OutOfMemory;
 
 /// A test on bits, as a reduced ordered decision diagram.
 ///
@@ -27,7 +27,7 @@ impl Diagram {
     {
         Diagram {
             root: u64::from(value),
-            nodes: BranchList::new(Vec::new(alloc)),
+            nodes: BranchList::from_vec(Vec::new(alloc)),
         }
     }
 
@@ -54,7 +54,7 @@ impl Diagram {
         let nodes = nodes.to_vec(alloc)?;
         Ok(Diagram {
             root,
-            nodes: BranchList::new(nodes),
+            nodes: BranchList::from_vec(nodes),
         })
     }
 

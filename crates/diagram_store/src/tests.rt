@@ -113,7 +113,7 @@ fn constants_and_literals(rt: HostRuntime) -> Result<(), Fail> {
     assert!(rt; bit.has_variables_below(3));
     assert!(rt; !bit.value(&[true, true, false]));
     assert!(rt; bit.value(&[false, false, true]));
-    let list = BranchList::new(Vec::new(alloc));
+    let list = BranchList::from_vec(Vec::new(alloc));
     assert_eq!(rt; list.as_slice(), always.nodes());
     one_meaning();
     independent_variables();

@@ -1,3 +1,4 @@
-pub mod OfPatterns
-pub mod OfLines
-pub mod OfSymbols
+mod PatternLemmas
+mod LineLemmas
+mod SymbolLemmas
+pub mod CallerLemmas

@@ -7,7 +7,7 @@ use Rattle.system_text.specs.declared.document.RuleLine.{RuleLine}
 use Rattle.system_text.specs.declared.document.ConfigText.{ConfigText}
 use Rattle.system_text.specs.declared.document.WeightText.{WeightText}
 use Rattle.config_patterns.specs.declared.item.Item.{Item}
-use Rattle.config_patterns.specs.Membership.{Described}
+use Rattle.config_patterns.specs.Membership.{PatternValue}
 use Rattle.pushdown_rules.specs.Configuration.{Configuration}
 use Rattle.pushdown_rules.specs.Pushdown.{Pushdown, map_of}
 use Rattle.pushdown_rules.specs.declared.rule.Rule.{Rule}
@@ -39,7 +39,7 @@ abbrev pub one_symbol : ℕ → Item
 one_symbol g = record { set = g ∷ []; star = false }
 
 -- the pattern that a side of a query is, over so many symbols
-abbrev pub pattern_of : ℕ → ConfigText → Described
+abbrev pub pattern_of : ℕ → ConfigText → PatternValue
 pattern_of symbols c = record { control = c.control; symbols = symbols; items = map one_symbol c.stack }
 
 -- The numbers of a document are those of its names, and its counts are those of a system.

@@ -9,7 +9,7 @@ use config_patterns::{Pattern, PatternFault};
 use pushdown_rules::{RuleFault, System};
 use std::alloc::Global;
 use system_text::{ConfigText, Document, RuleLine};
-use wpds_port::OutOfMemory;
+use wpds_base::OutOfMemory;
 
 // Adds the rule of a line that is not refused.
 fn add_line<S: DocumentWeights>(

@@ -8,7 +8,7 @@ use semiring_laws::Reach;
 use std::alloc::Global;
 use std::test::Fail;
 use system_text::{Document, WeightText, read_first_form};
-use wpds_port::OutOfMemory;
+use wpds_base::OutOfMemory;
 
 #[test]
 fn values(rt: HostRuntime) -> Result<(), Fail> {
@@ -71,7 +71,7 @@ fn a_document_means_a_system(rt: HostRuntime) -> Result<(), Fail> {
     assert_eq!(rt; system.controls(), 2);
     assert_eq!(rt; system.symbols(), 2);
     assert_eq!(rt; system.rules(), 2);
-    assert_eq!(rt; system.rule(0).right.symbols(), [1, 0].as_slice());
+    assert_eq!(rt; system.rule(0).right.as_slice(), [1, 0].as_slice());
     assert_eq!(rt; system.rule(0).weight, Some(2));
     assert_eq!(rt; system.rule(1).to, 1);
     assert_eq!(rt; system.rule(1).weight, Some(100));

@@ -9,7 +9,7 @@ use cost_weights::Cost;
 use semiring_laws::{Reach, Semiring};
 use std::alloc::Global;
 use system_text::WeightText;
-use wpds_port::OutOfMemory;
+use wpds_base::OutOfMemory;
 
 /// A semiring that a document can name: what the texts of its weights are worth, and how a value is written.
 pub trait DocumentWeights: Semiring {

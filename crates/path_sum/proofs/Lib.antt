@@ -1,15 +1,15 @@
-pub mod OfEntries
-pub mod OfOrders
-pub mod OfPairs
-pub mod OfGrowing
-pub mod OfSums
-pub mod OfMoves
-pub mod OfWorking
-pub mod OfBooks
-pub mod OfChanges
-pub mod OfReady
-pub mod OfLoops
-pub mod OfPlaces
-pub mod OfRounds
-pub mod OfMembers
-pub mod OfFinished
+mod EntryLemmas
+mod OrderLemmas
+mod PairLemmas
+mod GrowingLemmas
+mod SumLemmas
+mod MoveLemmas
+mod WorkingLemmas
+mod BookLemmas
+mod ChangeLemmas
+mod ReadyLemmas
+mod LoopLemmas
+mod PlaceLemmas
+mod RoundLemmas
+mod MemberLemmas
+mod FinishedLemmas

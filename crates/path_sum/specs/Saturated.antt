@@ -8,7 +8,7 @@ use Rattle.pushdown_rules.specs.Pushdown.{Pushdown}
 use Rattle.pushdown_rules.specs.Values.{value_of}
 use Rattle.saturation_core.specs.declared.job.Job.{Job}
 use Rattle.saturation_core.specs.declared.opening.Opening.{Opening}
-use Rattle.saturation_core.specs.Lists.{IsIn}
+use Rattle.wpds_base.specs.Lists.{IsIn}
 use Rattle.saturation_core.specs.States.{weight_at}
 use Rattle.saturation_core.specs.Openings.{found_so_far}
 use Rattle.saturation_core.specs.Directions.{IsConsequence}

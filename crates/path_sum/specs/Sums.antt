@@ -13,12 +13,12 @@ use Rattle.witness_graph.specs.declared.node.Node.TheVariants.{Start}
 use Rattle.witness_graph.specs.declared.node.Side.{Side}
 use Rattle.witness_graph.specs.declared.node.Side.TheVariants.{Pre, Post}
 use Rattle.config_patterns.specs.declared.edge.Edge.{Edge}
-use Rattle.config_patterns.specs.Membership.{Described}
+use Rattle.config_patterns.specs.Membership.{PatternValue}
 use Rattle.config_patterns.specs.Edges.{edges_of, is_final_of}
 use Rattle.pushdown_rules.specs.Configuration.{Configuration}
 use Rattle.pushdown_rules.specs.Pushdown.{Pushdown}
 use Rattle.saturation_core.specs.declared.opening.Opening.{Opening}
-use Rattle.saturation_core.specs.Lists.{IsIn}
+use Rattle.wpds_base.specs.Lists.{IsIn}
 use Rattle.saturation_core.specs.Openings.{AreKept}
 use Rattle.saturation_core.specs.States.{CoreState, Change, weight_at, apply}
 use Rattle.saturation_core.specs.Paths.{Reads, IsPath, EachRun, joined, in_order, IsOpened, Joins}
@@ -33,7 +33,7 @@ pub record Ways : Type 0 where
 abbrev pub edge_place : Edge → Place
 edge_place e = record { from = e.from; label = Symbol e.symbol; to = e.to }
 
-abbrev pub ways_of : Described → Ways
+abbrev pub ways_of : PatternValue → Ways
 ways_of d = record { control = d.control; states = length d.items + 1; edges = map edge_place (edges_of d.items); final = is_final_of d.items }
 
 -- the automaton reads the configuration to a final state
@@ -192,7 +192,7 @@ pub record TaskValue (S W Map : Type 0) : Type 0 where
   pub side : Side
   pub opening : Opening
   pub transitions : List (Entry S W Map)
-  pub pattern : Described
+  pub pattern : PatternValue
 
 module _ {S W Map : Type 0} (s : Operations W Map) where
   -- The transition at a place is there, and weights and nodes are those of the state.

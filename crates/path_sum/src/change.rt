@@ -9,11 +9,11 @@ use std::alloc::Global;
 use std::collections::VecDeque;
 use weighted_automata::{Place, Transitions};
 use witness_graph::{Node, Overlay};
-use wpds_port::OutOfMemory;
+use wpds_base::OutOfMemory;
 
 /// Combines a weight into a place, whose runs get those of the first node, each followed by those of the second, if it is
 /// there. After want of memory the parts are of no use.
-pub fn apply_parts<S: Semiring>(
+pub(crate) fn apply_parts<S: Semiring>(
     semiring: &S,
     alloc: Global,
     transitions: &mut Transitions<S>,

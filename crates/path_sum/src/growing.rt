@@ -17,20 +17,20 @@ use std::alloc::Global;
 use std::collections::VecDeque;
 use weighted_automata::{Entry, Label, Place, Transitions};
 use witness_graph::{Graph, Overlay, Side};
-use wpds_port::OutOfMemory;
+use wpds_base::OutOfMemory;
 
 /// A sum while it grows: a weight and a node for each pair that was reached, and the pairs that wait. A pair of a state
 /// of the pattern and a state of the automaton is a place between them that reads nothing. After want of memory it is of
 /// no use.
 #[derive(Drop)]
-pub struct Growing<'g, S: Semiring> {
-    pub pairs: Transitions<S>,
-    pub nodes: Overlay<'g>,
-    pub waiting: VecDeque<Place>,
+pub(crate) struct Growing<'g, S: Semiring> {
+    pub(crate) pairs: Transitions<S>,
+    pub(crate) nodes: Overlay<'g>,
+    pub(crate) waiting: VecDeque<Place>,
 }
 
 /// Where the answer stands among the pairs: the only place there that reads a symbol.
-pub const ANSWER: Place = Place {
+pub(crate) const ANSWER: Place = Place {
     from: 0,
     label: Label::Symbol(0),
     to: 0,
@@ -270,7 +270,12 @@ impl<'g, S: Semiring> Growing<'g, S> {
     }
 
     /// Adds all that goes on from a place.
-    pub fn draw(&mut self, task: &Task<S>, alloc: Global, place: Place) -> Result<(), OutOfMemory>
+    pub(crate) fn draw(
+        &mut self,
+        task: &Task<S>,
+        alloc: Global,
+        place: Place,
+    ) -> Result<(), OutOfMemory>
         requires ready { IsReady (S.operations task.now.semiring) task.now.transitions place (state_of self.old) }
         ensures grows { OnOk result (GrowsBy (S.operations task.now.semiring) task.now
             (moves_of task.now.opening (ways_of task.now.pattern) task.now.transitions place) (state_of self.old) (state_of self.new)) }

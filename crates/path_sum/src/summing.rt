@@ -20,7 +20,7 @@ use std::alloc::Global;
 use std::collections::VecDeque;
 use weighted_automata::{Label, Place, Transitions};
 use witness_graph::{Graph, Listing, Node, Overlay};
-use wpds_port::OutOfMemory;
+use wpds_base::OutOfMemory;
 
 // Takes the place that waits longest.
 fn next(waiting: &mut VecDeque<Place>) -> Option<Place>

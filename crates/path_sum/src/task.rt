@@ -9,11 +9,11 @@ use std::alloc::Global;
 use std::marker::Model;
 use weighted_automata::Transitions;
 use witness_graph::Side;
-use wpds_port::OutOfMemory;
+use wpds_base::OutOfMemory;
 
 /// What a sum goes over: transitions, the opening that they began with, and a pattern with its edges.
 #[derive(Drop)]
-pub struct Task<'a, S: Semiring> {
+pub(crate) struct Task<'a, S: Semiring> {
     semiring: &'a S,
     side: Side,
     opening: &'a Opening,
@@ -36,7 +36,7 @@ impl<'a, S: Semiring> Model for Task<'a, S> {
 
 impl<'a, S: Semiring> Task<'a, S> {
     /// These. The pattern's edges are made once.
-    pub fn new(
+    pub(crate) fn new(
         alloc: Global,
         semiring: &'a S,
         side: Side,
@@ -58,42 +58,42 @@ impl<'a, S: Semiring> Task<'a, S> {
     }
 
     /// The semiring of the weights.
-    pub fn semiring(&self) -> &'a S
+    pub(crate) fn semiring(&self) -> &'a S
         ensures { result.now ≡ self.now.semiring }
     {
         self.semiring
     }
 
     /// Which way the runs go.
-    pub fn side(&self) -> Side
+    pub(crate) fn side(&self) -> Side
         ensures { result ≡ self.now.side }
     {
         self.side
     }
 
     /// The transitions.
-    pub fn transitions(&self) -> &'a Transitions<S>
+    pub(crate) fn transitions(&self) -> &'a Transitions<S>
         ensures { result.now.transitions ≡ self.now.transitions }
     {
         self.transitions
     }
 
     /// The control of the pattern.
-    pub fn control(&self) -> u32
+    pub(crate) fn control(&self) -> u32
         ensures { result ≡ self.now.pattern.control }
     {
         self.pattern.control()
     }
 
     /// The edges of the pattern.
-    pub fn edges(&self) -> &[Edge]
+    pub(crate) fn edges(&self) -> &[Edge]
         ensures { result.now ≡ edges_of self.now.pattern.items }
     {
         self.edges.as_slice()
     }
 
     /// Whether a state of the pattern is final, and one of the automaton.
-    pub fn ends_at(&self, state: u32, other: u32) -> bool
+    pub(crate) fn ends_at(&self, state: u32, other: u32) -> bool
         ensures { result ≡ (is_final_of self.now.pattern.items state && has_state other self.now.opening.finals) }
     {
         self.pattern.is_final(state) && has_number(self.opening.finals.as_slice(), other)

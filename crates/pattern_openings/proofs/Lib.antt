@@ -1,5 +1,6 @@
-pub mod OfReads
-pub mod OfEdges
-pub mod OfStates
-pub mod OfOver
-pub mod Rows
+mod ReadLemmas
+mod EdgeLemmas
+mod StateLemmas
+mod OverLemmas
+mod Examples
+pub mod CallerLemmas

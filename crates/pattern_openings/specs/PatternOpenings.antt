@@ -5,12 +5,12 @@ use Rattle.weighted_automata.specs.declared.place.Place.{Place}
 use Rattle.weighted_automata.specs.declared.place.Label.TheVariants.{Symbol}
 use Rattle.config_patterns.specs.declared.item.Item.{Item}
 use Rattle.config_patterns.specs.declared.edge.Edge.{Edge}
-use Rattle.config_patterns.specs.Membership.{Described}
+use Rattle.config_patterns.specs.Membership.{PatternValue}
 use Rattle.config_patterns.specs.Edges.{edges_of, is_final_of}
 use Rattle.saturation_core.specs.declared.opening.Opening.{Opening}
 
 -- A pattern over so many controls and symbols.
-pub record IsOver (controls symbols : ℕ) (pattern : Described) : Type 0 where
+pub record IsOver (controls symbols : ℕ) (pattern : PatternValue) : Type 0 where
   pub control : pattern.control < controls
   pub sets : All (λ (x : Item). All (λ g. g < symbols) x.set) pattern.items
 
@@ -30,7 +30,7 @@ place_of_edge controls control e = record {
 abbrev pub finals_of_items : List Item → List ℕ
 finals_of_items items = filter (is_final_of items) (range_with_len 0 (suc (length items)))
 
-abbrev pub opening_of : ℕ → Described → Opening
+abbrev pub opening_of : ℕ → PatternValue → Opening
 opening_of controls pattern = record {
   edges = map (place_of_edge controls pattern.control) (edges_of pattern.items);
   finals = map (state_of controls pattern.control) (finals_of_items pattern.items);

@@ -7,7 +7,7 @@ use config_patterns::{Edge, Pattern};
 use saturation_core::{Opening, PlaceList, StateList};
 use std::alloc::Global;
 use weighted_automata::{Label, Place};
-use wpds_port::OutOfMemory;
+use wpds_base::OutOfMemory;
 
 // The state of a saturation for a state of a pattern.
 fn state_of(controls: u32, control: u32, state: u32) -> u32
@@ -90,7 +90,7 @@ pub fn opening_of(alloc: Global, controls: u32, pattern: &Pattern) -> Result<Ope
     let places = places_of_edges(alloc, controls, pattern.control(), edges.as_slice())?;
     let finals = final_states(alloc, controls, pattern)?;
     Ok(Opening {
-        edges: PlaceList::new(places),
-        finals: StateList::new(finals),
+        edges: PlaceList::from_vec(places),
+        finals: StateList::from_vec(finals),
     })
 }

@@ -1,2 +1,2 @@
-pub mod OfPasses
-pub mod OfFits
+mod PassLemmas
+mod FitLemmas

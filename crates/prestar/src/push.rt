@@ -1,24 +1,24 @@
 ghost use Rattle.std.specs.Prelude.{◌≡◌, ◌++◌, IfOk, OnOk, All};
 ghost use Rattle.std.specs.List.{flat_map};
 ghost use Rattle.semiring_laws.specs.Semiring.{Fits};
-ghost use Rattle.backward_laws.specs.Jobs.{only_if, push_job, goes_on, are_inputs, pair_jobs, may_be_input, pairs_of};
+ghost use Rattle.prestar_laws.specs.Jobs.{only_if, push_job, goes_on, are_inputs, pair_jobs, may_be_input, pairs_of};
 
 use pushdown_rules::Rule;
 use saturation_core::{Job, JobKind, copy_input};
 use semiring_laws::Semiring;
 use std::alloc::Global;
 use weighted_automata::{Entry, Label, Place, Transitions};
-use wpds_port::OutOfMemory;
+use wpds_base::OutOfMemory;
 
 /// A push rule, in a pass for pushes of one kind. It leaves `top` above `below`.
 #[derive(Drop)]
-pub struct Push<'a, S: Semiring> {
-    pub controls: u32,
-    pub kind: JobKind,
-    pub number: u32,
-    pub rule: &'a Rule<S>,
-    pub top: u32,
-    pub below: u32,
+pub(crate) struct Push<'a, S: Semiring> {
+    pub(crate) controls: u32,
+    pub(crate) kind: JobKind,
+    pub(crate) number: u32,
+    pub(crate) rule: &'a Rule<S>,
+    pub(crate) top: u32,
+    pub(crate) below: u32,
 }
 
 impl<'a, S: Semiring> Push<'a, S> {
@@ -143,7 +143,7 @@ impl<'a, S: Semiring> Push<'a, S> {
     }
 
     /// Adds its jobs of which a transition is an input.
-    pub fn list(
+    pub(crate) fn list(
         &self,
         semiring: &S,
         alloc: Global,

@@ -1,13 +1,14 @@
-pub mod Stacks
-pub mod Systems
-pub mod RunValues
-pub mod OfSystems
-pub mod OfFiring
-pub mod OfMachines
-pub mod OfValues
-pub mod OfSplits
-pub mod OfPlainRuns
-pub mod Walks
-pub mod OfRuns
-pub mod OfAnswers
-pub mod WorkedRows
+mod Stacks
+mod Systems
+mod RunValues
+mod SystemLemmas
+mod FiringLemmas
+mod MachineLemmas
+mod ValueLemmas
+mod SplitLemmas
+mod PlainRunLemmas
+mod Walks
+mod RunLemmas
+mod AnswerLemmas
+mod Examples
+pub mod CallerLemmas

@@ -5,7 +5,7 @@ use crate::{Config, RuleFault, System};
 use semiring_laws::Semiring;
 use std::alloc::Global;
 use std::test::Fail;
-use wpds_port::OutOfMemory;
+use wpds_base::OutOfMemory;
 
 // Whether there is a run, where a return map can forbid a call to return.
 #[derive(Clone, Copy, Debug, PartialEq, Eq)]

@@ -34,7 +34,7 @@ fn rules_are_kept(rt: HostRuntime) -> Result<(), Fail> {
         map,
     } = system.rule(0);
     assert_eq!(rt; (*control, *symbol, *to, *weight), (0, 0, 0, true));
-    assert_eq!(rt; right.symbols(), [1, 0].as_slice());
+    assert_eq!(rt; right.as_slice(), [1, 0].as_slice());
     assert_eq!(rt; *map, Some(NoMap::Plain), "a push has the plain map");
     assert_eq!(rt; system.rule(1).map, None);
     Ok(())

@@ -1,1 +1,1 @@
-mod OfAnswers
+mod AnswerLemmas

@@ -8,10 +8,10 @@ use Rattle.witness_graph.specs.declared.node.Side.TheVariants.{Pre as Backward}
 use Rattle.witness_graph.specs.declared.listing.Listing.{Listing}
 use Rattle.witness_graph.specs.Tight.{IsTight}
 use Rattle.short_listings.specs.Shorter.{shortened}
-use Rattle.config_patterns.specs.Membership.{Described, has_member}
+use Rattle.config_patterns.specs.Membership.{PatternValue, has_member}
 use Rattle.pattern_openings.specs.PatternOpenings.{opening_of}
 use Rattle.saturation_core.specs.Books.{BookValue, IsBook, IsClosed}
-use Rattle.backward_laws.specs.Ways.{pre_way}
+use Rattle.prestar_laws.specs.Ways.{pre_way}
 use Rattle.prestar.specs.declared.pre.Pre.{Pre}
 use Rattle.path_sum.specs.declared.answer.Answer.{Answer}
 use Rattle.path_sum.specs.Answers.{listed_runs, IsGrownAnswer}
@@ -24,7 +24,7 @@ IsShorter None None = Unit {0}
 IsShorter (Some l) (Some m) = (m.side ≡ l.side) × (m.nodes ≡ shortened l.nodes)
 IsShorter _ _ = ⊥
 
-module _ {S W Map : Type 0} (operations : S → Operations W Map) (p : Pushdown S W Map) (to : Described) where
+module _ {S W Map : Type 0} (operations : S → Operations W Map) (p : Pushdown S W Map) (to : PatternValue) where
   -- The book is a finished saturation of the system, backwards from a pattern, and one worker has made all its steps.
   pub record IsSaturatedFor (b : BookValue S W Map Pre) : Type 0 where
     pub system : b.system ≡ p
@@ -33,7 +33,7 @@ module _ {S W Map : Type 0} (operations : S → Operations W Map) (p : Pushdown 
     pub closed : IsClosed b
     pub alone : IsAlone b.journal
 
-module _ {S W Map : Type 0} (operations : S → Operations W Map) (p : Pushdown S W Map) (from to : Described) where
+module _ {S W Map : Type 0} (operations : S → Operations W Map) (p : Pushdown S W Map) (from to : PatternValue) where
   -- The answer to a query: a value with a listing of runs that show it, from such a book.
   pub record IsAnswer (a : Answer S W Map) : Type 0 where
     -- the value lies below the value of each run from a member to a member, and combines those of the listed runs

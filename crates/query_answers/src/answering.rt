@@ -14,7 +14,7 @@ use short_listings::shorter;
 use std::alloc::Global;
 use witness_graph::Listing;
 use worker_pool::saturate_alone;
-use wpds_port::OutOfMemory;
+use wpds_base::OutOfMemory;
 
 // The finished saturation backwards from a pattern.
 fn saturated<'s, S: Semiring>(

@@ -1,1 +1,1 @@
-mod OfLists
+mod ListLemmas

@@ -4,7 +4,7 @@ ghost use Rattle.report_text.specs.Listings as listings;
 
 use std::alloc::{AllocError, Global};
 use witness_graph::{Listing, Node, Side};
-use wpds_port::OutOfMemory;
+use wpds_base::OutOfMemory;
 
 // Adds a rule by its number in the text, if there is one.
 fn add_rule(alloc: Global, texts: &mut Vec<String>, rule: Option<u32>) -> Result<(), OutOfMemory>

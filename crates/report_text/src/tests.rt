@@ -2,7 +2,7 @@ use crate::{listing_text, query_line};
 use std::alloc::Global;
 use std::test::Fail;
 use witness_graph::{Graph, Node, Side};
-use wpds_port::OutOfMemory;
+use wpds_base::OutOfMemory;
 
 const fn lower(
     before: Option<u64>,

@@ -1,25 +1,26 @@
-pub mod OfLists
-pub mod OfValues
-pub mod Lowering
-pub mod Settling
-pub mod Events
-pub mod Bounding
-pub mod Opened
-pub mod OfOpenings
-pub mod OfHands
-pub mod QueueFacts
-pub mod Working
-pub mod Made
-pub mod Kept
-pub mod OfChanges
-pub mod OfStarts
-pub mod Begun
-pub mod OfCombinations
-pub mod OpeningWeights
-pub mod InLists
-pub mod Passes
-pub mod Planning
-pub mod LowerSteps
-pub mod Settles
-pub mod OfAll
-pub mod WorkedRows
+mod QueueLemmas
+mod ValueLemmas
+mod ApplyChange
+mod SettleState
+mod EventsKeepInvariant
+mod EventsKeepBound
+mod OpeningState
+mod OpeningLemmas
+mod HandLemmas
+mod QueueFacts
+mod HandJobs
+mod BookFields
+mod BookInvariant
+mod ChangeLemmas
+mod StartLemmas
+mod OpeningBook
+mod CombinationLemmas
+mod OpeningWeights
+mod ListMembers
+mod Passes
+mod PutPlan
+mod PlanEqualsApply
+mod SettleBook
+mod AllPush
+mod Examples
+pub mod CallerLemmas

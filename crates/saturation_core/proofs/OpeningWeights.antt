@@ -8,16 +8,15 @@ use Rattle.weighted_automata.specs.declared.place.Place.{Place}
 use Rattle.weighted_automata.specs.declared.transitions.Entry.{Entry}
 use Rattle.weighted_automata.specs.Places.{same_place}
 use Rattle.weighted_automata.specs.Entries.{entry_at}
-use Rattle.weighted_automata.proofs.OfPlaces.{cases_place}
-use Rattle.weighted_automata.proofs.OfEntries.{entry_at-place, entry_at-lowered_same, entry_at-lowered_other}
+use Rattle.weighted_automata.proofs.CallerLemmas.{cases_place, entry_at-place, entry_at-lowered_same, entry_at-lowered_other}
 use Rattle.witness_graph.specs.declared.node.Side.TheVariants.{Pre}
 use Rattle.pushdown_rules.specs.declared.rule.Rule.{Rule}
 use Rattle.pushdown_rules.specs.Pushdown.{Pushdown}
-use Rattle.saturation_core.specs.Lists.{IsIn}
+use Rattle.wpds_base.specs.Lists.{IsIn}
 use Rattle.saturation_core.specs.States.{CoreState, Change, weight_of, weight_at, lower_state, apply, apply_all}
 use Rattle.saturation_core.specs.Openings.{head_place, pop_change, pops_of, pops_from, with_edge, with_edges, bare, opening_state}
-use Rattle.saturation_core.proofs.OfLists.{in_left, in_append}
-use Rattle.semiring_laws.proofs.OfOrder.{below_itself, combine_below_left as below_left, combine_below_right as below_right, below_trans, below_zero, zero_below}
+use Rattle.saturation_core.proofs.QueueLemmas.{in_left, in_append}
+use Rattle.semiring_laws.proofs.CallerLemmas.{below_itself, combine_below_left as below_left, combine_below_right as below_right, below_trans, below_zero, zero_below}
 
 pub in_right : {X : Type 0} (x : X) (xs ys : List X) → IsIn x ys → IsIn x (xs ++ ys)
 in_right x [] ys h = h

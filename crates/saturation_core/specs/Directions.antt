@@ -12,7 +12,7 @@ use Rattle.pushdown_rules.specs.Values.{value_of}
 use Rattle.saturation_core.specs.declared.job.Job.{Job}
 use Rattle.saturation_core.specs.declared.opening.Opening.{Opening}
 use Rattle.saturation_core.specs.Jobs.{Tables, row_of, HasInput, named_rule, named_first}
-use Rattle.saturation_core.specs.Lists.{IsIn}
+use Rattle.wpds_base.specs.Lists.{IsIn}
 use Rattle.saturation_core.specs.Openings.{head_place}
 use Rattle.pushdown_rules.specs.declared.rule.Rule.{Rule}
 use Rattle.witness_graph.specs.declared.node.Side.TheVariants.{Pre}

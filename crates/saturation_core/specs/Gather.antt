@@ -8,7 +8,7 @@ use Rattle.weighted_automata.specs.declared.place.Label.TheVariants.{Symbol}
 use Rattle.weighted_automata.specs.declared.transitions.Entry.{Entry}
 use Rattle.weighted_automata.specs.Entries.{Present}
 use Rattle.weighted_automata.specs.Places.{same_place}
-use Rattle.weighted_automata.proofs.OfPlaces.{same_place_is, same_place_itself}
+use Rattle.weighted_automata.proofs.CallerLemmas.{same_place_is, same_place_itself}
 use Rattle.witness_graph.specs.declared.node.Side.{Side}
 use Rattle.witness_graph.specs.declared.node.Side.TheVariants.{Pre, Post}
 use Rattle.witness_graph.specs.Runs.{concatenations, parts_runs, rule_runs}
@@ -19,7 +19,7 @@ use Rattle.saturation_core.specs.declared.job.JobKind.{JobKind}
 use Rattle.saturation_core.specs.declared.job.JobKind.TheVariants.{PreStep, PrePushControl, PrePushOther, PostStep, PostPopMiddle, PostPopOther, PostEnter, PostLeave, PostGlue}
 use Rattle.saturation_core.specs.declared.job.Job.{Job}
 use Rattle.saturation_core.specs.Jobs.{Row, Tables, row_of, HasInput, named_rule, named_first}
-use Rattle.saturation_core.specs.Lists.{IsIn}
+use Rattle.wpds_base.specs.Lists.{IsIn}
 use Rattle.saturation_core.specs.Directions.{AreRuns, AreInputRuns, IsConsequence, IsDirection, HaveSameCandidates}
 use Rattle.saturation_core.specs.Paths.{EachRun, HasSums, joined, along}
 

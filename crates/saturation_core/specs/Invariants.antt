@@ -11,7 +11,7 @@ use Rattle.witness_graph.specs.Runs.{runs_of}
 use Rattle.witness_graph.specs.Tight.{IsTight}
 use Rattle.saturation_core.specs.declared.job.Job.{Job}
 use Rattle.saturation_core.specs.Jobs.{Tables, row_of, HasInput}
-use Rattle.saturation_core.specs.Lists.{IsIn, IsOnce}
+use Rattle.wpds_base.specs.Lists.{IsIn, IsOnce}
 use Rattle.saturation_core.specs.declared.hand.Holding.{Holding}
 use Rattle.saturation_core.specs.States.{CoreState, hand_at, weight_at}
 use Rattle.saturation_core.specs.Directions.{AreRuns, IsConsequence}

@@ -1,5 +1,5 @@
 pub mod Jobs
-pub mod Lists
+pub mod Queues
 pub mod States
 pub mod Directions
 pub mod Invariants

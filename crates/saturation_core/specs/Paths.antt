@@ -14,7 +14,7 @@ use Rattle.pushdown_rules.specs.Pushdown.{Pushdown}
 use Rattle.pushdown_rules.specs.Firing.{Run}
 use Rattle.saturation_core.specs.declared.opening.Opening.{Opening}
 use Rattle.saturation_core.specs.Jobs.{Tables, place_of}
-use Rattle.saturation_core.specs.Lists.{IsIn}
+use Rattle.wpds_base.specs.Lists.{IsIn}
 use Rattle.saturation_core.specs.Directions.{IsConsequence}
 use Rattle.saturation_core.specs.Invariants.{IsApplied}
 use Rattle.saturation_core.specs.States.{weight_at}

@@ -12,7 +12,7 @@ use Rattle.saturation_core.specs.declared.job.Job.{Job}
 use Rattle.saturation_core.specs.declared.hand.Holding.{Holding}
 use Rattle.saturation_core.specs.declared.plan.Planned.{Planned}
 use Rattle.saturation_core.specs.Jobs.{node_of, named_rule, named_first}
-use Rattle.saturation_core.specs.Lists.{queued}
+use Rattle.saturation_core.specs.Queues.{queued}
 use Rattle.saturation_core.specs.States.{CoreState, Change, weight_at}
 use Rattle.saturation_core.specs.Openings.{changed_weight}
 

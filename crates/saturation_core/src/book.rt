@@ -22,7 +22,7 @@ use std::collections::VecDeque;
 use std::marker::Model;
 use weighted_automata::{Place, Transitions};
 use witness_graph::Graph;
-use wpds_port::OutOfMemory;
+use wpds_base::OutOfMemory;
 
 /// A saturation: what was found, what waits, which hands are out, and the events so far.
 #[derive(Drop)]

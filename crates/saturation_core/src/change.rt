@@ -2,7 +2,7 @@ ghost use Rattle.std.specs.Prelude.{◌≡◌, ◌<◌, ℕ, None, Some, IfOk, O
 ghost use Rattle.semiring_laws.specs.Semiring.{Fits};
 ghost use Rattle.weighted_automata.specs.Entries.{entry_at};
 ghost use Rattle.saturation_core.specs.Jobs.{node_of};
-ghost use Rattle.saturation_core.specs.Lists.{queued};
+ghost use Rattle.saturation_core.specs.Queues.{queued};
 ghost use Rattle.saturation_core.specs.States.{weight_at, apply};
 ghost use Rattle.saturation_core.specs.Openings.{AreKept, changed_weight, found_so_far};
 
@@ -12,7 +12,7 @@ use std::alloc::Global;
 use std::collections::VecDeque;
 use weighted_automata::{Place, Transitions};
 use witness_graph::{Graph, Node};
-use wpds_port::OutOfMemory;
+use wpds_base::OutOfMemory;
 
 /// Puts a place last, unless it waits, and makes room for it.
 pub fn queue_up(waiting: &mut VecDeque<Place>, place: Place) -> Result<(), OutOfMemory>
@@ -68,7 +68,7 @@ pub fn weight_after<S: Semiring>(
 }
 
 /// Combines the weight of a rule into a place, whose runs get the rule alone. After want of memory the parts are of no use.
-pub fn apply_rule<S: Semiring>(
+pub(crate) fn apply_rule<S: Semiring>(
     semiring: &S,
     alloc: Global,
     transitions: &mut Transitions<S>,

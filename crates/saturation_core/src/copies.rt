@@ -6,7 +6,7 @@ use crate::{Input, Job, JobList};
 use semiring_laws::Semiring;
 use std::alloc::Global;
 use weighted_automata::Entry;
-use wpds_port::OutOfMemory;
+use wpds_base::OutOfMemory;
 
 /// A copy of an input.
 pub fn copy_input<S: Semiring>(
@@ -56,7 +56,7 @@ fn copy_job<S: Semiring>(semiring: &S, alloc: Global, job: &Job<S>) -> Result<Jo
 }
 
 /// A copy of each job, in order.
-pub fn copy_jobs<S: Semiring>(
+pub(crate) fn copy_jobs<S: Semiring>(
     semiring: &S,
     alloc: Global,
     jobs: &[Job<S>],
@@ -68,5 +68,5 @@ pub fn copy_jobs<S: Semiring>(
     for job in jobs {
         copies.push(copy_job(semiring, alloc, job)?)?;
     }
-    Ok(JobList::new(copies))
+    Ok(JobList::from_vec(copies))
 }

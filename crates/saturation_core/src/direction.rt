@@ -11,7 +11,7 @@ use semiring_laws::Semiring;
 use std::alloc::Global;
 use weighted_automata::Transitions;
 use witness_graph::Side;
-use wpds_port::OutOfMemory;
+use wpds_base::OutOfMemory;
 
 /// Which way a saturation goes, and what it draws from a transition.
 pub trait Direction<S: Semiring>: Copy {

@@ -8,17 +8,17 @@ use semiring_laws::{Reach, Semiring};
 use std::alloc::Global;
 use weighted_automata::{Entry, Label, Place, Transitions};
 use witness_graph::Side;
-use wpds_port::OutOfMemory;
+use wpds_base::OutOfMemory;
 
 /// The tests' direction. It draws one consequence from each transition: the same weight for the place `HUB`. The job
 /// names the rule of number 0, on which nothing else rests.
 #[derive(Clone, Copy)]
-pub struct Gather {
-    pub side: Side,
+pub(crate) struct Gather {
+    pub(crate) side: Side,
 }
 
 /// The goal of each job.
-pub const HUB: Place = Place {
+pub(crate) const HUB: Place = Place {
     from: 0,
     label: Label::Symbol(0),
     to: 0,
@@ -51,7 +51,7 @@ impl Direction<Reach> for Gather {
     ) -> Result<JobList<Reach>, OutOfMemory> {
         let mut jobs = Vec::new(alloc);
         jobs.push(gathering(transitions.entry(taken)))?;
-        Ok(JobList::new(jobs))
+        Ok(JobList::from_vec(jobs))
     }
 
     fn candidate(
@@ -72,7 +72,7 @@ impl Direction<Reach> for Gather {
 }
 
 /// The job of a transition.
-pub fn gathering(taken: &Entry<Reach>) -> Job<Reach>
+pub(crate) fn gathering(taken: &Entry<Reach>) -> Job<Reach>
     ensures { result ≡ gathered taken.now }
 {
     Job {

@@ -11,6 +11,7 @@ use std::alloc::Global;
 use std::marker::Model;
 use weighted_automata::Place;
 use witness_graph::Side;
+use wpds_base::Sequence;
 
 /// What a book keeps of a hand that is out: the place that was taken, and the jobs that this gave.
 #[derive(Drop)]
@@ -44,34 +45,7 @@ pub enum Taken<S: Semiring> {
 }
 
 /// Weights, in order.
-#[derive(Drop)]
-pub struct WeightList<S: Semiring> {
-    weights: Vec<S::W>,
-}
-
-impl<S: Semiring> Model for WeightList<S> {
-    ghost use Rattle.std.specs.Prelude.{List};
-
-    ghost Value = { List S.W };
-
-    ghost view = { λ l. l.weights.items };
-}
-
-impl<S: Semiring> WeightList<S> {
-    /// These weights. It takes no memory.
-    pub fn new(weights: Vec<S::W>) -> WeightList<S>
-        ensures { result ≡ weights.items }
-    {
-        WeightList { weights }
-    }
-
-    /// The weights.
-    pub fn as_slice(&self) -> &[S::W]
-        ensures { result.now ≡ self.now }
-    {
-        &self.weights
-    }
-}
+pub type WeightList<S> = Sequence<S::W>;
 
 /// A hand whose jobs are worked out: what each is worth, which way, and over which system. The weights of their inputs
 /// are the semiring's.
@@ -148,7 +122,7 @@ impl<S: Semiring> Hand<S> {
             Ok(weights) => Ok(Done {
                 seat: self.seat,
                 jobs: self.jobs,
-                candidates: WeightList::new(weights),
+                candidates: WeightList::from_vec(weights),
                 side: direction.side(),
                 system,
             }),

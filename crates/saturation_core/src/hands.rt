@@ -7,7 +7,7 @@ use semiring_laws::Semiring;
 use weighted_automata::Place;
 
 /// Whether no hand is out.
-pub fn none_out<S: Semiring>(out: &[Option<Holding<S>>]) -> bool
+pub(crate) fn none_out<S: Semiring>(out: &[Option<Holding<S>>]) -> bool
     ensures { IsTrue result ↔ ((seat : ℕ) → hand_at seat out.now ≡ None) }
 {
     for h in out {
@@ -19,7 +19,7 @@ pub fn none_out<S: Semiring>(out: &[Option<Holding<S>>]) -> bool
 }
 
 /// The seats that have hands.
-pub fn seats_out<S: Semiring>(out: &[Option<Holding<S>>]) -> SeatSet
+pub(crate) fn seats_out<S: Semiring>(out: &[Option<Holding<S>>]) -> SeatSet
     requires { length out.now ≤ 64 }
     ensures { result.bits ≡ seat_bits out.now }
 {
@@ -43,7 +43,7 @@ fn seat_bit<S: Semiring>(held: &Option<Holding<S>>) -> u64
 }
 
 /// The place that a seat has taken.
-pub fn place_out<S: Semiring>(out: &[Option<Holding<S>>], seat: usize) -> Option<Place>
+pub(crate) fn place_out<S: Semiring>(out: &[Option<Holding<S>>], seat: usize) -> Option<Place>
     ensures { result ≡ option_map (λ h. h.place) (hand_at seat out.now) }
 {
     if seat >= out.len() {
@@ -56,7 +56,11 @@ pub fn place_out<S: Semiring>(out: &[Option<Holding<S>>], seat: usize) -> Option
 }
 
 /// Sets what a seat holds.
-pub fn put<S: Semiring>(out: &mut Vec<Option<Holding<S>>>, seat: usize, to: Option<Holding<S>>)
+pub(crate) fn put<S: Semiring>(
+    out: &mut Vec<Option<Holding<S>>>,
+    seat: usize,
+    to: Option<Holding<S>>,
+)
     ensures { out.new.items ≡ slice_set out.old.items seat to }
 {
     if seat < out.len() {

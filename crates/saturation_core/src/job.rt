@@ -1,8 +1,8 @@
 ghost use Rattle.std.specs.Prelude.{◌≡◌};
 
 use semiring_laws::Semiring;
-use std::marker::Model;
 use weighted_automata::{Entry, Place};
+use wpds_base::Sequence;
 
 /// The rows of the two tables of saturation rules, backwards and forwards (Schwoon 2002; Reps, Schwoon, Jha, Melski 2005).
 #[derive(Clone, Copy, Debug, PartialEq, Eq)]
@@ -48,39 +48,4 @@ pub struct Job<S: Semiring> {
 }
 
 /// Jobs, in order.
-#[derive(Drop)]
-pub struct JobList<S: Semiring> {
-    jobs: Vec<Job<S>>,
-}
-
-impl<S: Semiring> Model for JobList<S> {
-    ghost use Rattle.std.specs.Prelude.{List};
-    ghost use Rattle.saturation_core.specs.declared.job.Job.{Job};
-
-    ghost Value = { List (Job S S.W S.Ret) };
-
-    ghost view = { λ l. l.jobs.items };
-}
-
-impl<S: Semiring> JobList<S> {
-    /// These jobs. It takes no memory.
-    pub fn new(jobs: Vec<Job<S>>) -> JobList<S>
-        ensures { result ≡ jobs.items }
-    {
-        JobList { jobs }
-    }
-
-    /// The jobs.
-    pub fn as_slice(&self) -> &[Job<S>]
-        ensures { result.now ≡ self.now }
-    {
-        &self.jobs
-    }
-
-    /// The jobs, given back without memory.
-    pub fn into_vec(self) -> Vec<Job<S>>
-        ensures { result.items ≡ self }
-    {
-        self.jobs
-    }
-}
+pub type JobList<S> = Sequence<Job<S>>;

@@ -4,7 +4,7 @@ ghost use Rattle.saturation_core.specs.Bound.{takes, takes_of, is_take, is_take_
 use crate::Event;
 
 /// How many of the events are takes.
-pub fn count_takes(events: &[Event]) -> u128
+pub(crate) fn count_takes(events: &[Event]) -> u128
     ensures { result ≡ takes events.now }
 {
     let mut count = 0;
@@ -17,7 +17,7 @@ pub fn count_takes(events: &[Event]) -> u128
 }
 
 /// How many of the events are takes of this seat.
-pub fn count_takes_of(events: &[Event], seat: u32) -> u128
+pub(crate) fn count_takes_of(events: &[Event], seat: u32) -> u128
     ensures { result ≡ takes_of seat events.now }
 {
     let mut count = 0;

@@ -13,7 +13,7 @@ use std::alloc::Global;
 use std::collections::VecDeque;
 use weighted_automata::{Place, Transitions};
 use witness_graph::Graph;
-use wpds_port::OutOfMemory;
+use wpds_base::OutOfMemory;
 
 // The goals of a plan, in order.
 fn goals<S: Semiring>(alloc: Global, plan: &[Planned<S>]) -> Result<Vec<Place>, OutOfMemory>
@@ -27,7 +27,7 @@ fn goals<S: Semiring>(alloc: Global, plan: &[Planned<S>]) -> Result<Vec<Place>, 
 }
 
 /// Makes room for the lowerings of a plan, and in the queue for 64 places more. What was found stays as it was.
-pub fn make_room<S: Semiring>(
+pub(crate) fn make_room<S: Semiring>(
     alloc: Global,
     plan: &[Planned<S>],
     transitions: &mut Transitions<S>,
@@ -80,7 +80,7 @@ fn lower<S: Semiring>(
 }
 
 /// Makes the lowerings of a plan in order, where there is room for them. It takes no memory.
-pub fn lower_all<S: Semiring>(
+pub(crate) fn lower_all<S: Semiring>(
     alloc: Global,
     plan: Vec<Planned<S>>,
     transitions: &mut Transitions<S>,

@@ -14,14 +14,14 @@ use semiring_laws::Semiring;
 use std::alloc::Global;
 use weighted_automata::{Entry, Place, Transitions};
 use witness_graph::Node;
-use wpds_port::OutOfMemory;
+use wpds_base::OutOfMemory;
 
 /// A lowering that is still to be made: the goal, its new weight, and the node of its runs.
 #[derive(Drop)]
-pub struct Planned<S: Semiring> {
-    pub goal: Place,
-    pub weight: S::W,
-    pub node: Node,
+pub(crate) struct Planned<S: Semiring> {
+    pub(crate) goal: Place,
+    pub(crate) weight: S::W,
+    pub(crate) node: Node,
 }
 
 // Where the last lowering of a place stands.
@@ -157,7 +157,7 @@ fn add<S: Semiring>(plan: &mut Vec<Planned<S>>, step: Option<Planned<S>>) -> Res
 }
 
 /// What jobs of these worths lower, one after the other, where the first new node has the number `nodes`.
-pub fn plan_jobs<S: Semiring>(
+pub(crate) fn plan_jobs<S: Semiring>(
     semiring: &S,
     alloc: Global,
     transitions: &Transitions<S>,

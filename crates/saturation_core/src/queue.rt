@@ -2,7 +2,7 @@ ghost use Rattle.std.specs.Prelude.{◌≡◌, ◌<◌, ◌≤◌, ◌+◌, IfOk
 ghost use Rattle.std.specs.VecDeque.{deque_len, deque_capacity};
 ghost use Rattle.weighted_automata.specs.Places.{has_place};
 ghost use Rattle.saturation_core.specs.declared.opening.Opening.{Opening as OpeningValue};
-ghost use Rattle.saturation_core.specs.Lists.{queued};
+ghost use Rattle.saturation_core.specs.Queues.{queued};
 ghost use Rattle.saturation_core.specs.Ways.{HaveFitWeights, jobs_of_place};
 
 use crate::{Direction, JobList};
@@ -11,7 +11,7 @@ use semiring_laws::Semiring;
 use std::alloc::Global;
 use std::collections::VecDeque;
 use weighted_automata::{Place, Transitions};
-use wpds_port::OutOfMemory;
+use wpds_base::OutOfMemory;
 
 // Whether a place waits.
 fn waits(queue: &VecDeque<Place>, x: Place) -> bool
@@ -34,7 +34,7 @@ fn stands_in(places: &[Place], x: Place) -> bool
 }
 
 /// Puts a place last, unless it waits.
-pub fn enqueue(queue: &mut VecDeque<Place>, x: Place)
+pub(crate) fn enqueue(queue: &mut VecDeque<Place>, x: Place)
     requires { deque_len queue.old < deque_capacity queue.old }
     ensures items { queue.new.items ≡ queued x queue.old.items }
     ensures len { deque_len queue.new ≤ deque_len queue.old + 1 }
@@ -46,14 +46,14 @@ pub fn enqueue(queue: &mut VecDeque<Place>, x: Place)
 }
 
 /// The place that waits longest.
-pub fn front(queue: &VecDeque<Place>) -> Option<Place>
+pub(crate) fn front(queue: &VecDeque<Place>) -> Option<Place>
     ensures { MatchOption result (queue.now.items ≡ []) (λ x. queue.now.items ≡ x ∷ drop 1 queue.now.items) }
 {
     queue.front().copied()
 }
 
 /// The jobs of the transition at a place.
-pub fn list_jobs<S: Semiring, D: Direction<S>>(
+pub(crate) fn list_jobs<S: Semiring, D: Direction<S>>(
     direction: &D,
     alloc: Global,
     system: &System<S>,
@@ -67,6 +67,6 @@ pub fn list_jobs<S: Semiring, D: Direction<S>>(
 {
     match transitions.find(place) {
         Some(k) => direction.jobs(alloc, system, transitions, k),
-        None => Ok(JobList::new(Vec::new(alloc))),
+        None => Ok(JobList::from_vec(Vec::new(alloc))),
     }
 }

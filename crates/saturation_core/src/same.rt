@@ -11,7 +11,7 @@ use weighted_automata::Entry;
 use witness_graph::Side;
 
 /// Whether two sides are one.
-pub fn same_side(one: Side, other: Side) -> bool
+pub(crate) fn same_side(one: Side, other: Side) -> bool
     ensures { IsTrue result ↔ (one ≡ other) }
 {
     one == other
@@ -64,7 +64,7 @@ fn same_jobs<S: Semiring>(semiring: &S, one: &[Job<S>], other: &[Job<S>]) -> boo
 }
 
 /// Whether a seat's hand lists these jobs.
-pub fn lists<S: Semiring>(
+pub(crate) fn lists<S: Semiring>(
     semiring: &S,
     out: &[Option<Holding<S>>],
     seat: usize,
@@ -115,7 +115,7 @@ fn agrees<S: Semiring>(one: &System<S>, other: &System<S>, job: &Job<S>) -> bool
 }
 
 /// Whether two systems over one semiring have the same rules where one of the jobs names one. No other rule is compared.
-pub fn agree<S: Semiring>(one: &System<S>, other: &System<S>, jobs: &[Job<S>]) -> bool
+pub(crate) fn agree<S: Semiring>(one: &System<S>, other: &System<S>, jobs: &[Job<S>]) -> bool
     requires { one.now.semiring ≡ other.now.semiring }
     ensures { IsTrue result ↔ All (AgreeOn one.now other.now) jobs.now }
 {

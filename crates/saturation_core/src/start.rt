@@ -12,10 +12,10 @@ use std::alloc::Global;
 use std::collections::VecDeque;
 use weighted_automata::{Label, Place, Transitions};
 use witness_graph::{Graph, Node, Side};
-use wpds_port::OutOfMemory;
+use wpds_base::OutOfMemory;
 
 /// A seat for each of 64 workers, without hands.
-pub fn no_hands<S: Semiring>(alloc: Global) -> Result<Vec<Option<Holding<S>>>, OutOfMemory>
+pub(crate) fn no_hands<S: Semiring>(alloc: Global) -> Result<Vec<Option<Holding<S>>>, OutOfMemory>
     ensures { IfOk result (λ v. v.items ≡ replicate 64 None) }
 {
     let mut out = Vec::new(alloc);
@@ -26,7 +26,7 @@ pub fn no_hands<S: Semiring>(alloc: Global) -> Result<Vec<Option<Holding<S>>>, O
 }
 
 /// The empty run alone.
-pub fn empty_run(alloc: Global, side: Side) -> Result<Graph, OutOfMemory>
+pub(crate) fn empty_run(alloc: Global, side: Side) -> Result<Graph, OutOfMemory>
     ensures nodes { IfOk result (λ g. g.nodes ≡ Start ∷ []) }
     ensures side { IfOk result (λ g. g.side ≡ side) }
 {
@@ -36,7 +36,7 @@ pub fn empty_run(alloc: Global, side: Side) -> Result<Graph, OutOfMemory>
 }
 
 /// Adds the edges, each with weight one and the node of the empty run. After want of memory the parts are of no use.
-pub fn add_edges<S: Semiring>(
+pub(crate) fn add_edges<S: Semiring>(
     semiring: &S,
     alloc: Global,
     edges: &[Place],
@@ -75,7 +75,7 @@ fn add_pop<S: Semiring>(
     ensures side { graph.new.side ≡ graph.old.side }
 {
     let rule = system.rule(k);
-    if !rule.right.symbols().is_empty() {
+    if !rule.right.as_slice().is_empty() {
         return Ok(());
     }
     let place = Place {
@@ -99,7 +99,7 @@ fn add_pop<S: Semiring>(
 }
 
 /// Adds the place of each pop rule, with the rule's weight. After want of memory the parts are of no use.
-pub fn add_pops<S: Semiring>(
+pub(crate) fn add_pops<S: Semiring>(
     system: &System<S>,
     alloc: Global,
     transitions: &mut Transitions<S>,
@@ -118,7 +118,7 @@ pub fn add_pops<S: Semiring>(
 }
 
 /// Adds what the side adds to the edges. After want of memory the parts are of no use.
-pub fn add_pops_of<S: Semiring>(
+pub(crate) fn add_pops_of<S: Semiring>(
     side: Side,
     system: &System<S>,
     alloc: Global,

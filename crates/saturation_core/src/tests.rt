@@ -9,7 +9,7 @@ use std::alloc::Global;
 use std::test::Fail;
 use weighted_automata::{Label, Place};
 use witness_graph::Side;
-use wpds_port::OutOfMemory;
+use wpds_base::OutOfMemory;
 
 const FORWARDS: Gather = Gather { side: Side::Post };
 
@@ -28,8 +28,8 @@ fn opened<'s>(
     edges: &[Place],
 ) -> Result<Book<'s, Reach, Gather>, OutOfMemory> {
     let opening = Opening {
-        edges: PlaceList::new(edges.to_vec(alloc)?),
-        finals: StateList::new(Vec::new(alloc)),
+        edges: PlaceList::from_vec(edges.to_vec(alloc)?),
+        finals: StateList::from_vec(Vec::new(alloc)),
     };
     Book::open(alloc, system, FORWARDS, opening)
 }

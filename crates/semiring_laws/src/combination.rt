@@ -4,7 +4,7 @@ ghost use Rattle.semiring_laws.specs.Combination.{combination};
 
 use crate::Semiring;
 use std::alloc::Global;
-use wpds_port::OutOfMemory;
+use wpds_base::OutOfMemory;
 
 /// The combination of finitely many weights.
 pub fn combine_all<S: Semiring>(

@@ -3,7 +3,7 @@ ghost use Rattle.semiring_laws.specs.Reach.{reach_operations, reach_laws};
 
 use crate::Semiring;
 use std::alloc::Global;
-use wpds_port::OutOfMemory;
+use wpds_base::OutOfMemory;
 
 /// Whether there is a run.
 #[derive(Clone, Copy, Debug, PartialEq, Eq)]

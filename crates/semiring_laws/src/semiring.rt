@@ -2,7 +2,7 @@ ghost use Rattle.std.specs.Prelude.{◌≡◌, ◌↔◌, IsTrue, IfOk};
 ghost use Rattle.semiring_laws.specs.Semiring.{Operations, Fits, FitsMap, IsSemiring};
 
 use std::alloc::Global;
-use wpds_port::OutOfMemory;
+use wpds_base::OutOfMemory;
 
 /// A bounded idempotent semiring. The values of `Self` are its parameters, as a cap or a number of facts.
 pub trait Semiring: Drop {

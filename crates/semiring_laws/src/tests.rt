@@ -4,7 +4,7 @@ ghost use Rattle.semiring_laws.specs.Semiring.{Fits, FitsMap};
 use crate::{NoMap, Reach, Semiring, combine_all};
 use std::alloc::Global;
 use std::test::Fail;
-use wpds_port::OutOfMemory;
+use wpds_base::OutOfMemory;
 
 // What a semiring makes of two weights.
 #[derive(Clone, Copy, Debug, PartialEq, Eq, Drop)]

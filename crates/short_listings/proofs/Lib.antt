@@ -1,4 +1,5 @@
-pub mod OfParts
-pub mod OfShorter
-pub mod OfTight
-pub mod OfLength
+mod PartLemmas
+mod ShorterLemmas
+mod TightLemmas
+mod LengthLemmas
+pub mod CallerLemmas

@@ -4,7 +4,7 @@ ghost use Rattle.short_listings.specs.Shorter as shorter;
 
 use std::alloc::Global;
 use witness_graph::{Graph, Listing, Node};
-use wpds_port::OutOfMemory;
+use wpds_base::OutOfMemory;
 
 fn begins_empty(nodes: &[Node]) -> bool
     ensures { result ≡ shorter.begins_empty nodes.now }

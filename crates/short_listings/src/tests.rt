@@ -3,7 +3,7 @@ use semiring_laws::Reach;
 use std::alloc::Global;
 use std::test::Fail;
 use witness_graph::{Graph, Listing, Node, Side};
-use wpds_port::OutOfMemory;
+use wpds_base::OutOfMemory;
 
 const fn lower(
     before: Option<u64>,

@@ -1,10 +1,10 @@
-pub mod Lists
-pub mod OfFirstForm
-pub mod OfNames
-pub mod OfNumbers
-pub mod OfReading
-pub mod OfRules
-pub mod OfWeights
-pub mod Options
-mod Rows
-pub mod Written
+mod Lists
+mod FirstFormLemmas
+mod NameLemmas
+mod NumberLemmas
+mod ReadingLemmas
+mod RuleLemmas
+mod WeightLemmas
+mod Options
+mod Examples
+mod Written

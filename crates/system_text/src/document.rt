@@ -1,37 +1,10 @@
 ghost use Rattle.std.specs.Prelude.{◌≡◌};
 
 use crate::Names;
-use std::marker::Model;
+use wpds_base::Sequence;
 
 /// The numbers of symbols.
-#[derive(Drop)]
-pub struct Symbols {
-    numbers: Vec<u32>,
-}
-
-impl Model for Symbols {
-    ghost use Rattle.std.specs.Prelude.{List, ℕ};
-
-    ghost Value = { List ℕ };
-
-    ghost view = { λ s. s.numbers.items };
-}
-
-impl Symbols {
-    /// These numbers, the first one first. It takes no memory.
-    pub fn from_vec(numbers: Vec<u32>) -> Symbols
-        ensures { result ≡ numbers.items }
-    {
-        Symbols { numbers }
-    }
-
-    /// The numbers in order.
-    pub fn as_slice(&self) -> &[u32]
-        ensures { result.now ≡ self.now }
-    {
-        self.numbers.as_slice()
-    }
-}
+pub type Symbols = Sequence<u32>;
 
 /// What the weights of a document are: reachability, or the least cost up to a cap.
 #[derive(Clone, Copy, Debug, PartialEq, Eq)]
@@ -58,35 +31,7 @@ pub struct RuleLine {
 }
 
 /// The rules of a document, in the order of their lines.
-#[derive(Drop)]
-pub struct RuleLines {
-    rules: Vec<RuleLine>,
-}
-
-impl Model for RuleLines {
-    ghost use Rattle.std.specs.Prelude.{List};
-    ghost use Rattle.system_text.specs.declared.document.RuleLine.{RuleLine};
-
-    ghost Value = { List RuleLine };
-
-    ghost view = { λ r. r.rules.items };
-}
-
-impl RuleLines {
-    /// These rules, the first one first. It takes no memory.
-    pub fn from_vec(rules: Vec<RuleLine>) -> RuleLines
-        ensures { result ≡ rules.items }
-    {
-        RuleLines { rules }
-    }
-
-    /// The rules in order.
-    pub fn as_slice(&self) -> &[RuleLine]
-        ensures { result.now ≡ self.now }
-    {
-        self.rules.as_slice()
-    }
-}
+pub type RuleLines = Sequence<RuleLine>;
 
 /// A configuration as it is written: a control, and a stack whose top stands first.
 #[derive(Drop)]

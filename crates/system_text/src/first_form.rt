@@ -12,7 +12,7 @@ use crate::cut::lines_of;
 use crate::reading::{names, query, rules, says};
 use crate::weights::weights;
 use std::alloc::Global;
-use wpds_port::OutOfMemory;
+use wpds_base::OutOfMemory;
 
 const MOST_CONTROLS: usize = 1_000;
 

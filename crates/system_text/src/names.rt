@@ -4,7 +4,7 @@ ghost use Rattle.system_text.specs.Names.{is_among, name as name_at, number_in};
 use indexmap::IndexSet;
 use std::alloc::Global;
 use std::marker::Model;
-use wpds_port::OutOfMemory;
+use wpds_base::OutOfMemory;
 
 /// The names of one class, at most 40,000, each once, in the order in which they were declared. A name's number is its place,
 /// from 0.

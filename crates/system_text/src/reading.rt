@@ -10,7 +10,7 @@ use crate::weights::right_side;
 use crate::words::may_be_declared;
 use crate::{ConfigText, Names, QueryLine, RuleLine, RuleLines, Symbols, WeightText, WeightsLine};
 use std::alloc::Global;
-use wpds_port::OutOfMemory;
+use wpds_base::OutOfMemory;
 
 const RULE: &[u8] = b"rule";
 

@@ -1,7 +1,7 @@
 use crate::{WeightText, WeightsLine, read_first_form};
 use std::alloc::{AllocError, Global};
 use std::test::Fail;
-use wpds_port::OutOfMemory;
+use wpds_base::OutOfMemory;
 
 const SMALLEST: &[u8] = b"wpds 1\nweights reach\ncontrols p\nsymbols a\nquery p: => p:\n";
 

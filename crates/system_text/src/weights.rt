@@ -10,7 +10,7 @@ ghost use Rattle.system_text.specs.Reading.{cost_up_to, weights_named, weights_o
 use crate::cut::words_of;
 use crate::{WeightText, WeightsLine};
 use std::alloc::Global;
-use wpds_port::OutOfMemory;
+use wpds_base::OutOfMemory;
 
 const WEIGHTS: &[u8] = b"weights";
 

@@ -1,7 +1,7 @@
-pub mod OfMachine
-pub mod OfOperands
-pub mod OfOutcomes
-pub mod OfStacks
-pub mod OfTexts
-pub mod Readings
-pub mod Trees
+mod MachineLemmas
+mod OperandLemmas
+mod OutcomeLemmas
+mod StackLemmas
+mod TextLemmas
+mod Readings
+mod Trees

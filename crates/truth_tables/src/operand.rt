@@ -3,11 +3,12 @@ ghost use Rattle.truth_tables.specs.Operands.{both_of, level_more, built_of, ope
 
 use crate::RawExpr;
 use std::alloc::Global;
-use wpds_port::{OutOfMemory, Text};
+use wpds_base::OutOfMemory;
+use wpds_port::Text;
 
 /// Why an expression that has its form is not read.
 #[derive(Clone, Copy, Debug, PartialEq, Eq)]
-pub enum Unread {
+pub(crate) enum Unread {
     /// The number of a table is too large.
     Table,
     /// It is too deep.
@@ -16,16 +17,16 @@ pub enum Unread {
 
 /// An expression that was read, and how deep it was written.
 #[derive(Drop)]
-pub struct Built {
-    pub expr: RawExpr,
-    pub depth: u32,
+pub(crate) struct Built {
+    pub(crate) expr: RawExpr,
+    pub(crate) depth: u32,
 }
 
 /// A part of an expression while it is read: built, as long as it is not too deep.
-pub type Operand = Result<Built, Unread>;
+pub(crate) type Operand = Result<Built, Unread>;
 
 /// The number of a table, if it is not too large.
-pub type TableNumber = Result<u8, Unread>;
+pub(crate) type TableNumber = Result<u8, Unread>;
 
 // Both values, or what keeps one of them from being read, a table's number first.
 fn both<A: Drop, B: Drop>(a: Result<A, Unread>, b: Result<B, Unread>) -> Result<(A, B), Unread>
@@ -54,14 +55,14 @@ fn above(limit: u32, below: u32, expr: RawExpr) -> Operand
 }
 
 /// A constant as an expression.
-pub fn constant(limit: u32, value: bool) -> Operand
+pub(crate) fn constant(limit: u32, value: bool) -> Operand
     ensures { operand_of result ≡ level_more limit 0 (Const value) }
 {
     above(limit, 0, RawExpr::Const(value))
 }
 
 /// A variable as an expression. Its name is copied.
-pub fn variable(alloc: Global, limit: u32, name: &Text) -> Result<Operand, OutOfMemory>
+pub(crate) fn variable(alloc: Global, limit: u32, name: &Text) -> Result<Operand, OutOfMemory>
     ensures { IfOk result (λ e. operand_of e ≡ level_more limit 0 (Var name.now)) }
 {
     let name = Text::of(alloc, name.as_bytes())?;
@@ -69,7 +70,7 @@ pub fn variable(alloc: Global, limit: u32, name: &Text) -> Result<Operand, OutOf
 }
 
 /// An expression in brackets, which is one level deeper.
-pub fn bracket(limit: u32, operand: Operand) -> Operand
+pub(crate) fn bracket(limit: u32, operand: Operand) -> Operand
     ensures { operand_of result ≡ bracketed limit (operand_of operand) }
 {
     match operand {
@@ -79,7 +80,7 @@ pub fn bracket(limit: u32, operand: Operand) -> Operand
 }
 
 /// The inverse of an expression, which is one level deeper.
-pub fn inverse(alloc: Global, limit: u32, operand: Operand) -> Result<Operand, OutOfMemory>
+pub(crate) fn inverse(alloc: Global, limit: u32, operand: Operand) -> Result<Operand, OutOfMemory>
     ensures { IfOk result (λ e. operand_of e ≡ opposite limit (operand_of operand)) }
 {
     match operand {
@@ -91,8 +92,8 @@ pub fn inverse(alloc: Global, limit: u32, operand: Operand) -> Result<Operand, O
     }
 }
 
-#[tactic(auto, using(crate::proofs::OfOperands::two_built, crate::proofs::OfOperands::two_unread))]
-pub fn two(
+#[tactic(auto, using(crate::proofs::OperandLemmas::two_built, crate::proofs::OperandLemmas::two_unread))]
+pub(crate) fn two(
     alloc: Global,
     limit: u32,
     table: TableNumber,
@@ -115,8 +116,8 @@ pub fn two(
     }
 }
 
-#[tactic(auto, using(crate::proofs::OfOperands::three_built, crate::proofs::OfOperands::three_unread))]
-pub fn three(
+#[tactic(auto, using(crate::proofs::OperandLemmas::three_built, crate::proofs::OperandLemmas::three_unread))]
+pub(crate) fn three(
     alloc: Global,
     limit: u32,
     table: TableNumber,
@@ -142,7 +143,7 @@ pub fn three(
 }
 
 /// The number that the digits write, if it is at most `most`.
-pub fn table_number(digits: &[u8], most: u8) -> TableNumber
+pub(crate) fn table_number(digits: &[u8], most: u8) -> TableNumber
     ensures { result ≡ table_at_most most digits.now }
 {
     let mut number: u32 = 0;

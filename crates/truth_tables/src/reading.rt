@@ -11,7 +11,8 @@ use crate::operand::{Operand, Unread};
 use crate::stack::Position;
 use crate::steps::{finish, step};
 use std::alloc::Global;
-use wpds_port::{Mark, OutOfMemory, Token, Word};
+use wpds_base::OutOfMemory;
+use wpds_port::{Mark, Token, Word};
 
 /// What reading an expression answers.
 #[derive(Debug, Drop)]
@@ -122,7 +123,7 @@ fn answer_made(made: Option<Operand>, next: usize) -> ExprRead
 }
 
 // The answer on a text behind which the token `next` stands.
-#[tactic(auto, using(crate::proofs::OfTexts::answer_unlawful, crate::proofs::OfTexts::answer_made))]
+#[tactic(auto, using(crate::proofs::TextLemmas::answer_unlawful, crate::proofs::TextLemmas::answer_made))]
 fn answer(alloc: Global, text: &[Token], next: usize, depth: u32) -> Result<ExprRead, OutOfMemory>
     ensures { IfOk result (IsAnswer (words_of text.now) next depth) }
 {

@@ -8,11 +8,12 @@ use crate::operand::{
     Operand, TableNumber, bracket, constant, inverse, table_number, three, two, variable,
 };
 use std::alloc::Global;
-use wpds_port::{Mark, OutOfMemory, Text, Word};
+use wpds_base::OutOfMemory;
+use wpds_port::{Mark, Text, Word};
 
 /// What stands open before an operand.
 #[derive(Drop)]
-pub enum OpenPart {
+pub(crate) enum OpenPart {
     Not,
     Operator(Operator, Operand),
     Bracket,
@@ -27,7 +28,7 @@ pub enum OpenPart {
 
 /// Where the reading of an expression stands, beside the stack of what is open.
 #[derive(Drop)]
-pub enum Position {
+pub(crate) enum Position {
     /// An operand is wanted.
     Wanted,
     /// Behind `tab2` or `tab3`.
@@ -41,8 +42,8 @@ pub enum Position {
 }
 
 /// Joins an operand with what is open before it and binds at least as strongly.
-#[tactic(auto, using(crate::proofs::OfStacks::joins_not, crate::proofs::OfStacks::joins_two, crate::proofs::OfStacks::joins_less, crate::proofs::OfStacks::joins_other))]
-pub fn join(
+#[tactic(auto, using(crate::proofs::StackLemmas::joins_not, crate::proofs::StackLemmas::joins_two, crate::proofs::StackLemmas::joins_less, crate::proofs::StackLemmas::joins_other))]
+pub(crate) fn join(
     alloc: Global,
     limit: u32,
     stack: &mut Vec<OpenPart>,

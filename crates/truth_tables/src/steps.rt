@@ -9,7 +9,8 @@ use crate::Operator;
 use crate::operand::{Operand, bracket, constant, table_number, three, two, variable};
 use crate::stack::{OpenPart, Position, join};
 use std::alloc::Global;
-use wpds_port::{Mark, OutOfMemory, Text, Word};
+use wpds_base::OutOfMemory;
+use wpds_port::{Mark, Text, Word};
 
 // A name where an operand is wanted.
 fn at_name(alloc: Global, limit: u32, name: &Text) -> Result<Option<Position>, OutOfMemory>
@@ -43,7 +44,7 @@ fn at_number(limit: u32, number: &Text) -> Option<Position>
 }
 
 // Leaves a part open, behind which an operand is wanted.
-#[tactic(auto, using(crate::proofs::OfStacks::pushed))]
+#[tactic(auto, using(crate::proofs::StackLemmas::pushed))]
 fn open(stack: &mut Vec<OpenPart>, part: OpenPart) -> Result<Option<Position>, OutOfMemory>
     ensures { IfOk result (λ o. option_map (λ q. position_of q stack.new.items) o ≡ part_pushed (stack_of stack.old.items) part) }
 {
@@ -71,7 +72,7 @@ fn at_operand(
 }
 
 // A comma behind an operand that is joined.
-#[tactic(auto, using(crate::proofs::OfStacks::comma_none, crate::proofs::OfStacks::comma_first2, crate::proofs::OfStacks::comma_first3, crate::proofs::OfStacks::comma_second3, crate::proofs::OfStacks::comma_other))]
+#[tactic(auto, using(crate::proofs::StackLemmas::comma_none, crate::proofs::StackLemmas::comma_first2, crate::proofs::StackLemmas::comma_first3, crate::proofs::StackLemmas::comma_second3, crate::proofs::StackLemmas::comma_other))]
 fn at_comma(stack: &mut Vec<OpenPart>, operand: Operand) -> Result<Option<Position>, OutOfMemory>
     ensures { (limit : ℕ) → IfOk result (λ o. option_map (λ q. position_of q stack.new.items) o
         ≡ behind_comma (parts limit) (stack_of stack.old.items) (operand_of operand)) }
@@ -88,7 +89,7 @@ fn at_comma(stack: &mut Vec<OpenPart>, operand: Operand) -> Result<Option<Positi
 }
 
 // A closing bracket behind an operand that is joined.
-#[tactic(auto, using(crate::proofs::OfStacks::close_none, crate::proofs::OfStacks::close_bracket, crate::proofs::OfStacks::close_second2, crate::proofs::OfStacks::close_third3, crate::proofs::OfStacks::close_other))]
+#[tactic(auto, using(crate::proofs::StackLemmas::close_none, crate::proofs::StackLemmas::close_bracket, crate::proofs::StackLemmas::close_second2, crate::proofs::StackLemmas::close_third3, crate::proofs::StackLemmas::close_other))]
 fn at_close(
     alloc: Global,
     limit: u32,
@@ -111,7 +112,7 @@ fn at_close(
 }
 
 // An operator behind an operand.
-#[tactic(auto, using(crate::proofs::OfStacks::operator_joined))]
+#[tactic(auto, using(crate::proofs::StackLemmas::operator_joined))]
 fn at_operator(
     alloc: Global,
     limit: u32,
@@ -127,7 +128,7 @@ fn at_operator(
 }
 
 // A mark behind an operand.
-#[tactic(auto, using(crate::proofs::OfStacks::mark_operator, crate::proofs::OfStacks::mark_comma, crate::proofs::OfStacks::mark_close, crate::proofs::OfStacks::mark_other))]
+#[tactic(auto, using(crate::proofs::StackLemmas::mark_operator, crate::proofs::StackLemmas::mark_comma, crate::proofs::StackLemmas::mark_close, crate::proofs::StackLemmas::mark_other))]
 fn behind_operand(
     alloc: Global,
     limit: u32,
@@ -155,7 +156,7 @@ fn behind_operand(
 }
 
 /// One word more of an expression's text. None: with it the text is no expression.
-pub fn step(
+pub(crate) fn step(
     alloc: Global,
     limit: u32,
     stack: &mut Vec<OpenPart>,
@@ -189,8 +190,8 @@ pub fn step(
 }
 
 /// The operand at the text's end, if nothing else is open there.
-#[tactic(auto, using(crate::proofs::OfStacks::alone_empty, crate::proofs::OfStacks::alone_open))]
-pub fn finish(
+#[tactic(auto, using(crate::proofs::StackLemmas::alone_empty, crate::proofs::StackLemmas::alone_open))]
+pub(crate) fn finish(
     alloc: Global,
     limit: u32,
     mut stack: Vec<OpenPart>,

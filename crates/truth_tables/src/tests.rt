@@ -2,7 +2,8 @@ use crate::{Expr, ExprRead, RawExpr, eval, instance2, instance3, read_expr, valu
 use std::alloc::Global;
 use std::process::Abort;
 use std::test::Fail;
-use wpds_port::{OutOfMemory, tokens};
+use wpds_base::OutOfMemory;
+use wpds_port::tokens;
 
 // Each operator by its table, in front of its operands in brackets.
 fn show(expr: &RawExpr, alloc: Global) -> Result<String, OutOfMemory> {

@@ -1,4 +1,5 @@
-pub mod OfPlaces
-pub mod OfIndices
-pub mod OfEntries
-pub mod OfRoom
+mod PlaceLemmas
+mod IndexLemmas
+mod EntryLemmas
+mod RoomLemmas
+pub mod CallerLemmas

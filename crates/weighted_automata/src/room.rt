@@ -5,10 +5,10 @@ ghost use Rattle.weighted_automata.specs.Entries.{index_where};
 
 use crate::{Entry, Place};
 use semiring_laws::Semiring;
-use wpds_port::OutOfMemory;
+use wpds_base::OutOfMemory;
 
 /// Where a place stands first.
-pub fn position(places: &[Place], place: Place) -> Option<usize>
+pub(crate) fn position(places: &[Place], place: Place) -> Option<usize>
     ensures { result ≡ index_where (λ y. same_place y place) places.now }
 {
     for (i, other) in places.iter().enumerate() {
@@ -20,7 +20,7 @@ pub fn position(places: &[Place], place: Place) -> Option<usize>
 }
 
 /// Takes a place out of those that wait for their transition, and says whether it was there.
-pub fn take_out(waiting: &mut Vec<Place>, place: Place) -> bool
+pub(crate) fn take_out(waiting: &mut Vec<Place>, place: Place) -> bool
     ensures taken { result ≡ has_place place waiting.old.items }
     ensures left { waiting.new.items ≡ without place waiting.old.items }
 {
@@ -49,7 +49,7 @@ fn make_space<S: Semiring>(
 }
 
 /// Adds a transition, and keeps room for each place that waits. Where its own place waited, there is room.
-pub fn add<S: Semiring>(
+pub(crate) fn add<S: Semiring>(
     entries: &mut Vec<Entry<S>>,
     waiting: &mut Vec<Place>,
     entry: Entry<S>,
@@ -70,7 +70,7 @@ pub fn add<S: Semiring>(
 }
 
 /// Writes a transition over another.
-pub fn replace<S: Semiring>(entries: &mut Vec<Entry<S>>, k: usize, entry: Entry<S>)
+pub(crate) fn replace<S: Semiring>(entries: &mut Vec<Entry<S>>, k: usize, entry: Entry<S>)
     ensures set { entries.new.items ≡ slice_set entries.old.items k entry }
     ensures len { vec_len entries.new ≡ vec_len entries.old }
     ensures room { vec_capacity entries.new ≡ vec_capacity entries.old }
@@ -81,7 +81,7 @@ pub fn replace<S: Semiring>(entries: &mut Vec<Entry<S>>, k: usize, entry: Entry<
 }
 
 /// Makes room for a transition at one more place.
-pub fn wait<S: Semiring>(
+pub(crate) fn wait<S: Semiring>(
     entries: &mut Vec<Entry<S>>,
     waiting: &mut Vec<Place>,
     place: Place,

@@ -8,7 +8,7 @@ use crate::{Label, Place};
 use semiring_laws::Semiring;
 use std::alloc::Global;
 use std::marker::Model;
-use wpds_port::OutOfMemory;
+use wpds_base::OutOfMemory;
 
 /// A transition, with its weight and the number of the node that stands for its runs.
 #[derive(Drop)]

@@ -12,7 +12,7 @@ use crate::Node;
 use crate::parts::NodeParts;
 use std::alloc::Global;
 use std::collections::HashMap;
-use wpds_port::OutOfMemory;
+use wpds_base::OutOfMemory;
 
 // The numbers of nodes in the order of a walk, and the place there of each number that has one.
 #[derive(Drop)]
@@ -96,7 +96,11 @@ fn post_order(alloc: Global, nodes: &NodeParts, root: u64) -> Result<Visited, Ou
 }
 
 /// The listing of a root, and what it is.
-pub fn list_nodes(alloc: Global, nodes: &NodeParts, root: u64) -> Result<Vec<Node>, OutOfMemory>
+pub(crate) fn list_nodes(
+    alloc: Global,
+    nodes: &NodeParts,
+    root: u64,
+) -> Result<Vec<Node>, OutOfMemory>
     requires root { root < length nodes.now }
     requires nodes { AreNodes nodes.now }
     ensures list { IfOk result (λ v. v.items ≡ listing_of nodes.now root) }

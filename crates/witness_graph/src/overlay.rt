@@ -8,7 +8,7 @@ use crate::parts::NodeParts;
 use crate::{Graph, Listing, Node, NodeList, Side};
 use std::alloc::Global;
 use std::marker::Model;
-use wpds_port::OutOfMemory;
+use wpds_base::OutOfMemory;
 
 /// A graph's nodes and others that are added after them. The graph itself stays as it is, and is not copied.
 #[derive(Drop)]
@@ -73,7 +73,7 @@ impl<'g> Overlay<'g> {
         let nodes = list_nodes(alloc, &parts, root)?;
         Ok(Listing {
             side: self.base.side(),
-            nodes: NodeList::new(nodes),
+            nodes: NodeList::from_vec(nodes),
         })
     }
 }

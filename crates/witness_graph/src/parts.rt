@@ -6,7 +6,7 @@ use std::marker::Model;
 
 /// Nodes in two parts, of which the second is numbered on from the first.
 #[derive(Drop)]
-pub struct NodeParts<'a> {
+pub(crate) struct NodeParts<'a> {
     base: &'a [Node],
     added: &'a [Node],
 }
@@ -22,14 +22,14 @@ impl<'a> Model for NodeParts<'a> {
 
 impl<'a> NodeParts<'a> {
     /// The nodes of the first part, and then those of the second.
-    pub fn new(base: &'a [Node], added: &'a [Node]) -> NodeParts<'a>
+    pub(crate) fn new(base: &'a [Node], added: &'a [Node]) -> NodeParts<'a>
         ensures { result ≡ base.now ++ added.now }
     {
         NodeParts { base, added }
     }
 
     /// The node with a number.
-    pub fn at(&self, k: u64) -> Node
+    pub(crate) fn at(&self, k: u64) -> Node
         requires { k < length self.now }
         ensures { result ≡ node_at self.now k }
     {

@@ -5,7 +5,7 @@ use crate::{
 use semiring_laws::Reach;
 use std::alloc::Global;
 use std::test::Fail;
-use wpds_port::OutOfMemory;
+use wpds_base::OutOfMemory;
 
 const START: Node = Node::Start;
 

@@ -1,3 +1,3 @@
-mod OfAlone
-mod OfTurns
-mod WorkedRows
+mod AloneLemmas
+mod TurnLemmas
+mod Examples

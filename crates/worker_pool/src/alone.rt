@@ -6,7 +6,7 @@ use pushdown_rules::System;
 use saturation_core::{Book, Direction, Taken};
 use semiring_laws::Semiring;
 use std::alloc::Global;
-use wpds_port::OutOfMemory;
+use wpds_base::OutOfMemory;
 
 // One turn of seat 0, which takes a transition, works out its jobs and settles them. False where nothing was left to take.
 fn turn<S: Semiring, D: Direction<S>>(

@@ -4,7 +4,8 @@
 use std::process::ExitCode;
 use std::{env, io};
 use wpds_app::{Status, run};
-use wpds_port::{OutOfMemory, StdSink, StdSource};
+use wpds_base::OutOfMemory;
+use wpds_port::{StdSink, StdSource};
 
 // The words after the program's name. Where one of them is no text, there are none, which is no command either.
 fn words(rt: &HostRuntime) -> Result<Vec<String>, OutOfMemory> {

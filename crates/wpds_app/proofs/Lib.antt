@@ -1,5 +1,5 @@
-mod OfReplies
-mod OfWords
-mod OfReports
-mod OfReporting
-pub mod OfQueries
+mod ReplyLemmas
+mod WordLemmas
+mod ReportLemmas
+mod ReportingLemmas
+mod QueryLemmas

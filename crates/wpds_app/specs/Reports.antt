@@ -9,7 +9,7 @@ use Rattle.pushdown_rules.specs.Firing.{Run}
 use Rattle.pushdown_rules.specs.Pushdown.{Pushdown}
 use Rattle.pushdown_rules.specs.Values.{value_of}
 use Rattle.pushdown_rules.specs.Answers.{Leads, HasNoFeasibleRun}
-use Rattle.config_patterns.specs.Membership.{Described, has_member}
+use Rattle.config_patterns.specs.Membership.{PatternValue, has_member}
 use Rattle.witness_graph.specs.declared.listing.Listing.{Listing}
 use Rattle.system_text.specs.declared.document.Document.{Document}
 use Rattle.system_text.specs.declared.document.WeightText.{WeightText}
@@ -31,7 +31,7 @@ query_text i brief value listing = query_line i value ++ (if brief then [] else 
 
 module _ {S W Map : Type 0} (operations : S → Operations W Map) (written : S → W → List ℕ) where
   -- The text tells an answer to the query with a number, for runs of a system from a pattern to a pattern.
-  pub record IsQueryText (p : Pushdown S W Map) (i : ℕ) (from to : Described) (brief : Bool) (text : List ℕ) : Type 0 where
+  pub record IsQueryText (p : Pushdown S W Map) (i : ℕ) (from to : PatternValue) (brief : Bool) (text : List ℕ) : Type 0 where
     pub answer : Answer S W Map
     pub is_answer : IsAnswer operations p from to answer
     pub told : text ≡ query_text i brief (written p.semiring answer.value) answer.listing
@@ -63,13 +63,13 @@ TellsReachability d report =
     ⊎ ((IsReachable d → ⊥) × (report ≡ codes "query 1: unreachable\n"))
 
 -- a run leads from a member to a member at this cost, and each such run that has a cost has no smaller one
-abbrev pub IsCheapest : Pushdown ℕ (Option ℕ) NoMap → Described → Described → ℕ → Type 0
+abbrev pub IsCheapest : Pushdown ℕ (Option ℕ) NoMap → PatternValue → PatternValue → ℕ → Type 0
 IsCheapest p from to n =
     ((run : List ℕ) × Leads (cost_operations p.semiring) p (has_member from) (has_member to) run × (value_of (cost_operations p.semiring) p run ≡ Some n))
     × ((run : List ℕ) (m : ℕ) → Leads (cost_operations p.semiring) p (has_member from) (has_member to) run → value_of (cost_operations p.semiring) p run ≡ Some m → n ≤ m)
 
 -- The text says of costs that no run leads there, or a cost below the cap, which is that of a cheapest run, or that a run leads there and each costs at least the cap.
-abbrev pub TellsCost : Pushdown ℕ (Option ℕ) NoMap → ℕ → Described → Described → List ℕ → Type 0
+abbrev pub TellsCost : Pushdown ℕ (Option ℕ) NoMap → ℕ → PatternValue → PatternValue → List ℕ → Type 0
 TellsCost p i from to text =
     (HasNoFeasibleRun (cost_operations p.semiring) p (has_member from) (has_member to) × (text ≡ query_line i (codes "unreachable")))
     ⊎ (((n : ℕ) × (n < p.semiring) × IsCheapest p from to n × (rest : List ℕ) × (text ≡ query_line i (decimal n) ++ rest))

@@ -3,7 +3,7 @@ ghost use Rattle.semiring_laws.specs.declared.reach.NoMap.{NoMap as NoMapValue};
 ghost use Rattle.cost_weights.specs.Cost.{cost_operations};
 ghost use Rattle.pushdown_rules.specs.Pushdown.{Pushdown, IsSystem};
 ghost use Rattle.pushdown_rules.specs.Answers.{HasNoFeasibleRun};
-ghost use Rattle.config_patterns.specs.Membership.{Described, has_member};
+ghost use Rattle.config_patterns.specs.Membership.{PatternValue, has_member};
 ghost use Rattle.document_systems.specs.Weights.{cost_text};
 ghost use Rattle.report_text.specs.Listings.{query_line};
 ghost use Rattle.system_text.specs.declared.document.Document.{Document};
@@ -23,7 +23,7 @@ pub fn reports_tell_reachability()
 /// What is written for a query is `unreachable` exactly where no feasible run leads from its first pattern to its second,
 /// whatever its weights.
 pub fn unreachable_where_infeasible<S: DocumentWeights>()
-    ensures { (p : Pushdown S S.W S.Ret) (i : ℕ) (from to : Described) (brief : Bool) (text : List ℕ) → S.named p.semiring → IsSystem S.operations p
+    ensures { (p : Pushdown S S.W S.Ret) (i : ℕ) (from to : PatternValue) (brief : Bool) (text : List ℕ) → S.named p.semiring → IsSystem S.operations p
         → IsQueryText S.operations S.written p i from to brief text
         → (text ≡ query_line i (codes "unreachable")) ↔ HasNoFeasibleRun (S.operations p.semiring) p (has_member from) (has_member to) }
 {
@@ -35,7 +35,7 @@ pub fn unreachable_where_infeasible<S: DocumentWeights>()
 /// What is written for a query with costs: a number below the cap is the cost of a cheapest run, and `CAP or more` says
 /// that a run leads there and that each costs at least the cap.
 pub fn costs_are_the_cheapest()
-    ensures { (p : Pushdown ℕ (Option ℕ) NoMapValue) (i : ℕ) (from to : Described) (brief : Bool) (text : List ℕ) → IsSystem cost_operations p
+    ensures { (p : Pushdown ℕ (Option ℕ) NoMapValue) (i : ℕ) (from to : PatternValue) (brief : Bool) (text : List ℕ) → IsSystem cost_operations p
         → IsQueryText cost_operations cost_text p i from to brief text → TellsCost p i from to text }
 {
     zero_where_infeasible::<Cost>();

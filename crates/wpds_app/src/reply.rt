@@ -9,7 +9,8 @@ use crate::Status;
 use crate::report::report;
 use std::alloc::Global;
 use system_text::read_first_form;
-use wpds_port::{InputFault, Kind, OutOfMemory, Refusal, Source, read_up_to};
+use wpds_base::OutOfMemory;
+use wpds_port::{InputFault, Kind, Refusal, Source, read_up_to};
 
 /// The most bytes that a document has.
 const MOST_BYTES: usize = 4_194_304;

@@ -11,7 +11,7 @@ use report_text::{listing_text, query_line};
 use semiring_laws::Reach;
 use std::alloc::Global;
 use system_text::{Document, WeightsLine};
-use wpds_port::OutOfMemory;
+use wpds_base::OutOfMemory;
 
 // The lines of an answer to the first query.
 fn answer_lines<S: DocumentWeights>(

@@ -1,7 +1,8 @@
 use crate::{Status, run};
 use std::alloc::Global;
 use std::test::Fail;
-use wpds_port::{MemSink, MemSource, OutOfMemory};
+use wpds_base::OutOfMemory;
+use wpds_port::{MemSink, MemSource};
 
 const CALL: &str =
     "wpds 1\nweights reach\ncontrols p q\nsymbols a b\nrule p a -> p b a\nrule p b -> q\nquery p: a => q: a\n";

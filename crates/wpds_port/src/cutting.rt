@@ -154,7 +154,7 @@ fn cut(alloc: Global, line: &[u8]) -> Result<Option<Vec<Token>>, OutOfMemory>
 /// Cuts a line into tokens, each as long as it can be, with blanks between them as one likes.
 ///
 /// The answer is `None` where the cutting meets a byte that begins no token.
-#[tactic(auto, using(crate::proofs::OfTokens::tokens_given, crate::proofs::OfStops::stuck_given))]
+#[tactic(auto, using(crate::proofs::TokenLemmas::tokens_given, crate::proofs::StopLemmas::stuck_given))]
 pub fn tokens(alloc: Global, line: &[u8]) -> Result<Option<TokenList>, OutOfMemory>
     ensures tokens { IfOk result (λ o. IfSome o (AreTokens 0 line.now)) }
     ensures stuck { IfOk result (λ o. IfNone o (IsStuck line.now)) }

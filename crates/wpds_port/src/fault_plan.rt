@@ -8,7 +8,7 @@ use std::marker::Model;
 ///
 /// Calls are numbered from 0. Each call past the first `u64::MAX` has the number `u64::MAX`.
 #[derive(Drop)]
-pub struct FaultPlan {
+pub(crate) struct FaultPlan {
     fails: Vec<u64>,
     made: u64,
     faults: u64,
@@ -25,7 +25,7 @@ impl Model for FaultPlan {
 
 impl FaultPlan {
     /// No call was made yet.
-    pub fn new(fails: Vec<u64>) -> FaultPlan
+    pub(crate) fn new(fails: Vec<u64>) -> FaultPlan
         ensures { result ≡ record { fails = fails.items; made = 0; faults = 0 } }
     {
         FaultPlan {
@@ -36,7 +36,7 @@ impl FaultPlan {
     }
 
     /// Counts a call, and says whether it is one of those that fail.
-    pub fn call(&mut self) -> bool
+    pub(crate) fn call(&mut self) -> bool
         ensures answer { IsTrue result ↔ FailsNext self.old }
         ensures counted { self.new ≡ one_call_more self.old }
     {
@@ -46,7 +46,7 @@ impl FaultPlan {
     }
 
     /// Counts a failure.
-    pub fn fail(&mut self) -> Failed
+    pub(crate) fn fail(&mut self) -> Failed
         ensures counted { self.new ≡ one_fault_more self.old }
         ensures later { self.old.faults ≤ self.new.faults }
     {

@@ -2,7 +2,7 @@ ghost use Rattle.std.specs.Prelude.{◌≡◌, length};
 ghost use Rattle.wpds_port.specs.Tokens.{mark_text, word_text, has_leading_zero, is_lawful_word};
 
 use crate::Text;
-use std::marker::Model;
+use wpds_base::Sequence;
 
 /// A mark of the two languages.
 #[derive(Clone, Copy, Debug, PartialEq, Eq)]
@@ -113,46 +113,4 @@ pub struct Token {
 }
 
 /// The tokens of a line, in order.
-#[derive(Debug, Drop)]
-pub struct TokenList {
-    tokens: Vec<Token>,
-}
-
-impl Model for TokenList {
-    ghost use Rattle.std.specs.Prelude.{List};
-    ghost use Rattle.wpds_port.specs.declared.token.Token.{Token};
-
-    ghost Value = { List Token };
-
-    ghost view = { λ l. l.tokens.items };
-}
-
-impl TokenList {
-    /// The list of these tokens, which are not copied.
-    pub fn from_vec(tokens: Vec<Token>) -> TokenList
-        ensures { result ≡ tokens.items }
-    {
-        TokenList { tokens }
-    }
-
-    /// The tokens again, without a copy.
-    pub fn into_vec(self) -> Vec<Token>
-        ensures { result.items ≡ self }
-    {
-        self.tokens
-    }
-
-    /// The tokens, as a slice.
-    pub fn as_slice(&self) -> &[Token]
-        ensures { result.now ≡ self.now }
-    {
-        self.tokens.as_slice()
-    }
-
-    /// How many tokens there are.
-    pub fn len(&self) -> usize
-        ensures { result ≡ length self.now }
-    {
-        self.tokens.len()
-    }
-}
+pub type TokenList = Sequence<Token>;

@@ -1,4 +1,4 @@
-use Rattle.config_patterns.proofs.OfPaths.{members_read}
+use Rattle.config_patterns.proofs.PathLemmas.{members_read}
 use Rattle.config_patterns.proofs.laws.members_are_read.Goals as goal
 
 pub returns : goal.returns

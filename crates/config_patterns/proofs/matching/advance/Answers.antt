@@ -1,5 +1,5 @@
 use Rattle.std.proofs.Common.{arith}
-use Rattle.config_patterns.proofs.OfPlaces.{advance_done}
+use Rattle.config_patterns.proofs.PlaceLemmas.{advance_done}
 use Rattle.config_patterns.proofs.matching.advance.Goals as goal
 
 pub returns : goal.returns

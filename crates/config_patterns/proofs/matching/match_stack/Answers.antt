@@ -1,5 +1,5 @@
 use Rattle.std.proofs.Common.{◌∙◌, arith, rules}
-use Rattle.config_patterns.proofs.OfPlaces.{stack_more, places_first}
+use Rattle.config_patterns.proofs.PlaceLemmas.{stack_more, places_first}
 use Rattle.config_patterns.proofs.matching.match_stack.Goals as goal
 
 pub loop-k-init : goal.loop-k-init

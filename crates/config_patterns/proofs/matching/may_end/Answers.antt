@@ -1,6 +1,6 @@
 use Rattle.std.proofs.Common.{◌≡◌, Bool, false, ◌||◌, ◌&&◌, get_or, refl, ◌∙◌, arith}
-use Rattle.config_patterns.proofs.OfTests.{or_then, or_else, and_then, and_else}
-use Rattle.config_patterns.proofs.OfPlaces.{end_turn}
+use Rattle.config_patterns.proofs.SetTestLemmas.{or_then, or_else, and_then, and_else}
+use Rattle.config_patterns.proofs.PlaceLemmas.{end_turn}
 use Rattle.config_patterns.proofs.matching.may_end.Goals as goal
 use Rattle.config_patterns.proofs.matching.may_end.Goals.{then-reached, else-reached, then-places-i, else-places-i}
 

@@ -1,4 +1,4 @@
-use Rattle.cost_weights.proofs.OfCosts.{numbers_below, below_no_run, no_run_below}
+use Rattle.cost_weights.proofs.CostLemmas.{numbers_below, below_no_run, no_run_below}
 use Rattle.cost_weights.proofs.laws.below_is_no_dearer.Goals as goal
 
 pub returns-clause-numbers : goal.returns-clause-numbers

@@ -3,9 +3,9 @@ use Rattle.diagram_store.specs.declared.branch.Branch.{Branch}
 use Rattle.diagram_store.specs.Nodes.{IsAbove}
 use Rattle.diagram_store.specs.Meaning.{value_at}
 use Rattle.diagram_ops.specs.Images.{IsValue}
-use Rattle.diagram_ops.proofs.OfKeeping.{keeps_within, keeps_both, stands_kept}
-use Rattle.diagram_ops.proofs.OfApplying.{value3_same}
-use Rattle.diagram_ops.proofs.OfVariables.{applied_below}
+use Rattle.diagram_ops.proofs.KeepingLemmas.{keeps_within, keeps_both, stands_kept}
+use Rattle.diagram_ops.proofs.ApplyingLemmas.{value3_same}
+use Rattle.diagram_ops.proofs.VariableLemmas.{applied_below}
 use Rattle.diagram_ops.proofs.applied.applied.Goals as goal
 
 pub apply-requires-clause-x : goal.apply-requires-clause-x

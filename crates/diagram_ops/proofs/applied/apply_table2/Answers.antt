@@ -1,4 +1,4 @@
-use Rattle.diagram_ops.proofs.OfVariables.{no_variables}
+use Rattle.diagram_ops.proofs.VariableLemmas.{no_variables}
 use Rattle.diagram_ops.proofs.applied.apply_table2.Goals as goal
 
 pub returns-clause-variables : goal.returns-clause-variables

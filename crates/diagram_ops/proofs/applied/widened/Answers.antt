@@ -1,4 +1,4 @@
-use Rattle.diagram_ops.proofs.OfTables.{widened_value}
+use Rattle.diagram_ops.proofs.TableLemmas.{widened_value}
 use Rattle.diagram_ops.proofs.applied.widened.Goals as goal
 
 pub returns : goal.returns

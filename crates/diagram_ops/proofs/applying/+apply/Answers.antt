@@ -2,9 +2,9 @@ use Rattle.std.proofs.Common.{◌≡◌, ℕ, List, ◌+◌, ◌<◌, true, fals
 use Rattle.diagram_store.specs.declared.branch.Branch.{Branch}
 use Rattle.diagram_ops.specs.Tables.{known}
 use Rattle.diagram_ops.specs.Applying.{cofactor, Applies}
-use Rattle.diagram_ops.proofs.OfKeeping.{keeps_same}
-use Rattle.diagram_ops.proofs.OfApplying.{applies_constant, applies_known, lowest_is, operands_fall, operand_within, applies_at, low_above, low_within, high_above, applies_step}
-use Rattle.diagram_ops.proofs.OfShortCuts.{applies_at_once}
+use Rattle.diagram_ops.proofs.KeepingLemmas.{keeps_same}
+use Rattle.diagram_ops.proofs.ApplyingLemmas.{applies_constant, applies_known, lowest_is, operands_fall, operand_within, applies_at, low_above, low_within, high_above, applies_step}
+use Rattle.diagram_ops.proofs.ShortCutLemmas.{applies_at_once}
 use Rattle.diagram_ops.proofs.applying.+apply.Goals as goal
 
 pub returns-in_default : goal.returns-in_default

@@ -2,9 +2,9 @@ use Rattle.std.proofs.Common.{◌*◌, List}
 use Rattle.diagram_store.specs.declared.branch.Branch.{Branch}
 use Rattle.diagram_store.specs.Nodes.{IsAbove}
 use Rattle.diagram_ops.specs.Images.{IsValue}
-use Rattle.diagram_ops.proofs.OfKeeping.{keeps_within, keeps_both, stands_kept}
-use Rattle.diagram_ops.proofs.OfVariables.{composed_below}
-use Rattle.diagram_ops.proofs.OfRelations.{relates_composed}
+use Rattle.diagram_ops.proofs.KeepingLemmas.{keeps_within, keeps_both, stands_kept}
+use Rattle.diagram_ops.proofs.VariableLemmas.{composed_below}
+use Rattle.diagram_ops.proofs.RelationLemmas.{relates_composed}
 use Rattle.diagram_ops.proofs.composing.compose_relations.Goals as goal
 
 pub compose-requires-clause-x : goal.compose-requires-clause-x

@@ -1,6 +1,6 @@
 use Rattle.diagram_ops.specs.Tables.{known}
-use Rattle.diagram_ops.proofs.OfApplying.{are_applied_kept}
-use Rattle.diagram_ops.proofs.OfComposing.{joined_stands}
+use Rattle.diagram_ops.proofs.ApplyingLemmas.{are_applied_kept}
+use Rattle.diagram_ops.proofs.ComposingLemmas.{joined_stands}
 use Rattle.diagram_ops.proofs.composing.join.Goals as goal
 
 pub returns-then-place-eq1-clause-stands : goal.returns-then-place-eq1-clause-stands

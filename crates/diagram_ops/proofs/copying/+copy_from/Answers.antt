@@ -1,7 +1,7 @@
 use Rattle.std.proofs.Common.{sym, ap, ◌∙◌, nat_eq}
 use Rattle.std.specs.HashMap.{get}
 use Rattle.std.specs.Prelude.{option_copied}
-use Rattle.diagram_ops.proofs.OfCopies.{copies_placed, copies_constant, copies_made}
+use Rattle.diagram_ops.proofs.CopyLemmas.{copies_placed, copies_constant, copies_made}
 use Rattle.diagram_ops.proofs.copying.+copy_from.Goals as goal
 
 pub returns-in-Some : goal.returns-in-Some

@@ -4,7 +4,7 @@ use Rattle.diagram_store.specs.Canonical.{IsCanonical}
 use Rattle.diagram_store.specs.Meaning.{value_at}
 use Rattle.std.specs.HashMap.{get}
 use Rattle.std.specs.Map.{lookup}
-use Rattle.diagram_ops.proofs.OfCopies.{copy_empty, copy_canonical}
+use Rattle.diagram_ops.proofs.CopyLemmas.{copy_empty, copy_canonical}
 use Rattle.diagram_ops.proofs.copying.copied_out.Goals as goal
 
 pub copy_from-requires-clause-copy : goal.copy_from-requires-clause-copy

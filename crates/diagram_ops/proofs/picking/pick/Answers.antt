@@ -3,11 +3,9 @@ use Rattle.std.specs.Prelude.{Some, None, nat_eq}
 use Rattle.std.proofs.lemmas.List.{length-set}
 use Rattle.std.proofs.lemmas.Bool.{cond-true, cond-false, eqb-true, eq-eqb, false_from_ne_true}
 use Rattle.diagram_store.specs.Meaning.{value_at, bits_of}
-use Rattle.diagram_store.proofs.OfNodes.{node_found, constant_below}
-use Rattle.diagram_store.proofs.OfMeanings.{branches_within}
-use Rattle.diagram_store.proofs.OfValues.{value_at_end}
-use Rattle.diagram_ops.proofs.OfImages.{root_within}
-use Rattle.diagram_ops.proofs.OfPicking.{comes_on}
+use Rattle.diagram_store.proofs.CallerLemmas.{node_found, constant_below, branches_within, value_at_end}
+use Rattle.diagram_ops.proofs.ImageLemmas.{root_within}
+use Rattle.diagram_ops.proofs.PickingLemmas.{comes_on}
 use Rattle.diagram_ops.proofs.picking.pick.Goals as goal
 
 pub returns-then-a-eq0 : goal.returns-then-a-eq0

@@ -1,5 +1,5 @@
 use Rattle.std.proofs.Common.{◌≡◌, ◌+◌, ◌<◌, length}
-use Rattle.diagram_ops.proofs.OfPicking.{Comes}
+use Rattle.diagram_ops.proofs.PickingLemmas.{Comes}
 use Rattle.diagram_ops.proofs.picking.pick.Given as goal
 
 abbrev pub invariant-loop-found : goal.invariant-loop-found

@@ -1,5 +1,5 @@
 use Rattle.std.proofs.Common.{sym, ◌∙◌}
-use Rattle.diagram_ops.proofs.OfVariables.{quantified_below}
+use Rattle.diagram_ops.proofs.VariableLemmas.{quantified_below}
 use Rattle.diagram_ops.proofs.quantifying.exists.Goals as goal
 
 pub returns-clause-value : goal.returns-clause-value

@@ -1,5 +1,5 @@
 use Rattle.std.proofs.Common.{◌∙◌}
-use Rattle.diagram_ops.proofs.OfRenaming.{named_canonical, named_value, named_below}
+use Rattle.diagram_ops.proofs.RenamingLemmas.{named_canonical, named_value, named_below}
 use Rattle.diagram_ops.proofs.renaming.rename.Goals as goal
 
 pub invariant_of-result : goal.invariant_of-result

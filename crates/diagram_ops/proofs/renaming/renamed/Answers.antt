@@ -1,6 +1,6 @@
 use Rattle.std.proofs.Common.{◌+◌, get_or}
 use Rattle.diagram_store.specs.declared.branch.Branch.{Branch}
-use Rattle.diagram_ops.proofs.OfImages.{node_of_list}
+use Rattle.diagram_ops.proofs.ImageLemmas.{node_of_list}
 use Rattle.diagram_ops.proofs.renaming.renamed.Goals as goal
 
 abbrev blank : Branch

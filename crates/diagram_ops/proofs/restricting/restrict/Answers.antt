@@ -1,5 +1,5 @@
 use Rattle.std.proofs.Common.{◌∙◌}
-use Rattle.diagram_ops.proofs.OfVariables.{restricted_below}
+use Rattle.diagram_ops.proofs.VariableLemmas.{restricted_below}
 use Rattle.diagram_ops.proofs.restricting.restrict.Goals as goal
 
 pub returns-clause-value : goal.returns-clause-value

@@ -1,6 +1,6 @@
 use Rattle.std.specs.Prelude.{bit_and, bit_xor}
 use Rattle.std.proofs.lemmas.Bool.{eqb-true, eq-eqb}
-use Rattle.diagram_ops.proofs.OfShortCuts.{same_on_rows}
+use Rattle.diagram_ops.proofs.ShortCutLemmas.{same_on_rows}
 use Rattle.diagram_ops.proofs.short_cuts.are_same_on.Goals as goal
 
 pub returns : goal.returns

@@ -1,4 +1,4 @@
-use Rattle.diagram_ops.proofs.OfShortCuts.{rows_left}
+use Rattle.diagram_ops.proofs.ShortCutLemmas.{rows_left}
 use Rattle.diagram_ops.proofs.short_cuts.possible_rows.Goals as goal
 
 pub returns : goal.returns

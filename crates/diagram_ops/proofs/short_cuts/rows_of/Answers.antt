@@ -1,5 +1,5 @@
 use Rattle.std.proofs.Common.{arith}
-use Rattle.diagram_ops.proofs.OfShortCuts.{in_all, in_inverse}
+use Rattle.diagram_ops.proofs.ShortCutLemmas.{in_all, in_inverse}
 use Rattle.diagram_ops.proofs.short_cuts.rows_of.Goals as goal
 
 pub returns-in-0 : goal.returns-in-0

@@ -1,4 +1,4 @@
-use Rattle.diagram_ops.proofs.OfShortCuts.{in_all, in_same}
+use Rattle.diagram_ops.proofs.ShortCutLemmas.{in_all, in_same}
 use Rattle.diagram_ops.proofs.short_cuts.rows_of_both.Goals as goal
 
 pub returns-then-x-y : goal.returns-then-x-y

@@ -1,6 +1,6 @@
 use Rattle.std.proofs.Common.{refl, inl, inr, arith}
 use Rattle.std.proofs.lemmas.Bool.{iff_false}
-use Rattle.diagram_ops.proofs.OfShortCuts.{made_true, made_first, made_second, made_third, taken, no_other}
+use Rattle.diagram_ops.proofs.ShortCutLemmas.{made_true, made_first, made_second, made_third, taken, no_other}
 use Rattle.diagram_ops.proofs.short_cuts.short_cut.Goals as goal
 
 pub returns-then-are_same_on-2-clause-right : goal.returns-then-are_same_on-2-clause-right

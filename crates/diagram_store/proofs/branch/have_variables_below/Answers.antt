@@ -1,7 +1,7 @@
 use Rattle.std.proofs.Common.{ℕ, suc, ◌<◌, length, get_or, refl, subst, arith, below_more}
 use Rattle.std.proofs.lemmas.Option.{slice_get_within, slice_get-get_or, get_or_from_slice_get}
 use Rattle.diagram_store.specs.declared.branch.Branch.{Branch}
-use Rattle.diagram_store.proofs.OfNodes.{variables_from_each}
+use Rattle.diagram_store.proofs.NodeLemmas.{variables_from_each}
 use Rattle.diagram_store.proofs.branch.have_variables_below.Goals as goal
 
 pub returns : goal.returns

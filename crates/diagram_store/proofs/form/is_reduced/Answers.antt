@@ -1,6 +1,6 @@
 use Rattle.std.proofs.Common.{◌≡◌, true, refl, sym, ◌∙◌, arith}
 use Rattle.std.proofs.lemmas.Option.{slice_get_within}
-use Rattle.diagram_store.proofs.OfFitting.{reduced_from_fitting, fitting_from_reduced}
+use Rattle.diagram_store.proofs.FittingLemmas.{reduced_from_fitting, fitting_from_reduced}
 use Rattle.diagram_store.proofs.form.is_reduced.Goals as goal
 
 pub returns-then-not-is_fitting : goal.returns-then-not-is_fitting

@@ -1,4 +1,4 @@
-use Rattle.diagram_store.proofs.OfTurns.{canonical_reads, reads_below}
+use Rattle.diagram_store.proofs.TurnLemmas.{canonical_reads, reads_below}
 use Rattle.diagram_store.proofs.laws.independent_variables.Goals as goal
 
 pub returns : goal.returns

@@ -2,7 +2,7 @@ use Rattle.std.proofs.Common.{◌≡◌, ◌<◌, length, get_or, ap, ◌∙◌,
 use Rattle.std.specs.Prelude.{All}
 use Rattle.system_text.specs.FirstForm.{IsRuleLine}
 use Rattle.pushdown_rules.specs.Pushdown.{Pushdown}
-use Rattle.document_systems.proofs.OfLines.{next_is_not_refused, rules_before}
+use Rattle.document_systems.proofs.LineLemmas.{next_is_not_refused, rules_before}
 use Rattle.document_systems.proofs.system.system_from.Goals as goal
 
 pub add_line-requires : goal.add_line-requires

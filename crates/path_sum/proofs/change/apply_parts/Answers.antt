@@ -4,8 +4,8 @@ use Rattle.std.proofs.lemmas.List.{length_push}
 use Rattle.weighted_automata.specs.Entries.{lowered}
 use Rattle.witness_graph.specs.declared.node.Node.TheVariants.{Lower}
 use Rattle.semiring_laws.specs.Semiring.{Fits}
-use Rattle.saturation_core.proofs.OfChanges.{changed_fits, kept_lowered, kept_more, kept_weight}
-use Rattle.path_sum.proofs.OfChanges.{parts_node}
+use Rattle.saturation_core.proofs.CallerLemmas.{changed_fits, kept_lowered, kept_more, kept_weight}
+use Rattle.path_sum.proofs.ChangeLemmas.{parts_node}
 use Rattle.path_sum.proofs.change.apply_parts.Goals as goal
 
 pub weight_after-requires-clause-old : goal.weight_after-requires-clause-old

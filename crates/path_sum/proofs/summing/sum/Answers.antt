@@ -2,7 +2,7 @@ use Rattle.std.proofs.Common.{sym}
 use Rattle.std.specs.Prelude.{IfOk}
 use Rattle.path_sum.specs.Results.{IsSumOver}
 use Rattle.path_sum.specs.Saturated.{IsSaturatedAutomaton}
-use Rattle.path_sum.proofs.OfBooks.{book_saturated, moved}
+use Rattle.path_sum.proofs.BookLemmas.{book_saturated, moved}
 use Rattle.path_sum.proofs.summing.sum.Goals as goal
 
 pub sum_parts-requires-clause-automaton : goal.sum_parts-requires-clause-automaton

@@ -5,7 +5,7 @@ use Rattle.saturation_core.specs.States.{weight_at}
 use Rattle.path_sum.specs.Sums.{answer_place}
 use Rattle.path_sum.specs.Answers.{IsListingOf}
 use Rattle.path_sum.specs.Growings.{state_of}
-use Rattle.path_sum.proofs.OfFinished.{task_is, begun_at, ready_at, round_at, kept_at, answer_sums}
+use Rattle.path_sum.proofs.FinishedLemmas.{task_is, begun_at, ready_at, round_at, kept_at, answer_sums}
 use Rattle.path_sum.proofs.summing.sum_parts.Goals as goal
 
 pub rounds-init : goal.rounds-init

@@ -1,6 +1,6 @@
 use Rattle.std.proofs.Common.{◌≡◌}
 use Rattle.path_sum.specs.Growings.{state_of}
-use Rattle.path_sum.proofs.OfRounds.{IsUnderWay, left_of}
+use Rattle.path_sum.proofs.RoundLemmas.{IsUnderWay, left_of}
 use Rattle.path_sum.proofs.summing.sum_parts.Given as goal
 
 abbrev pub invariant-rounds : goal.invariant-rounds

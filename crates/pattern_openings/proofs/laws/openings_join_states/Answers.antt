@@ -1,4 +1,4 @@
-use Rattle.pattern_openings.proofs.OfEdges.{opening_edge, opening_final, opening_last}
+use Rattle.pattern_openings.proofs.EdgeLemmas.{opening_edge, opening_final, opening_last}
 use Rattle.pattern_openings.proofs.laws.openings_join_states.Goals as goal
 
 pub returns-clause-edges : goal.returns-clause-edges

@@ -1,4 +1,4 @@
-use Rattle.pattern_openings.proofs.OfReads.{opening_reads}
+use Rattle.pattern_openings.proofs.ReadLemmas.{opening_reads}
 use Rattle.pattern_openings.proofs.laws.openings_read_members.Goals as goal
 
 pub returns : goal.returns

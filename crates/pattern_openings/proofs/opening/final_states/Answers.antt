@@ -1,7 +1,7 @@
 use Rattle.std.proofs.Common.{arith, suc, length, map}
 use Rattle.config_patterns.specs.Edges.{is_final_of}
 use Rattle.pattern_openings.specs.PatternOpenings.{state_of, finals_of_items}
-use Rattle.pattern_openings.proofs.OfStates.{finals_next}
+use Rattle.pattern_openings.proofs.StateLemmas.{finals_next}
 use Rattle.pattern_openings.proofs.opening.final_states.Goals as goal
 
 pub loop-state-preserved : goal.loop-state-preserved

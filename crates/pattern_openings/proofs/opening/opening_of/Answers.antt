@@ -1,6 +1,6 @@
 use Rattle.std.proofs.Common.{◌≤◌, All, List, sym, subst, ◌∙◌}
 use Rattle.config_patterns.specs.declared.edge.Edge.{Edge}
-use Rattle.pattern_openings.proofs.OfEdges.{edges_few}
+use Rattle.pattern_openings.proofs.EdgeLemmas.{edges_few}
 use Rattle.pattern_openings.proofs.opening.opening_of.Goals as goal
 
 pub places_of_edges-requires-clause-states : goal.places_of_edges-requires-clause-states

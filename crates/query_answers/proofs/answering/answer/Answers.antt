@@ -1,7 +1,7 @@
-use Rattle.short_listings.proofs.OfTight.{stays_tight}
+use Rattle.short_listings.proofs.CallerLemmas.{stays_tight}
 use Rattle.pushdown_rules.specs.Values.{value_of}
 use Rattle.witness_graph.specs.declared.node.Side.TheVariants.{Pre}
-use Rattle.query_answers.proofs.OfAnswers.{sum_answers}
+use Rattle.query_answers.proofs.AnswerLemmas.{sum_answers}
 use Rattle.query_answers.proofs.answering.answer.Goals as goal
 
 pub returns : goal.returns

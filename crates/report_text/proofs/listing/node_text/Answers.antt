@@ -3,7 +3,7 @@ use Rattle.std.specs.Prelude.{codes}
 use Rattle.std.specs.List.{join_by}
 use Rattle.std.specs.String.{string_bytes}
 use Rattle.report_text.specs.Listings.{before_text, node_text}
-use Rattle.report_text.proofs.OfLists.{join_by-map}
+use Rattle.report_text.proofs.ListLemmas.{join_by-map}
 use Rattle.report_text.proofs.listing.node_text.Goals as goal
 
 pub returns-in_ok-push_str-in-Lower : goal.returns-in_ok-push_str-in-Lower

@@ -4,7 +4,7 @@ use Rattle.std.proofs.lemmas.List.{length_push}
 use Rattle.weighted_automata.specs.Entries.{lowered}
 use Rattle.witness_graph.specs.declared.node.Node.TheVariants.{Lower}
 use Rattle.semiring_laws.specs.Semiring.{Fits}
-use Rattle.saturation_core.proofs.OfChanges.{changed_fits, kept_lowered, kept_more, kept_weight, rule_node}
+use Rattle.saturation_core.proofs.ChangeLemmas.{changed_fits, kept_lowered, kept_more, kept_weight, rule_node}
 use Rattle.saturation_core.proofs.change.apply_rule.Goals as goal
 
 pub weight_after-requires-clause-old : goal.weight_after-requires-clause-old

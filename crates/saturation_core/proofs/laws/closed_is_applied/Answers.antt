@@ -1,4 +1,4 @@
-use Rattle.saturation_core.proofs.Kept.{closed_applies}
+use Rattle.saturation_core.proofs.BookInvariant.{closed_applies}
 use Rattle.saturation_core.proofs.laws.closed_is_applied.Goals as goal
 
 pub returns : goal.returns

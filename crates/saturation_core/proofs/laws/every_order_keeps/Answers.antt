@@ -1,4 +1,4 @@
-use Rattle.saturation_core.proofs.Kept.{book_from}
+use Rattle.saturation_core.proofs.BookInvariant.{book_from}
 use Rattle.saturation_core.proofs.laws.every_order_keeps.Goals as goal
 
 pub returns : goal.returns

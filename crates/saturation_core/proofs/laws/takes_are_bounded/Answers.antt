@@ -1,4 +1,4 @@
-use Rattle.saturation_core.proofs.Kept.{book_takes, book_nodes}
+use Rattle.saturation_core.proofs.BookInvariant.{book_takes, book_nodes}
 use Rattle.saturation_core.proofs.laws.takes_are_bounded.Goals as goal
 
 pub returns-clause-takes : goal.returns-clause-takes

@@ -3,7 +3,7 @@ use Rattle.std.specs.Prelude.{Option}
 use Rattle.std.specs.VecDeque.{deque_len, deque_capacity}
 use Rattle.saturation_core.specs.declared.hand.Holding.{Holding}
 use Rattle.saturation_core.specs.Plans.{state_with, put_all}
-use Rattle.saturation_core.proofs.LowerSteps.{IsUnderWay}
+use Rattle.saturation_core.proofs.PlanEqualsApply.{IsUnderWay}
 use Rattle.saturation_core.proofs.lower.lower_all.Given as goal
 
 abbrev pub invariant-steps : goal.invariant-steps

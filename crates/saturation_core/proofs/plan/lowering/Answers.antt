@@ -1,7 +1,7 @@
 use Rattle.std.proofs.Common.{◌+◌, length, sym, subst}
 use Rattle.semiring_laws.specs.Semiring.{Fits}
 use Rattle.saturation_core.specs.Plans.{put_from}
-use Rattle.saturation_core.proofs.OfChanges.{kept_weight}
+use Rattle.saturation_core.proofs.ChangeLemmas.{kept_weight}
 use Rattle.saturation_core.proofs.plan.lowering.Goals as goal
 
 pub weight_after-requires-clause-old : goal.weight_after-requires-clause-old

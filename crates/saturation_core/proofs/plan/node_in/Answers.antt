@@ -1,5 +1,5 @@
 use Rattle.std.proofs.Common.{sym, arith}
-use Rattle.saturation_core.proofs.Planning.{planned_node, within_at}
+use Rattle.saturation_core.proofs.PutPlan.{planned_node, within_at}
 use Rattle.saturation_core.proofs.plan.node_in.Goals as goal
 
 pub overflow_add-result : goal.overflow_add-result

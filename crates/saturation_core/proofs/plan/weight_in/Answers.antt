@@ -2,8 +2,8 @@ use Rattle.std.proofs.Common.{◌≡◌, sym, ap, subst, arith}
 use Rattle.std.specs.Prelude.{IfOk}
 use Rattle.saturation_core.specs.States.{weight_of}
 use Rattle.saturation_core.specs.Plans.{put_from}
-use Rattle.saturation_core.proofs.OfChanges.{present_at}
-use Rattle.saturation_core.proofs.Planning.{planned_at, planned_not, within_at}
+use Rattle.saturation_core.proofs.ChangeLemmas.{present_at}
+use Rattle.saturation_core.proofs.PutPlan.{planned_at, planned_not, within_at}
 use Rattle.saturation_core.proofs.plan.weight_in.Goals as goal
 
 pub offset_bounds-plan-k : goal.offset_bounds-plan-k

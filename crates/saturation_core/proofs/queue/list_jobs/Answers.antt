@@ -2,7 +2,7 @@ use Rattle.std.proofs.Common.{◌≡◌, sym, ap, ◌∙◌, subst}
 use Rattle.std.specs.Prelude.{IfOk}
 use Rattle.std.proofs.lemmas.Option.{slice_get_within}
 use Rattle.saturation_core.specs.States.{jobs_at}
-use Rattle.saturation_core.proofs.Made.{indexed, unindexed}
+use Rattle.saturation_core.proofs.BookFields.{indexed, unindexed}
 use Rattle.saturation_core.proofs.queue.list_jobs.Goals as goal
 
 pub jobs-requires-clause-taken : goal.jobs-requires-clause-taken

@@ -1,6 +1,6 @@
 use Rattle.std.proofs.Common.{refl}
 use Rattle.saturation_core.specs.Directions.{AgreeOn}
-use Rattle.saturation_core.proofs.OfAll.{all_more, all_read}
+use Rattle.saturation_core.proofs.AllPush.{all_more, all_read}
 use Rattle.saturation_core.proofs.same.agree.Goals as goal
 
 pub loop-job-preserved : goal.loop-job-preserved

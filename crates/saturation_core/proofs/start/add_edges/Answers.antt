@@ -1,7 +1,7 @@
 use Rattle.std.proofs.Common.{sym, subst, arith}
 use Rattle.semiring_laws.specs.Semiring.{Fits}
-use Rattle.saturation_core.proofs.OfChanges.{kept_lowered, kept_more}
-use Rattle.saturation_core.proofs.OfStarts.{edge_more}
+use Rattle.saturation_core.proofs.ChangeLemmas.{kept_lowered, kept_more}
+use Rattle.saturation_core.proofs.StartLemmas.{edge_more}
 use Rattle.saturation_core.proofs.start.add_edges.Goals as goal
 
 pub loop-edge-preserved : goal.loop-edge-preserved

@@ -1,5 +1,5 @@
 use Rattle.std.proofs.Common.{◌∙◌, arith}
-use Rattle.saturation_core.proofs.OfStarts.{pops_more}
+use Rattle.saturation_core.proofs.StartLemmas.{pops_more}
 use Rattle.saturation_core.proofs.start.add_pops.Goals as goal
 
 pub loop-k-preserved : goal.loop-k-preserved

@@ -1,6 +1,6 @@
 use Rattle.std.proofs.Common.{ap, ◌∙◌, ◌++◌, ◌∷◌, []}
 use Rattle.std.specs.Prelude.{None}
-use Rattle.saturation_core.proofs.OfStarts.{replicate-push}
+use Rattle.saturation_core.proofs.StartLemmas.{replicate-push}
 use Rattle.saturation_core.proofs.start.no_hands.Goals as goal
 
 pub loop-seat-preserved : goal.loop-seat-preserved

@@ -1,4 +1,4 @@
-use Rattle.semiring_laws.proofs.OfChains.{rank_within, rank_below, chain_within}
+use Rattle.semiring_laws.proofs.ChainLemmas.{rank_within, rank_below, chain_within}
 use Rattle.semiring_laws.proofs.laws.chains_are_short.Goals as goal
 
 pub returns-clause-rank : goal.returns-clause-rank

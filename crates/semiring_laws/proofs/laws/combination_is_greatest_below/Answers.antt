@@ -1,4 +1,4 @@
-use Rattle.semiring_laws.proofs.OfCombination.{combination_fits, combination_below_each, below_combination_of}
+use Rattle.semiring_laws.proofs.CombinationLemmas.{combination_fits, combination_below_each, below_combination_of}
 use Rattle.semiring_laws.proofs.laws.combination_is_greatest_below.Goals as goal
 
 pub returns-clause-fits : goal.returns-clause-fits

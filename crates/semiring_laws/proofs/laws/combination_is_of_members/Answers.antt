@@ -1,4 +1,4 @@
-use Rattle.semiring_laws.proofs.OfCombination.{combination-permutation, combination-repeated, combination_of_members, combination-append}
+use Rattle.semiring_laws.proofs.CombinationLemmas.{combination-permutation, combination-repeated, combination_of_members, combination-append}
 use Rattle.semiring_laws.proofs.laws.combination_is_of_members.Goals as goal
 
 pub returns-clause-order : goal.returns-clause-order

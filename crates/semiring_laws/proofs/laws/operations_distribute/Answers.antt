@@ -1,4 +1,4 @@
-use Rattle.semiring_laws.proofs.OfCombination.{extend_combination, combination_extend, after_combination}
+use Rattle.semiring_laws.proofs.CombinationLemmas.{extend_combination, combination_extend, after_combination}
 use Rattle.semiring_laws.proofs.laws.operations_distribute.Goals as goal
 
 pub returns-clause-left : goal.returns-clause-left

@@ -1,4 +1,4 @@
-use Rattle.semiring_laws.proofs.OfOrder.{extend_keeps_below}
+use Rattle.semiring_laws.proofs.OrderLemmas.{extend_keeps_below}
 use Rattle.semiring_laws.proofs.laws.operations_keep_below.Goals as goal
 
 pub returns-clause-extend : goal.returns-clause-extend

@@ -1,4 +1,4 @@
-use Rattle.short_listings.proofs.OfLength.{no_longer}
+use Rattle.short_listings.proofs.LengthLemmas.{no_longer}
 use Rattle.short_listings.proofs.laws.shorter_has_no_more_nodes.Goals as goal
 
 pub returns : goal.returns

@@ -1,4 +1,4 @@
-use Rattle.short_listings.proofs.OfTight.{stays_tight}
+use Rattle.short_listings.proofs.TightLemmas.{stays_tight}
 use Rattle.short_listings.proofs.laws.shorter_stays_tight.Goals as goal
 
 pub returns : goal.returns

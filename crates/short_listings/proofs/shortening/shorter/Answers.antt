@@ -3,7 +3,7 @@ use Rattle.std.specs.Prelude.{unwrap_or}
 use Rattle.witness_graph.specs.declared.node.Node.TheVariants.{Start}
 use Rattle.witness_graph.specs.Nodes.{AreNodes, IsNodeAt}
 use Rattle.short_listings.specs.Shorter.{pruned, by_stands, only_part, shorten}
-use Rattle.short_listings.proofs.OfShorter.{turn_fits, turn_short, turn_rest, same_short}
+use Rattle.short_listings.proofs.ShorterLemmas.{turn_fits, turn_short, turn_rest, same_short}
 use Rattle.short_listings.proofs.shortening.shorter.Goals as goal
 
 pub push_node-requires : goal.push_node-requires

@@ -1,6 +1,6 @@
 use Rattle.std.proofs.Common.{◌≡◌, take, drop, []}
 use Rattle.short_listings.specs.Shorter.{shorten}
-use Rattle.short_listings.proofs.OfShorter.{IsShort}
+use Rattle.short_listings.proofs.ShorterLemmas.{IsShort}
 use Rattle.short_listings.proofs.shortening.shorter.Given as goal
 
 abbrev pub invariant-loop-node : goal.invariant-loop-node

@@ -1,6 +1,6 @@
 use Rattle.std.proofs.Common.{ap, ◌∙◌}
 use Rattle.system_text.specs.Lines.{texts}
-use Rattle.system_text.proofs.OfFirstForm.{found_in, only_in, words_in_order, too_few_parts}
+use Rattle.system_text.proofs.FirstFormLemmas.{found_in, only_in, words_in_order, too_few_parts}
 use Rattle.system_text.proofs.first_form.read_first_form.Goals as goal
 
 pub returns-in-Some-clause-found : goal.returns-in-Some-clause-found

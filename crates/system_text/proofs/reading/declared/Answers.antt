@@ -4,7 +4,7 @@ use denote.Ref.{Bor}
 use Rattle.system_text.specs.Lines.{texts}
 use Rattle.system_text.specs.Names.{is_among}
 use Rattle.system_text.proofs.Lists.{map-take_more, length-map-take}
-use Rattle.system_text.proofs.OfNames.{are_names-take_more, are_names-stops}
+use Rattle.system_text.proofs.NameLemmas.{are_names-take_more, are_names-stops}
 use Rattle.system_text.proofs.reading.declared.Goals as goal
 
 abbrev none : Bor (List ℕ)

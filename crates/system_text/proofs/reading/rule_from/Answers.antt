@@ -1,7 +1,7 @@
 use Rattle.std.proofs.Common.{◌<◌, sym, subst}
 use Rattle.std.proofs.lemmas.List.{length-map}
 use Rattle.system_text.specs.Lines.{texts}
-use Rattle.system_text.proofs.OfRules.{too_short}
+use Rattle.system_text.proofs.RuleLemmas.{too_short}
 use Rattle.system_text.proofs.reading.rule_from.Goals as goal
 
 pub returns-in_default : goal.returns-in_default

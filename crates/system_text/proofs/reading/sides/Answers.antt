@@ -1,4 +1,4 @@
-use Rattle.system_text.proofs.OfReading.{no_front, no_back, both_sides}
+use Rattle.system_text.proofs.ReadingLemmas.{no_front, no_back, both_sides}
 use Rattle.system_text.proofs.reading.sides.Goals as goal
 
 pub returns-in_default-2 : goal.returns-in_default-2

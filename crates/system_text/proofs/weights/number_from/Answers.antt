@@ -1,6 +1,6 @@
 use Rattle.std.proofs.Common.{◌∙◌, sym, subst}
 use Rattle.std.specs.Str.Parse.{ParsesUnsigned}
-use Rattle.system_text.proofs.OfNumbers.{parsed, digits_are_utf8}
+use Rattle.system_text.proofs.NumberLemmas.{parsed, digits_are_utf8}
 use Rattle.system_text.proofs.weights.number_from.Goals as goal
 
 pub returns-in-Ok : goal.returns-in-Ok

@@ -1,5 +1,5 @@
 use Rattle.std.proofs.Common.{◌∙◌, sym}
-use Rattle.system_text.proofs.OfWeights.{right-cut}
+use Rattle.system_text.proofs.WeightLemmas.{right-cut}
 use Rattle.system_text.proofs.weights.right_side.Goals as goal
 
 pub returns-in_ok-number_as_weight-in-len2-up : goal.returns-in_ok-number_as_weight-in-len2-up

@@ -1,4 +1,4 @@
-use Rattle.truth_tables.proofs.OfMachine.{made_of_tree}
+use Rattle.truth_tables.proofs.MachineLemmas.{made_of_tree}
 use Rattle.truth_tables.proofs.laws.one_making.Goals as goal
 
 pub returns : goal.returns

@@ -1,5 +1,5 @@
 use Rattle.std.proofs.Common.{arith}
-use Rattle.truth_tables.proofs.OfOperands.{number_past}
+use Rattle.truth_tables.proofs.OperandLemmas.{number_past}
 use Rattle.truth_tables.proofs.operand.table_number.Goals as goal
 
 pub returns-then-number-from : goal.returns-then-number-from

@@ -1,6 +1,6 @@
 use Rattle.std.proofs.Common.{subst, sym, ◌∙◌}
 use Rattle.truth_tables.specs.Texts.{words_of, IsAnswer}
-use Rattle.truth_tables.proofs.OfTexts.{answer_made}
+use Rattle.truth_tables.proofs.TextLemmas.{answer_made}
 use Rattle.truth_tables.proofs.reading.answer.Goals as goal
 
 pub returns : goal.returns

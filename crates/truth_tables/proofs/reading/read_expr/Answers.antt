@@ -1,6 +1,6 @@
 use Rattle.std.proofs.Common.{◌≡◌, ◌-◌, ◌+◌, length, take, drop, take_all, length-drop, arith, refl}
 use Rattle.truth_tables.specs.Texts.{words_of, text_at}
-use Rattle.truth_tables.proofs.OfTexts.{text_is, moved, read_small}
+use Rattle.truth_tables.proofs.TextLemmas.{text_is, moved, read_small}
 use Rattle.truth_tables.proofs.reading.read_expr.Goals as goal
 
 pub returns-clause-answer : goal.returns-clause-answer

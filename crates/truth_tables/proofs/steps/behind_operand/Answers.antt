@@ -1,5 +1,5 @@
 use Rattle.std.proofs.Common.{rules}
-use Rattle.truth_tables.proofs.OfStacks.{mark_comma}
+use Rattle.truth_tables.proofs.StackLemmas.{mark_comma}
 use Rattle.truth_tables.proofs.steps.behind_operand.Goals as goal
 
 pub returns-in_ok-joined-in-Comma : goal.returns-in_ok-joined-in-Comma

@@ -1,5 +1,5 @@
 use Rattle.std.proofs.Common.{sym, ap, ◌∙◌, length, vec_len, vec_capacity, arith}
-use Rattle.weighted_automata.proofs.OfRoom.{length-without, length-without_le, without_none, at_refusal}
+use Rattle.weighted_automata.proofs.RoomLemmas.{length-without, length-without_le, without_none, at_refusal}
 use Rattle.weighted_automata.proofs.room.add.Goals as goal
 use Rattle.weighted_automata.proofs.room.add.Goals.{then-not-take_out+in_ok-make_space, else-not-take_out}
 

@@ -1,4 +1,4 @@
-use Rattle.witness_graph.proofs.OfListings.{listing_tight}
+use Rattle.witness_graph.proofs.ListingLemmas.{listing_tight}
 use Rattle.witness_graph.proofs.laws.listing_stays_tight.Goals as goal
 
 pub returns : goal.returns

@@ -1,6 +1,6 @@
 use Rattle.witness_graph.specs.Order.{post_order}
-use Rattle.witness_graph.proofs.OfWalks.{walk_ends}
-use Rattle.witness_graph.proofs.OfOrders.{order_reached, reached_order, order_once, last_of}
+use Rattle.witness_graph.proofs.WalkLemmas.{walk_ends}
+use Rattle.witness_graph.proofs.OrderLemmas.{order_reached, reached_order, order_once, last_of}
 use Rattle.witness_graph.proofs.laws.post_order_has_the_reached.Goals as goal
 
 pub returns-clause-reached : goal.returns-clause-reached

@@ -1,5 +1,5 @@
 use Rattle.witness_graph.specs.declared.node.Node.TheVariants.{Start, Lower}
-use Rattle.witness_graph.proofs.OfListings.{runs_of-at, runs_of-append}
+use Rattle.witness_graph.proofs.ListingLemmas.{runs_of-at, runs_of-append}
 use Rattle.witness_graph.proofs.laws.runs_are_those_of_parts.Goals as goal
 
 pub returns-clause-start : goal.returns-clause-start

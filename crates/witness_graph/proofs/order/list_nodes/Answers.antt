@@ -5,7 +5,7 @@ use Rattle.witness_graph.specs.declared.node.Side.TheVariants.{Pre}
 use Rattle.witness_graph.specs.Nodes.{IsListing}
 use Rattle.witness_graph.specs.Runs.{runs_of}
 use Rattle.witness_graph.specs.Order.{listing_of}
-use Rattle.witness_graph.proofs.OfListings.{order_within, made_listing, listing_is, listing_runs}
+use Rattle.witness_graph.proofs.ListingLemmas.{order_within, made_listing, listing_is, listing_runs}
 use Rattle.witness_graph.proofs.order.list_nodes.Goals as goal
 
 pub renumber-requires : goal.renumber-requires

@@ -2,7 +2,7 @@ use Rattle.std.proofs.Common.{sym, ap, ◌∙◌, subst}
 use Rattle.saturation_core.specs.declared.event.Event.TheVariants.{Take, Settle}
 use Rattle.weighted_automata.specs.declared.place.Place.{Place}
 use Rattle.saturation_core.specs.Books.{AnswersTake, Makes}
-use Rattle.worker_pool.proofs.OfTurns.{can_settle, turned_free}
+use Rattle.worker_pool.proofs.TurnLemmas.{can_settle, turned_free}
 use Rattle.worker_pool.proofs.alone.turn.Goals as goal
 
 pub settle-requires-clause-holds : goal.settle-requires-clause-holds

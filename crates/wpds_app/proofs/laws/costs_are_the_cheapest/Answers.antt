@@ -1,6 +1,6 @@
 use Rattle.config_patterns.specs.Membership.{has_member}
 use Rattle.path_sum.specs.Answers.{listed_runs}
-use Rattle.wpds_app.proofs.OfQueries.{cheapest, told_cost}
+use Rattle.wpds_app.proofs.QueryLemmas.{cheapest, told_cost}
 use Rattle.wpds_app.proofs.laws.costs_are_the_cheapest.Goals as goal
 
 pub returns : goal.returns

@@ -3,7 +3,7 @@ use Rattle.config_patterns.specs.Membership.{has_member}
 use Rattle.path_sum.specs.Answers.{listed_runs}
 use Rattle.report_text.specs.Listings.{query_line}
 use Rattle.wpds_app.specs.Reports.{query_text}
-use Rattle.wpds_app.proofs.OfQueries.{told_unreachable, unlisted_line}
+use Rattle.wpds_app.proofs.QueryLemmas.{told_unreachable, unlisted_line}
 use Rattle.wpds_app.proofs.laws.unreachable_where_infeasible.Goals as goal
 
 pub returns : goal.returns

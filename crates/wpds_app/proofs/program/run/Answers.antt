@@ -1,6 +1,6 @@
 use Rattle.std.proofs.Common.{subst}
 use Rattle.std.specs.Io.KnownBytes.{Appends}
-use Rattle.wpds_app.proofs.OfReplies.{sent_decided, sent_decides}
+use Rattle.wpds_app.proofs.ReplyLemmas.{sent_decided, sent_decides}
 use Rattle.wpds_app.proofs.program.run.Goals as goal
 
 pub returns-in-Ok-clause-exactly : goal.returns-in-Ok-clause-exactly

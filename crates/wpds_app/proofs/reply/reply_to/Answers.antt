@@ -1,6 +1,6 @@
 use Rattle.std.proofs.Common.{inl, inr, refl, arith}
 use Rattle.wpds_port.specs.declared.refusal.Kind.TheVariants.{TooLong, NotBuilt}
-use Rattle.wpds_app.proofs.OfReplies.{refused_replies}
+use Rattle.wpds_app.proofs.ReplyLemmas.{refused_replies}
 use Rattle.wpds_app.proofs.reply.reply_to.Goals as goal
 
 pub returns-then-input-gt-MOST_BYTES : goal.returns-then-input-gt-MOST_BYTES

@@ -3,7 +3,7 @@ use Rattle.std.specs.Prelude.{IfOk}
 use Rattle.std.specs.String.{string_bytes}
 use Rattle.system_text.specs.declared.document.WeightsLine.TheVariants.{Reach, Cost}
 use Rattle.wpds_app.specs.Reports.{IsReportBy}
-use Rattle.wpds_app.proofs.OfReporting.{report_of_weights}
+use Rattle.wpds_app.proofs.ReportingLemmas.{report_of_weights}
 use Rattle.wpds_app.proofs.report.report.Goals as goal
 
 pub returns-in-Reach : goal.returns-in-Reach

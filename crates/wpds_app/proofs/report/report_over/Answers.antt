@@ -1,7 +1,7 @@
 use Rattle.std.proofs.Common.{◌∙◌, length, ap}
 use Rattle.std.specs.String.{string_bytes}
 use Rattle.document_systems.specs.Systems.{system_of, pattern_of}
-use Rattle.wpds_app.proofs.OfReporting.{same_query, lines_report}
+use Rattle.wpds_app.proofs.ReportingLemmas.{same_query, lines_report}
 use Rattle.wpds_app.proofs.report.report_over.Goals as goal
 
 pub returns : goal.returns

@@ -2,7 +2,7 @@ use Rattle.std.proofs.Common.{◌≡◌, [], ◌∷◌, length, sym, ap, ◌∙�
 use Rattle.std.specs.Prelude.{codes}
 use Rattle.std.specs.String.{string_bytes}
 use Rattle.std.proofs.lemmas.Slice.Eq.{bytes_eq-Decides}
-use Rattle.wpds_app.proofs.OfWords.{map-one, map-two}
+use Rattle.wpds_app.proofs.WordLemmas.{map-one, map-two}
 use Rattle.wpds_app.proofs.words.command_of.Goals as goal
 
 pub returns-in-len1-clause-found : goal.returns-in-len1-clause-found

@@ -1,5 +1,5 @@
 use Rattle.std.proofs.Common.{sym, ap, ◌∙◌}
-use Rattle.wpds_port.proofs.OfTokens.{more_found, rest_of_line}
+use Rattle.wpds_port.proofs.TokenLemmas.{more_found, rest_of_line}
 use Rattle.wpds_port.specs.Tokens.{word_at}
 use Rattle.wpds_port.proofs.cutting.cut.Goals as goal
 

@@ -1,4 +1,4 @@
-use Rattle.wpds_port.proofs.OfStops.{is_stuck}
+use Rattle.wpds_port.proofs.StopLemmas.{is_stuck}
 use Rattle.wpds_port.proofs.laws.no_list_of_tokens.Goals as goal
 
 pub returns : goal.returns

@@ -1,4 +1,4 @@
-use Rattle.wpds_port.proofs.OfTokens.{are_tokens}
+use Rattle.wpds_port.proofs.TokenLemmas.{are_tokens}
 use Rattle.wpds_port.proofs.laws.one_list_of_tokens.Goals as goal
 
 pub returns : goal.returns

@@ -1,5 +1,5 @@
 use Rattle.std.proofs.Common.{[], refl}
-use Rattle.wpds_port.proofs.OfSpans.{stand_in, in_order}
+use Rattle.wpds_port.proofs.SpanLemmas.{stand_in, in_order}
 use Rattle.wpds_port.proofs.laws.tokens_stand_in_order.Goals as goal
 
 pub returns : goal.returns

@@ -1,6 +1,6 @@
 use Rattle.std.proofs.Common.{◌≡◌, ◌+◌, arith}
 use Rattle.std.specs.Prelude.{if◌then◌else◌}
-use Rattle.config_patterns.proofs.OfItems.{few_finals, added, if_then, if_else}
+use Rattle.config_patterns.proofs.ItemLemmas.{few_finals, added, if_then, if_else}
 use Rattle.config_patterns.proofs.pattern.Pattern.add_item.Goals as goal
 use Rattle.config_patterns.proofs.pattern.Pattern.add_item.Goals.{then-star, else-star}
 

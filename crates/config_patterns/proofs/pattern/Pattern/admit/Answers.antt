@@ -1,5 +1,5 @@
 use Rattle.std.proofs.Common.{◌∙◌, sym, refl, arith}
-use Rattle.config_patterns.proofs.OfItems.{few_finals, counted, is_accepted, not_refused, too_many}
+use Rattle.config_patterns.proofs.ItemLemmas.{few_finals, counted, is_accepted, not_refused, too_many}
 use Rattle.config_patterns.proofs.pattern.Pattern.admit.Goals as goal
 
 pub edges_with-requires : goal.edges_with-requires

@@ -3,7 +3,7 @@ use Rattle.diagram_store.specs.declared.branch.Branch.{Branch}
 use Rattle.diagram_store.specs.Nodes.{IsAbove}
 use Rattle.diagram_ops.specs.Tables.{known}
 use Rattle.diagram_ops.specs.Scratch.{Keeps}
-use Rattle.diagram_ops.proofs.OfPushes.{Pushed, scratch_push, stands_found}
+use Rattle.diagram_ops.proofs.PushLemmas.{Pushed, scratch_push, stands_found}
 use Rattle.diagram_ops.proofs.scratch.Scratch.branch.Goals as goal
 
 pub returns-in-Some-clause-stands : goal.returns-in-Some-clause-stands

@@ -1,7 +1,7 @@
 use Rattle.std.proofs.Common.{◌≡◌, ◌<◌, ℕ, Bool, true, false, refl, sym, ap, subst, ◌∙◌, arith}
 use Rattle.std.specs.Prelude.{nat_eq}
 use mir.Val.{bool_byte}
-use Rattle.diagram_store.proofs.OfSmall.{constant_canonical, constant_value}
+use Rattle.diagram_store.proofs.SmallLemmas.{constant_canonical, constant_value}
 use Rattle.diagram_store.proofs.diagram.Diagram.constant.Goals as goal
 
 byte_below : (b : Bool) → bool_byte b < 2

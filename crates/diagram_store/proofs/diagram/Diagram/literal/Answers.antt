@@ -1,4 +1,4 @@
-use Rattle.diagram_store.proofs.OfSmall.{literal_canonical, literal_value, literal_variable}
+use Rattle.diagram_store.proofs.SmallLemmas.{literal_canonical, literal_value, literal_variable}
 use Rattle.diagram_store.proofs.diagram.Diagram.literal.Goals as goal
 
 pub of_nodes-requires : goal.of_nodes-requires

@@ -1,8 +1,8 @@
 use Rattle.std.proofs.Common.{sym, ◌∙◌}
 use Rattle.std.specs.Prelude.{None, Some}
 use Rattle.diagram_store.specs.Meaning.{bits_of}
-use Rattle.diagram_store.proofs.OfNodes.{node_found}
-use Rattle.diagram_store.proofs.OfValues.{value_of_high, value_of_low, value_at_end}
+use Rattle.diagram_store.proofs.NodeLemmas.{node_found}
+use Rattle.diagram_store.proofs.ValueLemmas.{value_of_high, value_of_low, value_at_end}
 use Rattle.diagram_store.proofs.diagram.Diagram.value.Goals as goal
 
 pub loop-found-preserved-then-bits-found : goal.loop-found-preserved-then-bits-found

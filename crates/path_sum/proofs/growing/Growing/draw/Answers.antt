@@ -1,6 +1,6 @@
 use Rattle.path_sum.specs.Sums.{ways_of}
 use Rattle.path_sum.specs.Growings.{state_of}
-use Rattle.path_sum.proofs.OfLoops.{drawn_all}
+use Rattle.path_sum.proofs.LoopLemmas.{drawn_all}
 use Rattle.path_sum.proofs.growing.Growing.draw.Goals as goal
 
 pub returns-in_ok-finish-in-Empty-clause-grows : goal.returns-in_ok-finish-in-Empty-clause-grows

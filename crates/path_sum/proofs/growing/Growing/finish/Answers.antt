@@ -1,7 +1,7 @@
 use Rattle.std.proofs.Common.{length, sym, subst}
 use Rattle.semiring_laws.specs.Semiring.{Fits}
 use Rattle.path_sum.specs.Sums.{pair_place}
-use Rattle.path_sum.proofs.OfReady.{found_kept}
+use Rattle.path_sum.proofs.ReadyLemmas.{found_kept}
 use Rattle.path_sum.proofs.growing.Growing.finish.Goals as goal
 
 pub copy-requires : goal.copy-requires

@@ -4,8 +4,8 @@ use Rattle.semiring_laws.specs.Semiring.{Fits}
 use Rattle.saturation_core.specs.States.{Change, apply}
 use Rattle.path_sum.specs.Sums.{pair_place}
 use Rattle.path_sum.specs.Growings.{state_of}
-use Rattle.path_sum.proofs.OfOrders.{order_fits}
-use Rattle.path_sum.proofs.OfReady.{found_kept, first_within, second_within, ready_after}
+use Rattle.path_sum.proofs.OrderLemmas.{order_fits}
+use Rattle.path_sum.proofs.ReadyLemmas.{found_kept, first_within, second_within, ready_after}
 use Rattle.path_sum.proofs.growing.Growing.follow.Goals as goal
 
 pub product-requires-clause-pair : goal.product-requires-clause-pair

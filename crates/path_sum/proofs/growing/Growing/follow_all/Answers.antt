@@ -1,7 +1,7 @@
 use Rattle.std.proofs.Common.{◌∙◌}
 use Rattle.path_sum.specs.Sums.{ways_of}
 use Rattle.path_sum.specs.Growings.{state_of}
-use Rattle.path_sum.proofs.OfLoops.{read_there, pair_more}
+use Rattle.path_sum.proofs.LoopLemmas.{read_there, pair_more}
 use Rattle.path_sum.proofs.growing.Growing.follow_all.Goals as goal
 
 pub follow_any-requires-clause-there : goal.follow_any-requires-clause-there

@@ -1,6 +1,6 @@
 use Rattle.std.proofs.Common.{sym, ◌∙◌}
 use Rattle.path_sum.specs.Sums.{ways_of}
-use Rattle.path_sum.proofs.OfLoops.{edge_goes}
+use Rattle.path_sum.proofs.LoopLemmas.{edge_goes}
 use Rattle.path_sum.proofs.growing.Growing.follow_edge.Goals as goal
 
 pub follow-requires-clause-edge : goal.follow-requires-clause-edge

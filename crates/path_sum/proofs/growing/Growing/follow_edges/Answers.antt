@@ -2,7 +2,7 @@ use Rattle.std.proofs.Common.{◌∙◌}
 use Rattle.path_sum.specs.Sums.{ways_of}
 use Rattle.path_sum.specs.Growings.{state_of}
 use Rattle.config_patterns.specs.Edges.{edges_of}
-use Rattle.path_sum.proofs.OfLoops.{has_edge, edge_more}
+use Rattle.path_sum.proofs.LoopLemmas.{has_edge, edge_more}
 use Rattle.path_sum.proofs.growing.Growing.follow_edges.Goals as goal
 
 pub follow_edge-requires-clause-edge : goal.follow_edge-requires-clause-edge

@@ -6,9 +6,9 @@ use Rattle.saturation_core.specs.Openings.{AreKept}
 use Rattle.saturation_core.specs.Books.{BookValue, Makes, hands_out}
 use Rattle.saturation_core.specs.Plans.{state_with, changes_with, AreNodesFrom}
 use Rattle.saturation_core.specs.Seen.{seen}
-use Rattle.saturation_core.proofs.Kept.{event_keeps}
-use Rattle.saturation_core.proofs.OfHands.{hands_out-seats}
-use Rattle.saturation_core.proofs.Settles.{one_out, put_on, planned_is, ready, settled, settled_nodes, book_keeps, worths_fit, worths_long, nodes_next}
+use Rattle.saturation_core.proofs.BookInvariant.{event_keeps}
+use Rattle.saturation_core.proofs.HandLemmas.{hands_out-seats}
+use Rattle.saturation_core.proofs.SettleBook.{one_out, put_on, planned_is, ready, settled, settled_nodes, book_keeps, worths_fit, worths_long, nodes_next}
 use Rattle.saturation_core.proofs.book.Book.apply.Goals as goal
 
 pub plan_jobs-requires-clause-worths : goal.plan_jobs-requires-clause-worths

@@ -4,9 +4,9 @@ use Rattle.saturation_core.specs.declared.event.Event.TheVariants.{GiveBack}
 use Rattle.saturation_core.specs.States.{hand_at}
 use Rattle.saturation_core.specs.Books.{Makes, hands_out}
 use Rattle.saturation_core.specs.Seen.{seen}
-use Rattle.saturation_core.proofs.Kept.{event_keeps}
-use Rattle.saturation_core.proofs.Made.{after, given}
-use Rattle.saturation_core.proofs.OfHands.{hands_out-read}
+use Rattle.saturation_core.proofs.BookInvariant.{event_keeps}
+use Rattle.saturation_core.proofs.BookFields.{after, given}
+use Rattle.saturation_core.proofs.HandLemmas.{hands_out-read}
 use Rattle.saturation_core.proofs.book.Book.give_back.Goals as goal
 
 pub enqueue-requires : goal.enqueue-requires

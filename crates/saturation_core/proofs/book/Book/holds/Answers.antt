@@ -4,7 +4,7 @@ use Rattle.saturation_core.specs.Jobs.{InputsFit}
 use Rattle.saturation_core.specs.Directions.{AgreeOn}
 use Rattle.saturation_core.specs.Settled.{jobs_out, CanSettle}
 use Rattle.saturation_core.specs.Seen.{seen}
-use Rattle.saturation_core.proofs.Settles.{decides, out_fits}
+use Rattle.saturation_core.proofs.SettleBook.{decides, out_fits}
 use Rattle.saturation_core.proofs.book.Book.holds.Goals as goal
 
 pub lists-requires-clause-out : goal.lists-requires-clause-out

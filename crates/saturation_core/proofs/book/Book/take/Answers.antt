@@ -9,9 +9,9 @@ use Rattle.saturation_core.specs.Jobs.{InputsFit}
 use Rattle.saturation_core.specs.States.{hand_at, jobs_at}
 use Rattle.saturation_core.specs.Books.{BookValue, Makes, CanWork}
 use Rattle.saturation_core.specs.Seen.{seen}
-use Rattle.saturation_core.proofs.Kept.{book_fits, book_lists, event_keeps, taken_works}
-use Rattle.saturation_core.proofs.Made.{after, taken}
-use Rattle.saturation_core.proofs.OfHands.{hands_out-seats, hands_out-set, popped}
+use Rattle.saturation_core.proofs.BookInvariant.{book_fits, book_lists, event_keeps, taken_works}
+use Rattle.saturation_core.proofs.BookFields.{after, taken}
+use Rattle.saturation_core.proofs.HandLemmas.{hands_out-seats, hands_out-set, popped}
 use Rattle.saturation_core.proofs.book.Book.take.Goals as goal
 
 made : (g : _) (c : goal.After-put g) → Makes g.S.Semiring.operations g.D.Direction.way (seen c.self.inside) (Take c.args.seat c.in-Some.place)

@@ -1,7 +1,7 @@
 use Rattle.std.proofs.Common.{sym, ap, ◌∙◌}
 use Rattle.weighted_automata.specs.Places.{same_place}
-use Rattle.weighted_automata.proofs.OfIndices.{index_where-found, index_where-none}
-use Rattle.weighted_automata.proofs.OfEntries.{entry_found, entry_missed}
+use Rattle.weighted_automata.proofs.IndexLemmas.{index_where-found, index_where-none}
+use Rattle.weighted_automata.proofs.EntryLemmas.{entry_found, entry_missed}
 use Rattle.weighted_automata.proofs.transitions.Transitions.find.Goals as goal
 
 pub returns-then-is-clause-entry : goal.returns-then-is-clause-entry

@@ -2,8 +2,8 @@ use Rattle.std.proofs.Common.{◌≡◌, true, false, ◌∷◌, ◌++◌, lengt
 use Rattle.std.specs.Prelude.{Some, is_some, unwrap_or}
 use Rattle.weighted_automata.specs.Places.{has_place}
 use Rattle.weighted_automata.specs.Entries.{index_at, lowered, places_of, HasDistinctPlaces}
-use Rattle.weighted_automata.proofs.OfEntries.{distinct-lowered, lowered_at, lowered_last, index_at-lowered}
-use Rattle.weighted_automata.proofs.OfRoom.{missed_has, room_kept, room_stays, room_only, without_only, waits_beside}
+use Rattle.weighted_automata.proofs.EntryLemmas.{distinct-lowered, lowered_at, lowered_last, index_at-lowered}
+use Rattle.weighted_automata.proofs.RoomLemmas.{missed_has, room_kept, room_stays, room_only, without_only, waits_beside}
 use Rattle.weighted_automata.proofs.transitions.Transitions.lower.Goals as goal
 
 -- Where the place is there its entry is written.

@@ -1,6 +1,6 @@
 use Rattle.std.proofs.Common.{ℕ, length, sym, ap, subst}
 use Rattle.witness_graph.specs.Nodes.{AreNodes, IsNodeAt}
-use Rattle.witness_graph.proofs.OfNodes.{nodes_push}
+use Rattle.witness_graph.proofs.NodeLemmas.{nodes_push}
 use Rattle.witness_graph.proofs.graph.Graph.push_node.Goals as goal
 
 pub invariant_of-self-2 : goal.invariant_of-self-2

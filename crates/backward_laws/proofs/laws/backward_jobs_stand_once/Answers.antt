@@ -1,5 +1,0 @@
-use Rattle.backward_laws.proofs.OfOnce.{jobs_once}
-use Rattle.backward_laws.proofs.laws.backward_jobs_stand_once.Goals as goal
-
-pub returns : goal.returns
-returns g c = λ p ts t distinct. jobs_once p ts t distinct

@@ -1,0 +1,53 @@
+ghost use Rattle.std.specs.Prelude.{◌≡◌, ◌<◌, true, All, length};
+
+use crate::systems::calls;
+use cost_weights::Cost;
+use pushdown_rules::{Config, System};
+use semiring_laws::Semiring;
+use std::alloc::Global;
+use std::test::Fail;
+use wpds_base::OutOfMemory;
+
+fn are_below(count: u32, run: &[u32]) -> bool
+    ensures { result ≡ true → All (λ k. k < count) run.now }
+{
+    run.iter().all(|k| *k < count)
+}
+
+// The value of a run, asked of any semiring.
+fn value_of<S: Semiring>(
+    alloc: Global,
+    system: &System<S>,
+    start: &Config,
+    run: &[u32],
+) -> Result<Option<S::W>, OutOfMemory>
+    requires { All (λ k. k < length system.now.rules) run.now }
+{
+    system.run_value(alloc, start, run)
+}
+
+#[test]
+fn costs_of_runs(rt: HostRuntime) -> Result<(), Fail> {
+    let alloc = rt.alloc();
+    let start = Config::new(alloc, 0, &[0])?;
+    // a cap, a run, and its value
+    let rows: [(u64, &[u32], Option<Option<u64>>); 6] = [
+        (100, &[0, 1], Some(Some(3))),
+        (100, &[0], Some(Some(2))),
+        (100, &[], Some(Some(0))),
+        (100, &[1, 0], None),
+        (2, &[0, 1], Some(Some(2))),
+        (1, &[0], Some(Some(1))),
+    ];
+    for (cap, run, value) in rows {
+        let system = calls(alloc, Cost::new(cap)?)?;
+        assert!(rt; are_below(system.rules(), run));
+        assert_eq!(rt;
+            value_of(alloc, &system, &start, run)?,
+            value,
+            "{} rules up to {cap}",
+            run.len()
+        );
+    }
+    Ok(())
+}

@@ -1,0 +1,2 @@
+-- What crates above may cite.
+pub use Rattle.document_systems.proofs.PatternLemmas.{one_member}

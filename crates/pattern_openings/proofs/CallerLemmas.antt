@@ -1,0 +1,2 @@
+-- What crates above may cite.
+pub use Rattle.pattern_openings.proofs.EdgeLemmas.{edge_is, final_is_state, last_is_final}

@@ -1,0 +1,73 @@
+-- The backward direction fits the opening of each pattern, and how many places it can reach from there.
+use Rattle.std.proofs.Common.{◌≡◌, inl, inr, ℕ, suc, ◌+◌, ◌*◌, ◌<◌, ◌≤◌, true, List, [], ◌∷◌, ◌++◌, map, length, refl, ap, ◌∙◌, subst, arith}
+use Rattle.std.specs.Prelude.{IsTrue, nat_le, ◌&&◌, if◌then◌else◌}
+use Rattle.std.specs.List.{list_all, range_with_len}
+use Rattle.std.proofs.lemmas.Bool.{and_from, le-leb, cond_both}
+use Rattle.weighted_automata.specs.declared.place.Place.{Place}
+use Rattle.pushdown_rules.specs.Pushdown.{Pushdown}
+use Rattle.config_patterns.specs.declared.item.Item.{Item}
+use Rattle.config_patterns.specs.Membership.{PatternValue}
+use Rattle.config_patterns.specs.Edges.{edges_of}
+use Rattle.wpds_base.specs.Lists.{IsIn}
+use Rattle.saturation_core.proofs.CallerLemmas.{in_append, in_right, in_map, from_map}
+use Rattle.pattern_openings.specs.PatternOpenings.{state_of, place_of_edge, finals_of_items, opening_of}
+use Rattle.pattern_openings.proofs.CallerLemmas.{edge_is, final_is_state, last_is_final}
+use Rattle.prestar_laws.specs.Fitting.{is_item_edge, fits_pre, above, state_count, pre_places}
+use Rattle.prestar_laws.proofs.CallerLemmas.{above_start, above_each, length-arrows}
+
+all_map : {X Y : Type 0} (test : Y → Rattle.std.specs.Prelude.Bool) (f : X → Y) (xs : List X) → ((x : X) → IsIn x xs → test (f x) ≡ true) → list_all test (map f xs) ≡ true
+all_map test f [] each = refl
+all_map test f (x ∷ xs) each = and_from (test (f x)) (list_all test (map f xs)) (each x (inl refl)) (all_map test f xs (λ y h. each y (inr h)))
+
+-- the backward direction fits the opening of each pattern
+pub pattern_fits : {S W Map : Type 0} (p : Pushdown S W Map) (pattern : PatternValue) → IsTrue (fits_pre p (opening_of p.controls pattern))
+pattern_fits p pattern =
+    all_map (is_item_edge p.controls) (place_of_edge p.controls pattern.control) (edges_of pattern.items)
+    (λ e there. le-leb p.controls (state_of p.controls pattern.control e.to) (edge_is p.controls pattern.control pattern.items e there).to_item)
+
+above_most : (n m : ℕ) (qs : List ℕ) → n ≤ m → ((q : ℕ) → IsIn q qs → q < m) → above n qs ≤ m
+above_most n m [] low each = low
+above_most n m (q ∷ qs) low each =
+    let P : ℕ → Type 0 = λ i. above i qs ≤ m in
+    let rest : (i : ℕ) → i ≤ m → above i qs ≤ m = λ i h. above_most i m qs h (λ z g. each z (inr g)) in
+    let here : q < m = each q (inl refl) in
+    cond_both (nat_le (suc q) n) n (suc q) P (λ _. rest n low) (λ _. rest (suc q) (omega (arith, here)))
+
+module _ (controls : ℕ) (pattern : PatternValue) (low : pattern.control < controls) where
+  abbrev f : ℕ → ℕ
+  f i = state_of controls pattern.control i
+
+  abbrev named : List ℕ
+  named = map (λ (x : Place). x.to) (opening_of controls pattern).edges ++ (opening_of controls pattern).finals
+
+  below_last : (q : ℕ) → IsIn q named → q < controls + length pattern.items
+  below_last q h = elim (in_append q (map (λ (x : Place). x.to) (opening_of controls pattern).edges) (opening_of controls pattern).finals h) [
+    | inl edge ↦
+        let x = from_map (λ (x : Place). x.to) q (opening_of controls pattern).edges edge in
+        let e = from_map (place_of_edge controls pattern.control) x.before (edges_of pattern.items) x.there in
+        let P : ℕ → Type 0 = λ n. n < controls + length pattern.items in
+        let Q : Place → Type 0 = λ y. y.to < controls + length pattern.items in
+        subst P x.is (subst Q e.is (edge_is controls pattern.control pattern.items e.before e.there).to_last)
+    | inr final ↦
+        let i = from_map f q (finals_of_items pattern.items) final in
+        let P : ℕ → Type 0 = λ n. n < controls + length pattern.items in
+        subst P i.is (final_is_state controls pattern.control pattern.items low i.before i.there)
+  ]
+
+  above_last : (items : List Item) → pattern.items ≡ items → controls + length items ≤ state_count controls (opening_of controls pattern)
+  above_last [] e = let all = above_start controls named in omega (arith, all)
+  above_last (x ∷ items) e =
+      let all = above_each controls named (f (length (x ∷ items))) (in_right (f (length (x ∷ items))) (map (λ (x : Place). x.to) (opening_of controls pattern).edges) (opening_of controls pattern).finals
+      (in_map f (length (x ∷ items)) (finals_of_items pattern.items) (let P : ℕ → Type 0 = λ n. IsIn n (finals_of_items pattern.items) in subst P (ap length e) (last_is_final pattern.items)))) in
+      let here : controls + length items < state_count controls (opening_of controls pattern) = all in
+      let long : length (x ∷ items) ≡ suc (length items) = refl in omega (arith, here, long)
+
+  -- the states of a pattern's opening are the controls and one for each item
+  pub pattern_states : state_count controls (opening_of controls pattern) ≡ controls + length pattern.items
+  pattern_states =
+      let most = above_most controls (controls + length pattern.items) named (omega arith) below_last in
+      let least = above_last pattern.items refl in omega (arith, most, least)
+
+pub pattern_places : {S W Map : Type 0} (p : Pushdown S W Map) (pattern : PatternValue) → pattern.control < p.controls
+    → length (pre_places p (opening_of p.controls pattern)) ≡ p.controls * p.symbols * (p.controls + length pattern.items)
+pattern_places p pattern low = length-arrows p.controls p.symbols (state_count p.controls (opening_of p.controls pattern)) ∙ ap (λ n. p.controls * p.symbols * n) (pattern_states p.controls pattern low)

@@ -1,0 +1,13 @@
+mod Weights
+mod RowLemmas
+mod TableLemmas
+mod MeetingLemmas
+mod PathLemmas
+mod ClosingLemmas
+mod RowTestLemmas
+mod JobLemmas
+mod PlaceLemmas
+mod LawLemmas
+mod OnceLemmas
+mod Examples
+pub mod CallerLemmas

@@ -1,0 +1,7 @@
+-- What crates above may cite.
+pub use Rattle.pushdown_rules.proofs.FiringLemmas.{fired, fires, none_from_nothing, run_above, run_then}
+pub use Rattle.pushdown_rules.proofs.MachineLemmas.{by_word, rules_cons}
+pub use Rattle.pushdown_rules.proofs.SplitLemmas.{joined_value, split}
+pub use Rattle.pushdown_rules.proofs.SystemLemmas.{rule_at, value_fits}
+pub use Rattle.pushdown_rules.proofs.ValueLemmas.{ends_control, map_fits, open_value, push_value, step_value}
+pub use Rattle.pushdown_rules.proofs.ValueLemmas.{weight_fits}

@@ -1,0 +1,89 @@
+-- What a change of a place keeps.
+use Rattle.std.proofs.Common.{◌≡◌, inl, inr, ℕ, ◌<◌, ◌≤◌, true, false, List, refl, sym, ap, ◌∙◌, subst, arith}
+use Rattle.std.specs.Prelude.{Option, None, Some, IfSome, cond, option_map, option_and_then, slice_get}
+use Rattle.std.proofs.lemmas.Option.{same_Some}
+use Rattle.semiring_laws.specs.Semiring.{Operations, IsSemiring, Fits}
+use Rattle.weighted_automata.specs.declared.place.Place.{Place}
+use Rattle.weighted_automata.specs.declared.transitions.Entry.{Entry}
+use Rattle.weighted_automata.specs.Entries.{entry_at, lowered, Present}
+use Rattle.weighted_automata.proofs.CallerLemmas.{cases_place, entry_at-place, entry_at-lowered_same, entry_at-lowered_other}
+use Rattle.witness_graph.specs.declared.node.Node.TheVariants.{Lower}
+use Rattle.witness_graph.specs.Nodes.{IsNodeAt}
+use Rattle.witness_graph.proofs.CallerLemmas.{orderly_from}
+use Rattle.saturation_core.specs.Jobs.{node_of}
+use Rattle.saturation_core.specs.States.{CoreState, Change, weight_of, weight_at, lower_state, apply}
+use Rattle.saturation_core.specs.Openings.{AreKept, changed_weight}
+
+module _ {S W Map : Type 0} {s : Operations W Map} (laws : IsSemiring s) where
+  -- the entry that a search found
+  pub read_entry : (x : Place) (ts : List (Entry S W Map)) (k : ℕ) (o : Option ℕ) (t : Entry S W Map) → option_and_then (slice_get ts) o ≡ entry_at x ts → o ≡ Some k → slice_get ts k ≡ Some t
+      → entry_at x ts ≡ Some t
+  read_entry x ts k o t found is read = sym found ∙ ap (option_and_then (slice_get ts)) is ∙ read
+
+  pub present_at : (x : Place) (ts : List (Entry S W Map)) (t : Entry S W Map) → entry_at x ts ≡ Some t → Present ts t
+  present_at x ts t e = ap (λ z. entry_at z ts) (entry_at-place x ts t e) ∙ e
+
+  pub kept_of : (x : Place) (ts : List (Entry S W Map)) (n : ℕ) → AreKept s ts n → (o : Option (Entry S W Map)) → entry_at x ts ≡ o → Fits s (weight_of s o) × IfSome (option_map node_of o) (λ k. k < n)
+  kept_of x ts n kept None e = (laws.fits-zero, tt)
+  kept_of x ts n kept (Some t) e = kept.each t (present_at x ts t e)
+
+  pub kept_weight : (x : Place) (ts : List (Entry S W Map)) (n : ℕ) → AreKept s ts n → Fits s (weight_at s x ts)
+  kept_weight x ts n kept = (kept_of x ts n kept (entry_at x ts) refl).0
+
+  -- the node of a rule alone may stand next
+  pub rule_node : (x : Place) (ts : List (Entry S W Map)) (n : ℕ) (rule : ℕ) (o : Option ℕ) → AreKept s ts n → o ≡ option_map node_of (entry_at x ts) → IsNodeAt n (Lower o (Some rule) None None)
+  rule_node x ts n rule o kept is =
+      let P : Option ℕ → Type 0 = λ i. IfSome i (λ k. k < n) in
+      record { orderly = orderly_from n (Lower o (Some rule) None None) (subst P (sym is) (kept_of x ts n kept (entry_at x ts) refl).1, tt, tt); part = refl }
+
+  pub kept_lowered : (x : Place) (w : W) (k n m : ℕ) (ts : List (Entry S W Map)) → AreKept s ts n → Fits s w → k < m → n ≤ m → AreKept s (lowered x w k ts) m
+  kept_lowered x w k n m ts kept fit within more = record {
+    each = λ t there. elim (cases_place x t.place) [
+      | inl e ↦
+          let new : Entry S W Map = record { place = x; weight = w; node = k } in
+          let same : new ≡ t = same_Some new t (sym (ap (λ z. entry_at z (lowered x w k ts)) (sym e) ∙ entry_at-lowered_same x w k ts) ∙ there) in
+          let P : Entry S W Map → Type 0 = λ u. Fits s u.weight × (u.node < m) in subst P same (fit, within)
+      | inr other ↦
+          let was = kept.each t (sym (entry_at-lowered_other x t.place w k ts other) ∙ there) in
+          let below : t.node < n = was.1 in (was.0, omega (arith, below))
+    ];
+  }
+
+  pub kept_more : (n m : ℕ) (ts us : List (Entry S W Map)) → us ≡ ts → n ≤ m → AreKept s ts n → AreKept s us m
+  kept_more n m ts us same more kept =
+      let P : List (Entry S W Map) → Type 0 = λ vs. AreKept s vs m in
+      subst P (sym same) (record { each = λ t there. let was = kept.each t there in let below : t.node < n = was.1 in (was.0, omega (arith, below)) })
+
+  -- where the weight changes
+  pub applied_is : (c : Change W) (st : CoreState S W Map) (old w : W) → old ≡ weight_at s c.goal st.transitions → changed_weight s old c.weight ≡ Some w
+      → (s.combine old c.weight ≡ w) × (apply s c st ≡ lower_state s c w st)
+  applied_is c st old w is changed =
+      let P : W → Type 0 = λ o. changed_weight s o c.weight ≡ Some w in
+      let at = weight_at s c.goal st.transitions in
+      let new = s.combine at c.weight in
+      let both : (new ≡ w) × (apply s c st ≡ lower_state s c w st) =
+      elim (s.same new at) as (λ b. cond b None (Some new) ≡ Some w → (new ≡ w) × (cond b st (lower_state s c new st) ≡ lower_state s c w st)) [
+        | true ↦ λ h. cc
+        | false ↦ λ h. let e : new ≡ w = same_Some new w h in (e, ap (λ v. lower_state s c v st) e)
+      ] (subst P is changed) in
+      (ap (λ o. s.combine o c.weight) is ∙ both.0, both.1)
+
+  -- where it does not
+  pub applied_none : (c : Change W) (st : CoreState S W Map) (old : W) → old ≡ weight_at s c.goal st.transitions → changed_weight s old c.weight ≡ None → apply s c st ≡ st
+  applied_none c st old is unchanged =
+      let P : W → Type 0 = λ o. changed_weight s o c.weight ≡ None in
+      let at = weight_at s c.goal st.transitions in
+      let new = s.combine at c.weight in
+      elim (s.same new at) as (λ b. cond b None (Some new) ≡ None → cond b st (lower_state s c new st) ≡ st) [
+        | true ↦ λ h. refl
+        | false ↦ λ h. cc
+      ] (subst P is unchanged)
+
+module _ {W Map : Type 0} {s : Operations W Map} (laws : IsSemiring s) where
+  pub changed_fits : (old weight w : W) → Fits s old → Fits s weight → changed_weight s old weight ≡ Some w → Fits s w
+  changed_fits old weight w fo fw changed =
+      let new = s.combine old weight in
+      elim (s.same new old) as (λ b. cond b None (Some new) ≡ Some w → Fits s w) [
+        | true ↦ λ h. cc
+        | false ↦ λ h. let P : W → Type 0 = Fits s in subst P (same_Some new w h) (laws.fits-combine old weight fo fw)
+      ] changed

@@ -1,0 +1,64 @@
+-- A book at its opening.
+use Rattle.std.proofs.Common.{◌≡◌, ℕ, suc, zero, List, [], ◌∷◌, refl, sym, ap, ◌∙◌, arith}
+use Rattle.std.specs.Prelude.{Option, None, Some, IsTrue, replicate}
+use Rattle.semiring_laws.specs.Semiring.{Operations, IsSemiring}
+use Rattle.weighted_automata.specs.declared.place.Place.{Place}
+use Rattle.weighted_automata.specs.declared.transitions.Entry.{Entry}
+use Rattle.witness_graph.specs.declared.node.Node.{Node}
+use Rattle.witness_graph.specs.declared.node.Node.TheVariants.{Start}
+use Rattle.witness_graph.specs.declared.node.Side.{Side}
+use Rattle.pushdown_rules.specs.Pushdown.{Pushdown, IsSystem}
+use Rattle.saturation_core.specs.declared.event.Event.{Event}
+use Rattle.saturation_core.specs.declared.hand.Holding.{Holding}
+use Rattle.saturation_core.specs.declared.opening.Opening.{Opening}
+use Rattle.saturation_core.specs.States.{CoreState, apply_all, replay}
+use Rattle.saturation_core.specs.Openings.{pops, with_edges, opening_state, found_so_far}
+use Rattle.saturation_core.specs.Books.{BookValue, hands_out, opened_by, IsBook}
+use Rattle.saturation_core.proofs.BookInvariant.{book_from}
+use Rattle.saturation_core.specs.Ways.{Way, IsLawful}
+
+hands_out-none : (S W Map : Type 0) (n : ℕ) → hands_out {S = S} {W = W} {Map = Map} (replicate n None) ≡ 0
+hands_out-none S W Map zero = refl
+hands_out-none S W Map (suc n) = omega (arith, hands_out-none S W Map n)
+
+module _ {S W Map : Type 0} where
+  pub no_hand_out : (hs : List (Option (Holding S W Map))) → hs ≡ replicate 64 None → hands_out hs ≡ 0
+  no_hand_out hs none = ap hands_out none ∙ hands_out-none S W Map 64
+
+  abbrev pub state_of : List (Entry S W Map) → List Node → List Place → List (Option (Holding S W Map)) → CoreState S W Map
+  state_of ts ns q hs = record { transitions = ts; nodes = ns; queue = q; hands = hs }
+
+  -- the edges, and then what the side adds, make the opening state
+  pub filled : (s z : Operations W Map) (p : Pushdown S W Map) (edges es : List Place) (side named : Side)
+      (bare_ts edge_ts pop_ts ts : List (Entry S W Map)) (bare_ns pop_ns ns : List Node) (bare_q edge_q q : List Place) (hands : List (Option (Holding S W Map)))
+      → z ≡ s → es ≡ edges → named ≡ side → bare_ts ≡ [] → bare_ns ≡ Start ∷ [] → bare_q ≡ []
+      → found_so_far edge_ts bare_ns edge_q ≡ with_edges z es (found_so_far bare_ts bare_ns bare_q)
+      → found_so_far pop_ts pop_ns q ≡ apply_all s (pops side p.rules) (found_so_far edge_ts bare_ns edge_q)
+      → ts ≡ pop_ts → ns ≡ pop_ns → hands ≡ replicate 64 None
+      → state_of ts ns q hands ≡ opening_state s named p edges
+  filled s z p edges es side named bare_ts edge_ts pop_ts ts bare_ns pop_ns ns bare_q edge_q q hands same these way none_ts start none_q edged popped at_ts at_ns none =
+      ap (λ us. state_of us ns q hands) at_ts ∙ ap (λ ms. state_of pop_ts ms q hands) at_ns ∙ ap (state_of pop_ts pop_ns q) none
+      ∙ popped
+      ∙ ap (apply_all s (pops side p.rules)) (edged
+      ∙ ap (λ o. with_edges o es (found_so_far bare_ts bare_ns bare_q)) same
+      ∙ ap (λ xs. with_edges s xs (found_so_far bare_ts bare_ns bare_q)) these
+      ∙ ap (λ us. with_edges s edges (found_so_far us bare_ns bare_q)) none_ts
+      ∙ ap (λ ms. with_edges s edges (found_so_far [] ms bare_q)) start
+      ∙ ap (λ r. with_edges s edges (found_so_far [] (Start ∷ []) r)) none_q)
+      ∙ ap (λ i. apply_all s (pops i p.rules) (with_edges s edges (found_so_far [] (Start ∷ []) []))) (sym way)
+
+-- the parts of a book that was just begun
+abbrev pub begin : {S W Map D : Type 0} → Pushdown S W Map → D → Opening → CoreState S W Map → List Event → BookValue S W Map D
+begin p d o st es = record { system = p; direction = d; opening = o; state = st; journal = es }
+
+pub begin_is : {S W Map D : Type 0} (p : Pushdown S W Map) (d : D) (o : Opening) (st new : CoreState S W Map) (es : List Event) → st ≡ new → es ≡ [] → begin p d o st es ≡ begin p d o new []
+begin_is p d o st new es opened empty = ap (λ i. begin p d o i es) opened ∙ ap (begin p d o new) empty
+
+module _ {S W Map D : Type 0} (operations : S → Operations W Map) (laws : (x : S) → IsSemiring (operations x)) (way : Way S W Map D)
+    (direction : IsLawful operations way) where
+  -- the opening state without events is a book
+  pub begun : (b : BookValue S W Map D) → IsSystem operations b.system → IsTrue (way.fits_opening b.direction b.system b.opening) → b.state ≡ opened_by operations way b → b.journal ≡ []
+      → IsBook operations way b
+  begun b system fits opened empty =
+      book_from operations laws way direction b system fits
+      (ap (replay (operations b.system.semiring) (way.tables b.direction b.system) (opened_by operations way b)) empty ∙ ap Some (sym opened))

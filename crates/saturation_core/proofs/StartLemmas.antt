@@ -1,0 +1,75 @@
+-- The edges and pop rules of an opening, one after another.
+use Rattle.std.proofs.Common.{◌≡◌, ℕ, suc, zero, ◌+◌, ◌<◌, List, [], ◌∷◌, ◌++◌, length, get_or, drop, refl, sym, ap, ◌∙◌, arith}
+use Rattle.std.specs.Prelude.{Option, None, Some, slice_get, replicate}
+use Rattle.std.proofs.lemmas.List.{at_drop_more}
+use Rattle.std.proofs.lemmas.Option.{same_Some}
+use Rattle.semiring_laws.specs.Semiring.{Operations}
+use Rattle.weighted_automata.specs.declared.place.Place.{Place}
+use Rattle.pushdown_rules.specs.declared.rule.Rule.{Rule}
+use Rattle.saturation_core.specs.States.{CoreState, Change, apply, apply_all}
+use Rattle.saturation_core.specs.Openings.{pop_change, pops_of, pops_at, pops_from, with_edges, found_so_far}
+use Rattle.saturation_core.specs.Queues.{queued}
+use Rattle.weighted_automata.specs.Entries.{lowered}
+use Rattle.weighted_automata.specs.declared.transitions.Entry.{Entry}
+use Rattle.witness_graph.specs.declared.node.Node.{Node}
+
+pub replicate-push : {X : Type 0} (n : ℕ) (x : X) → replicate n x ++ x ∷ [] ≡ replicate (n + 1) x
+replicate-push zero x = refl
+replicate-push (suc n) x = let e : suc (n + 1) ≡ suc n + 1 = omega arith in ap (λ xs. x ∷ xs) (replicate-push n x) ∙ ap (λ m. replicate m x) e
+
+pub drop_at : {X : Type 0} (xs : List X) (k : ℕ) (x : X) → slice_get xs k ≡ Some x → drop k xs ≡ x ∷ drop (k + 1) xs
+drop_at [] k x e = cc
+drop_at (y ∷ xs) zero x e = ap (λ z. z ∷ xs) (same_Some y x e)
+drop_at (y ∷ xs) (suc k) x e = let h : suc (k + 1) ≡ suc k + 1 = omega arith in drop_at xs k x e ∙ ap (λ m. x ∷ drop m (y ∷ xs)) h
+
+missing : {X : Type 0} (xs : List X) (k : ℕ) → k < length xs → slice_get xs k ≡ None → ⊥
+missing [] k within e = absurd (omega (arith, within))
+missing (x ∷ xs) zero within e = cc
+missing (x ∷ xs) (suc k) within e = let w : suc k < suc (length xs) = within in missing xs k (omega (arith, w)) e
+
+module _ {S W Map : Type 0} (s : Operations W Map) where
+  pub edge_more : (es : List Place) (i : ℕ) (d : Place) (ts us : List (Entry S W Map)) (nodes : List Node) (q r : List Place) (w : W) (all : CoreState S W Map)
+      → i < length es → with_edges s (drop i es) (found_so_far ts nodes q) ≡ all → w ≡ s.one → us ≡ lowered (get_or es i d) w 0 ts → r ≡ queued (get_or es i d) q
+      → with_edges s (drop (i + 1) es) (found_so_far us nodes r) ≡ all
+  edge_more es i d ts us nodes q r w all within was one new last =
+      let x = get_or es i d in
+      ap (λ vs. with_edges s (drop (i + 1) es) (found_so_far vs nodes r)) (new ∙ ap (λ v. lowered x v 0 ts) one)
+      ∙ ap (λ p. with_edges s (drop (i + 1) es) (found_so_far (lowered x s.one 0 ts) nodes p)) last
+      ∙ sym (at_drop_more (λ xs. with_edges s xs (found_so_far ts nodes q)) es i d within) ∙ was
+
+  module _ (rs : List (Rule S W Map)) (k : ℕ) (r : Rule S W Map) (there : slice_get rs k ≡ Some r) (now all : CoreState S W Map) (was : apply_all s (pops_from k (drop k rs)) now ≡ all) where
+    from_here : apply_all s (pops_of k r ++ pops_from (k + 1) (drop (k + 1) rs)) now ≡ all
+    from_here =
+        let e : suc k ≡ k + 1 = omega arith in
+        sym (ap (λ xs. apply_all s (pops_from k xs) now) (drop_at rs k r there) ∙ ap (λ m. apply_all s (pops_of k r ++ pops_from m (drop (k + 1) rs)) now) e) ∙ was
+
+  apply_all-append : (cs ds : List (Change W)) (st : CoreState S W Map) → apply_all s (cs ++ ds) st ≡ apply_all s ds (apply_all s cs st)
+  apply_all-append [] ds st = refl
+  apply_all-append (c ∷ cs) ds st = apply_all-append cs ds (apply s c st)
+
+  pops_at_is : (rs : List (Rule S W Map)) (k : ℕ) (r : Rule S W Map) → slice_get rs k ≡ Some r → pops_at k rs ≡ pops_of k r
+  pops_at_is rs k r there = let P : Option (Rule S W Map) → List (Change W) = λ o. elim o [ None ↦ [] | Some q ↦ pops_of k q ] in ap P there
+
+  -- one rule more
+  pub pops_more : (rs : List (Rule S W Map)) (k : ℕ) (now new all : CoreState S W Map) → k < length rs → apply_all s (pops_from k (drop k rs)) now ≡ all → new ≡ apply_all s (pops_at k rs) now
+      → apply_all s (pops_from (k + 1) (drop (k + 1) rs)) new ≡ all
+  pops_more rs k now new all within was made =
+      elim (slice_get rs k) as (λ o. slice_get rs k ≡ o → apply_all s (pops_from (k + 1) (drop (k + 1) rs)) new ≡ all) [
+        | None ↦ λ e. absurd (missing rs k within e)
+        | Some r ↦ λ e.
+            ap (apply_all s (pops_from (k + 1) (drop (k + 1) rs))) (made ∙ ap (λ cs. apply_all s cs now) (pops_at_is rs k r e))
+            ∙ sym (apply_all-append (pops_of k r) (pops_from (k + 1) (drop (k + 1) rs)) now)
+            ∙ from_here rs k r e now all was
+      ] refl
+
+  -- a pop rule adds one change, and another rule none
+  pub pop_added : (rs : List (Rule S W Map)) (k : ℕ) (r : Rule S W Map) → slice_get rs k ≡ Some r → (st : CoreState S W Map) → r.right ≡ [] → apply_all s (pops_at k rs) st ≡ apply s (pop_change k r) st
+  pop_added rs k r there st none =
+      let P : List ℕ → List (Change W) = λ w. elim w [ [] ↦ pop_change k r ∷ [] | g ∷ gs ↦ [] ] in
+      ap (λ cs. apply_all s cs st) (pops_at_is rs k r there ∙ ap P none)
+
+  pub pop_left : (rs : List (Rule S W Map)) (k : ℕ) (r : Rule S W Map) → slice_get rs k ≡ Some r → (st : CoreState S W Map) → (r.right ≡ [] → ⊥) → st ≡ apply_all s (pops_at k rs) st
+  pop_left rs k r there st some =
+      let Q : List ℕ → List (Change W) = λ w. elim w [ [] ↦ pop_change k r ∷ [] | g ∷ gs ↦ [] ] in
+      let none : pops_of k r ≡ [] = elim r.right as (λ w. (w ≡ [] → ⊥) → Q w ≡ []) [ [] ↦ λ f. absurd (f refl) | g ∷ gs ↦ λ f. refl ] some in
+      sym (ap (λ cs. apply_all s cs st) (pops_at_is rs k r there ∙ none))

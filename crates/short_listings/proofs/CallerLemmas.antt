@@ -1,0 +1,2 @@
+-- What crates above may cite.
+pub use Rattle.short_listings.proofs.TightLemmas.{stays_tight}
