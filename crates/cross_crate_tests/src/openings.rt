@@ -1,6 +1,6 @@
 ghost use Rattle.std.specs.Prelude.{IsTrue, All};
 ghost use Rattle.cost_weights.specs.Cost.{cost_operations};
-ghost use Rattle.saturation_core.specs.Jobs.{row_of, InputsFit};
+ghost use Rattle.saturation_laws.specs.Jobs.{row_of, InputsFit};
 ghost use Rattle.prestar_laws.specs.Rows.{pre_rows};
 
 use crate::patterns::{A, pattern_over};
@@ -8,7 +8,8 @@ use crate::systems::grows;
 use cost_weights::Cost;
 use prestar::{Pre, pre_opening};
 use pushdown_rules::System;
-use saturation_core::{Book, Direction, Input, Job, JobKind, Taken};
+use saturation_core::{Book, Taken};
+use saturation_laws::{Direction, Input, Job, JobKind};
 use semiring_laws::Semiring;
 use std::alloc::Global;
 use std::test::Fail;

@@ -1,7 +1,8 @@
 ghost use Rattle.std.specs.Prelude.{IfOk, IfSome};
 ghost use Rattle.saturation_core.specs.Settled.{IsWorkedBy};
 
-use saturation_core::{Book, Direction, Done, Taken};
+use saturation_core::{Book, Done, Taken};
+use saturation_laws::Direction;
 use semiring_laws::Semiring;
 use std::alloc::Global;
 use wpds_base::OutOfMemory;

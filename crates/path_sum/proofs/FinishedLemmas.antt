@@ -21,9 +21,9 @@ use Rattle.pushdown_rules.specs.Pushdown.{Pushdown, IsSystem}
 use Rattle.pushdown_rules.specs.Values.{value_of}
 use Rattle.pushdown_rules.specs.Answers.{Answers}
 use Rattle.pushdown_rules.proofs.CallerLemmas.{value_fits}
-use Rattle.saturation_core.specs.declared.opening.Opening.{Opening}
-use Rattle.saturation_core.specs.Openings.{AreKept}
-use Rattle.saturation_core.specs.States.{CoreState, weight_of, weight_at}
+use Rattle.saturation_laws.specs.declared.opening.Opening.{Opening}
+use Rattle.saturation_laws.specs.Openings.{AreKept}
+use Rattle.saturation_laws.specs.States.{CoreState, weight_of, weight_at}
 use Rattle.path_sum.specs.declared.answer.Answer.{Answer}
 use Rattle.path_sum.specs.Sums.{ways_of, answer_place, SumRun, TaskValue, bare_sum, moves_of, IsReady, GrowsBy}
 use Rattle.path_sum.specs.Pairs.{states_of, sum_places}
@@ -37,7 +37,7 @@ use Rattle.path_sum.proofs.BookLemmas.{finished_answers}
 use Rattle.path_sum.proofs.RoundLemmas.{IsUnderWay, left_of, past, sum_good, begun, front_ready, round_keeps, round_falls, ended, all_kept, few_nodes}
 use Rattle.path_sum.proofs.PlaceLemmas.{places_count}
 use Rattle.path_sum.proofs.MemberLemmas.{members_way}
-use Rattle.saturation_core.specs.Ways.{Way, HasPathSums}
+use Rattle.saturation_laws.specs.Ways.{Way, HasPathSums}
 
 -- all nodes of a tight list are tight, and past its end there is nothing
 all_tight : {W Map : Type 0} (s : Operations W Map) (value : List ℕ → W) (side : Side) (nodes : List Node) → IsTight s value side nodes → (order : List ℕ) → AreTight s value side nodes order

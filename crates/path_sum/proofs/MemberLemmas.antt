@@ -12,7 +12,7 @@ use Rattle.config_patterns.specs.Paths as paths
 use Rattle.config_patterns.proofs.CallerLemmas.{members_read}
 use Rattle.pushdown_rules.specs.Configuration.{Configuration}
 use Rattle.wpds_base.specs.Lists.{IsIn}
-use Rattle.saturation_core.specs.Paths.{Reads}
+use Rattle.saturation_laws.specs.Paths.{Reads}
 use Rattle.path_sum.specs.Sums.{HasWay, ways_of, edge_place}
 use Rattle.path_sum.proofs.PlaceLemmas.{same_in}
 

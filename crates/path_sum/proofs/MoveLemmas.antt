@@ -9,10 +9,10 @@ use Rattle.weighted_automata.specs.declared.transitions.Entry.{Entry}
 use Rattle.weighted_automata.specs.Places.{same_label}
 use Rattle.witness_graph.specs.declared.node.Node.{Node}
 use Rattle.witness_graph.specs.declared.node.Side.{Side}
-use Rattle.saturation_core.specs.declared.opening.Opening.{Opening}
+use Rattle.saturation_laws.specs.declared.opening.Opening.{Opening}
 use Rattle.wpds_base.specs.Lists.{IsIn}
-use Rattle.saturation_core.specs.States.{CoreState}
-use Rattle.saturation_core.proofs.CallerLemmas.{in_left, in_append}
+use Rattle.saturation_laws.specs.States.{CoreState}
+use Rattle.saturation_laws.proofs.CallerLemmas.{in_left, in_append}
 use Rattle.path_sum.proofs.EntryLemmas.{in_right, entry_in}
 use Rattle.path_sum.specs.Sums.{Ways, Moves, has_state, Move, Along, End, Done, move, grow, bare_sum, IsGrown, IsWork, edge_moves, moves_by, pair_moves, end_moves, moves_of}
 

@@ -9,7 +9,7 @@ use Rattle.weighted_automata.specs.declared.place.Label.TheVariants.{Symbol, Emp
 use Rattle.witness_graph.specs.declared.node.Side.{Side}
 use Rattle.witness_graph.specs.declared.node.Side.TheVariants.{Pre, Post}
 use Rattle.wpds_base.specs.Lists.{IsIn}
-use Rattle.saturation_core.specs.Paths.{symbols_of, IsPath, EachRun, runs_in_order, joined, in_order, along, Reads}
+use Rattle.saturation_laws.specs.Paths.{symbols_of, IsPath, EachRun, runs_in_order, joined, in_order, along, Reads}
 use Rattle.semiring_laws.proofs.CallerLemmas.{extend_left_keeps_below, extend_right_keeps_below}
 use Rattle.path_sum.specs.Sums.{Moves}
 

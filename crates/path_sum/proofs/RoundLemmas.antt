@@ -11,12 +11,12 @@ use Rattle.weighted_automata.proofs.CallerLemmas.{same_place_is}
 use Rattle.witness_graph.specs.declared.node.Node.{Node}
 use Rattle.witness_graph.specs.declared.node.Node.TheVariants.{Start}
 use Rattle.pushdown_rules.specs.Pushdown.{Pushdown}
-use Rattle.saturation_core.specs.Bound.{fallen}
+use Rattle.saturation_laws.specs.Bound.{fallen}
 use Rattle.wpds_base.specs.Lists.{IsIn}
-use Rattle.saturation_core.specs.Openings.{AreKept, found_so_far}
-use Rattle.saturation_core.specs.States.{CoreState}
-use Rattle.saturation_core.specs.Invariants.{HasShape}
-use Rattle.saturation_core.proofs.CallerLemmas.{entry_fits}
+use Rattle.saturation_laws.specs.Openings.{AreKept, found_so_far}
+use Rattle.saturation_laws.specs.States.{CoreState}
+use Rattle.saturation_laws.specs.Invariants.{HasShape}
+use Rattle.saturation_laws.proofs.CallerLemmas.{entry_fits}
 use Rattle.path_sum.specs.Sums.{Ways, ways_of, pair_place, Move, Done, move, grow, moves_of, bare_sum, IsGrown, IsSummed, IsAwaited, IsAmong, IsReady, SumRun, TaskValue}
 use Rattle.path_sum.specs.Pairs.{sum_places}
 use Rattle.path_sum.specs.Summing.{IsSummable}

@@ -8,9 +8,9 @@ use Rattle.witness_graph.specs.declared.node.Side.TheVariants.{Pre, Post}
 use Rattle.witness_graph.specs.Runs.{runs_of}
 use Rattle.pushdown_rules.specs.Configuration.{Configuration}
 use Rattle.pushdown_rules.specs.Pushdown.{Pushdown}
-use Rattle.saturation_core.specs.declared.opening.Opening.{Opening}
-use Rattle.saturation_core.specs.States.{CoreState, weight_at}
-use Rattle.saturation_core.specs.Paths.{IsOpened}
+use Rattle.saturation_laws.specs.declared.opening.Opening.{Opening}
+use Rattle.saturation_laws.specs.States.{CoreState, weight_at}
+use Rattle.saturation_laws.specs.Paths.{IsOpened}
 use Rattle.pushdown_rules.specs.Answers.{Answers}
 use Rattle.witness_graph.specs.declared.node.Node.{Node}
 use Rattle.witness_graph.specs.declared.listing.Listing.{Listing}

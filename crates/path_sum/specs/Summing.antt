@@ -7,9 +7,9 @@ use Rattle.weighted_automata.specs.Entries.{Present}
 use Rattle.witness_graph.specs.declared.node.Node.{Node}
 use Rattle.pushdown_rules.specs.Configuration.{Configuration}
 use Rattle.pushdown_rules.specs.Pushdown.{Pushdown}
-use Rattle.saturation_core.specs.Openings.{found_so_far}
-use Rattle.saturation_core.specs.Invariants.{IsSound, HasShape}
-use Rattle.saturation_core.specs.Paths.{IsPath, EachRun, IsGiven}
+use Rattle.saturation_laws.specs.Openings.{found_so_far}
+use Rattle.saturation_laws.specs.Invariants.{IsSound, HasShape}
+use Rattle.saturation_laws.specs.Paths.{IsPath, EachRun, IsGiven}
 use Rattle.path_sum.specs.Sums.{TaskValue}
 
 -- The transitions have nodes of runs, and a path of them gives a run.

@@ -17,11 +17,11 @@ use Rattle.config_patterns.specs.Membership.{PatternValue}
 use Rattle.config_patterns.specs.Edges.{edges_of, is_final_of}
 use Rattle.pushdown_rules.specs.Configuration.{Configuration}
 use Rattle.pushdown_rules.specs.Pushdown.{Pushdown}
-use Rattle.saturation_core.specs.declared.opening.Opening.{Opening}
+use Rattle.saturation_laws.specs.declared.opening.Opening.{Opening}
 use Rattle.wpds_base.specs.Lists.{IsIn}
-use Rattle.saturation_core.specs.Openings.{AreKept}
-use Rattle.saturation_core.specs.States.{CoreState, Change, weight_at, apply}
-use Rattle.saturation_core.specs.Paths.{Reads, IsPath, EachRun, joined, in_order, IsOpened, Joins}
+use Rattle.saturation_laws.specs.Openings.{AreKept}
+use Rattle.saturation_laws.specs.States.{CoreState, Change, weight_at, apply}
+use Rattle.saturation_laws.specs.Paths.{Reads, IsPath, EachRun, joined, in_order, IsOpened, Joins}
 
 -- The automaton of a pattern: its control, how many states it has, its edges, and which states are final. State 0 stands for the control.
 pub record Ways : Type 0 where

@@ -1,7 +1,7 @@
 ghost use Rattle.std.specs.Prelude.{◌≡◌, ◌<◌, None, Some, IfSome, OnOk, length};
 ghost use Rattle.semiring_laws.specs.Semiring.{Fits};
-ghost use Rattle.saturation_core.specs.States.{apply};
-ghost use Rattle.saturation_core.specs.Openings.{AreKept, found_so_far};
+ghost use Rattle.saturation_laws.specs.States.{apply};
+ghost use Rattle.saturation_laws.specs.Openings.{AreKept, found_so_far};
 
 use saturation_core::{node_now, queue_up, weight_after, weight_now};
 use semiring_laws::Semiring;

@@ -3,9 +3,9 @@ ghost use Rattle.semiring_laws.specs.Semiring.{Fits};
 ghost use Rattle.weighted_automata.specs.declared.place.Label.TheVariants.{Symbol};
 ghost use Rattle.weighted_automata.specs.Entries.{Present};
 ghost use Rattle.weighted_automata.specs.Places.{has_place};
-ghost use Rattle.saturation_core.specs.States.{apply};
-ghost use Rattle.saturation_core.specs.Openings.{AreKept};
-ghost use Rattle.saturation_core.specs.Paths.{in_order};
+ghost use Rattle.saturation_laws.specs.States.{apply};
+ghost use Rattle.saturation_laws.specs.Openings.{AreKept};
+ghost use Rattle.saturation_laws.specs.Paths.{in_order};
 ghost use Rattle.path_sum.specs.Sums.{IsReady, MovesBy, GrowsBy, bare_sum, ways_of, pair_place, can_move, edge_place, first_part, second_part, edge_moves, moves_by, pair_moves, end_moves, moves_of, Along};
 ghost use Rattle.path_sum.specs.Growings.{state_of};
 

@@ -3,7 +3,7 @@ ghost use Rattle.config_patterns.specs.Edges.{edges_of, is_final_of};
 ghost use Rattle.path_sum.specs.Sums.{has_state};
 
 use config_patterns::{Edge, EdgeList, Pattern};
-use saturation_core::Opening;
+use saturation_laws::Opening;
 use semiring_laws::Semiring;
 use std::alloc::Global;
 use std::marker::Model;

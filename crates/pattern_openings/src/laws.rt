@@ -3,7 +3,7 @@ ghost use Rattle.weighted_automata.specs.declared.place.Place.{Place as PlaceVal
 ghost use Rattle.pushdown_rules.specs.Configuration.{Configuration};
 ghost use Rattle.config_patterns.specs.Membership.{PatternValue, has_member};
 ghost use Rattle.wpds_base.specs.Lists.{IsIn};
-ghost use Rattle.saturation_core.specs.Paths.{IsOpened};
+ghost use Rattle.saturation_laws.specs.Paths.{IsOpened};
 ghost use Rattle.pattern_openings.specs.PatternOpenings.{state_of, opening_of, IsEdgeOf};
 
 /// The opening of a pattern reads the pattern's members, and no others: for each configuration with one of the controls.

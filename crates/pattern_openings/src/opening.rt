@@ -4,7 +4,7 @@ ghost use Rattle.config_patterns.specs.Edges.{is_final_of};
 ghost use Rattle.pattern_openings.specs.PatternOpenings.{state_of, place_of_edge, finals_of_items, opening_of};
 
 use config_patterns::{Edge, Pattern};
-use saturation_core::{Opening, PlaceList, StateList};
+use saturation_laws::{Opening, PlaceList, StateList};
 use std::alloc::Global;
 use weighted_automata::{Label, Place};
 use wpds_base::OutOfMemory;

@@ -4,7 +4,8 @@ ghost use Rattle.semiring_laws.specs.Semiring.{Fits};
 ghost use Rattle.prestar_laws.specs.Jobs.{only_if, push_job, goes_on, are_inputs, pair_jobs, may_be_input, pairs_of};
 
 use pushdown_rules::Rule;
-use saturation_core::{Job, JobKind, copy_input};
+use saturation_core::copy_input;
+use saturation_laws::{Job, JobKind};
 use semiring_laws::Semiring;
 use std::alloc::Global;
 use weighted_automata::{Entry, Label, Place, Transitions};

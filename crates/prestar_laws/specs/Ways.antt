@@ -1,6 +1,6 @@
 -- What the backward direction means.
 use Rattle.semiring_laws.specs.Semiring.{Operations}
-use Rattle.saturation_core.specs.Ways.{Way}
+use Rattle.saturation_laws.specs.Ways.{Way}
 use Rattle.prestar_laws.specs.Jobs.{pre_tables}
 use Rattle.prestar_laws.specs.Fitting.{fits_pre, pre_places}
 use Rattle.prestar_laws.specs.Reading.{PreRun}

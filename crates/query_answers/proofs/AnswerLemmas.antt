@@ -16,9 +16,9 @@ use Rattle.pushdown_rules.specs.Answers.{Answers}
 use Rattle.short_listings.specs.Shorter.{shortened}
 use Rattle.config_patterns.specs.Membership.{PatternValue, has_member, items_match}
 use Rattle.pattern_openings.specs.PatternOpenings.{opening_of}
-use Rattle.saturation_core.specs.declared.opening.Opening.{Opening}
-use Rattle.saturation_core.specs.Books.{BookValue}
-use Rattle.saturation_core.specs.Paths.{IsOpened}
+use Rattle.saturation_laws.specs.declared.opening.Opening.{Opening}
+use Rattle.saturation_laws.specs.Books.{BookValue}
+use Rattle.saturation_laws.specs.Paths.{IsOpened}
 use Rattle.prestar.specs.declared.pre.Pre.{Pre}
 use Rattle.path_sum.specs.declared.answer.Answer.{Answer}
 use Rattle.path_sum.specs.Answers.{listed_runs}

@@ -10,7 +10,7 @@ use Rattle.witness_graph.specs.Tight.{IsTight}
 use Rattle.short_listings.specs.Shorter.{shortened}
 use Rattle.config_patterns.specs.Membership.{PatternValue, has_member}
 use Rattle.pattern_openings.specs.PatternOpenings.{opening_of}
-use Rattle.saturation_core.specs.Books.{BookValue, IsBook, IsClosed}
+use Rattle.saturation_laws.specs.Books.{BookValue, IsBook, IsClosed}
 use Rattle.prestar_laws.specs.Ways.{pre_way}
 use Rattle.prestar.specs.declared.pre.Pre.{Pre}
 use Rattle.path_sum.specs.declared.answer.Answer.{Answer}

@@ -5,9 +5,9 @@ use Rattle.std.proofs.lemmas.List.{at_drop_more, length-drop, length-set}
 use Rattle.std.proofs.Math.Nat.{pow-succ'}
 use Rattle.std.proofs.Math.Pow.{pow_mono}
 use Rattle.weighted_automata.specs.declared.place.Place.{Place}
-use Rattle.saturation_core.specs.declared.hand.Holding.{Holding}
-use Rattle.saturation_core.specs.States.{hand_at}
-use Rattle.saturation_core.specs.Books.{hands_out, seat_bits}
+use Rattle.saturation_laws.specs.declared.holding.Holding.{Holding}
+use Rattle.saturation_laws.specs.States.{hand_at}
+use Rattle.saturation_core.specs.Seats.{hands_out, seat_bits}
 
 module _ {S W Map : Type 0} where
   pub hands_out_le : (hs : List (Option (Holding S W Map))) → hands_out hs ≤ length hs

@@ -1,12 +1,12 @@
 -- A hand that was worked out, and when a book can settle it.
 use Rattle.std.specs.Prelude.{◌≡◌, ℕ, List, Option, Some, option_map, All}
-use Rattle.saturation_core.specs.declared.job.Job.{Job}
-use Rattle.saturation_core.specs.declared.hand.Holding.{Holding}
-use Rattle.saturation_core.specs.Worked.{Worked}
-use Rattle.saturation_core.specs.States.{hand_at}
-use Rattle.saturation_core.specs.Directions.{AgreeOn}
-use Rattle.saturation_core.specs.Books.{BookValue}
-use Rattle.saturation_core.specs.Ways.{Way, worths_of}
+use Rattle.saturation_laws.specs.declared.job.Job.{Job}
+use Rattle.saturation_laws.specs.declared.holding.Holding.{Holding}
+use Rattle.saturation_core.specs.DoneValue.{DoneValue}
+use Rattle.saturation_laws.specs.States.{hand_at}
+use Rattle.saturation_laws.specs.Directions.{AgreeOn}
+use Rattle.saturation_laws.specs.Books.{BookValue}
+use Rattle.saturation_laws.specs.Ways.{Way, worths_of}
 
 module _ {S W Map : Type 0} where
   abbrev pub jobs_of : Holding S W Map → List (Job S W Map)
@@ -18,12 +18,12 @@ module _ {S W Map : Type 0} where
 
 module _ {S W Map D : Type 0} (way : Way S W Map D) where
   -- What this direction makes of the jobs over that system.
-  pub record IsWorkedBy (d : D) (w : Worked S W Map) : Type 0 where
+  pub record IsWorkedBy (d : D) (w : DoneValue S W Map) : Type 0 where
     pub candidates : w.candidates ≡ worths_of way d w.system w.jobs
     pub side : w.side ≡ (way.tables d w.system).side
 
   -- The book can settle it.
-  pub record CanSettle (b : BookValue S W Map D) (w : Worked S W Map) : Type 0 where
+  pub record CanSettle (b : BookValue S W Map D) (w : DoneValue S W Map) : Type 0 where
     -- the seat's hand lists the jobs
     pub hand : jobs_out w.seat b.state.hands ≡ Some w.jobs
     pub side : w.side ≡ (way.tables b.direction b.system).side

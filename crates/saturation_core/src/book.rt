@@ -1,9 +1,10 @@
 ghost use Rattle.std.specs.Prelude.{◌≡◌, ◌↔◌, ◌<◌, ◌+◌, [], ◌∷◌, ◌++◌, IsTrue, IfOk, IfErr, OnOk, OnErr, IsSome, is_some, length};
-ghost use Rattle.saturation_core.specs.declared.event.Event.TheVariants.{Take, Settle, GiveBack};
-ghost use Rattle.saturation_core.specs.States.{hand_at};
-ghost use Rattle.saturation_core.specs.Ways.{start_of};
-ghost use Rattle.saturation_core.specs.Bound.{takes, takes_of};
-ghost use Rattle.saturation_core.specs.Books.{IsBook, Makes, IsClosed, AnswersTake, HandWorks};
+ghost use Rattle.saturation_laws.specs.declared.event.Event.TheVariants.{Take, Settle, GiveBack};
+ghost use Rattle.saturation_laws.specs.States.{hand_at};
+ghost use Rattle.saturation_laws.specs.Ways.{start_of};
+ghost use Rattle.saturation_laws.specs.Bound.{takes, takes_of};
+ghost use Rattle.saturation_laws.specs.Books.{IsBook, Makes, IsClosed};
+ghost use Rattle.saturation_core.specs.Calls.{AnswersTake, HandWorks};
 ghost use Rattle.saturation_core.specs.Settled.{IsWorkedBy, CanSettle};
 
 use crate::copies::copy_jobs;
@@ -14,8 +15,9 @@ use crate::plan::plan_jobs;
 use crate::queue::{enqueue, front, list_jobs};
 use crate::same::{agree, lists, same_side};
 use crate::start::{add_edges, add_pops_of, empty_run, no_hands};
-use crate::{Direction, Done, Event, Hand, Holding, JobList, Lowered, Opening, SettleFault, Taken};
+use crate::{Done, Hand, Lowered, SettleFault, Taken};
 use pushdown_rules::System;
+use saturation_laws::{Direction, Event, Holding, JobList, Opening};
 use semiring_laws::Semiring;
 use std::alloc::Global;
 use std::collections::VecDeque;
@@ -39,15 +41,15 @@ pub struct Book<'s, S: Semiring, D: Direction<S>> {
 
 impl<'s, S: Semiring, D: Direction<S>> Model for Book<'s, S, D> {
     ghost use Rattle.std.specs.Prelude.{◌≡◌};
-    ghost use Rattle.saturation_core.specs.Books.{BookValue, IsBook};
+    ghost use Rattle.saturation_laws.specs.Books.{BookValue, IsBook};
 
     ghost Value = { BookValue S S.W S.Ret D };
 
-    ghost use Rattle.saturation_core.specs.Seen.{seen, HasRoom};
+    ghost use Rattle.saturation_core.specs.BookView.{book_view, HasRoom};
 
-    ghost view = { seen };
+    ghost view = { book_view };
 
-    ghost invariant = { λ b. IsBook S.operations D.way (seen b) × HasRoom b
+    ghost invariant = { λ b. IsBook S.operations D.way (book_view b) × HasRoom b
         × (b.graph.side ≡ (D.way.tables b.direction b.system.now).side) };
 }
 

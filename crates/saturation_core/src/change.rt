@@ -1,10 +1,10 @@
 ghost use Rattle.std.specs.Prelude.{◌≡◌, ◌<◌, ℕ, None, Some, IfOk, OnOk, option_map, length};
 ghost use Rattle.semiring_laws.specs.Semiring.{Fits};
 ghost use Rattle.weighted_automata.specs.Entries.{entry_at};
-ghost use Rattle.saturation_core.specs.Jobs.{node_of};
-ghost use Rattle.saturation_core.specs.Queues.{queued};
-ghost use Rattle.saturation_core.specs.States.{weight_at, apply};
-ghost use Rattle.saturation_core.specs.Openings.{AreKept, changed_weight, found_so_far};
+ghost use Rattle.saturation_laws.specs.Jobs.{node_of};
+ghost use Rattle.saturation_laws.specs.Queues.{queued};
+ghost use Rattle.saturation_laws.specs.States.{weight_at, apply};
+ghost use Rattle.saturation_laws.specs.Openings.{AreKept, changed_weight, found_so_far};
 
 use crate::queue::enqueue;
 use semiring_laws::Semiring;

@@ -1,8 +1,8 @@
 ghost use Rattle.std.specs.Prelude.{◌≡◌, All, IfOk, IfSome};
 ghost use Rattle.semiring_laws.specs.Semiring.{Fits};
-ghost use Rattle.saturation_core.specs.Jobs.{InputsFit};
+ghost use Rattle.saturation_laws.specs.Jobs.{InputsFit};
 
-use crate::{Input, Job, JobList};
+use saturation_laws::{Input, Job, JobList};
 use semiring_laws::Semiring;
 use std::alloc::Global;
 use weighted_automata::Entry;

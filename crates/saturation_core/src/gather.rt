@@ -1,9 +1,9 @@
 ghost use Rattle.std.specs.Prelude.{◌≡◌, [], ◌∷◌};
 ghost use Rattle.semiring_laws.specs.Reach.{reach_operations, reach_laws};
-ghost use Rattle.saturation_core.specs.Gather.{fits_gather, gather_runs, gather_tables, gather_direction, gather_sums, gather_candidates, gathering as gathered, hub};
+ghost use Rattle.saturation_core.specs.private.Gather.{fits_gather, gather_runs, gather_tables, gather_direction, gather_sums, gather_candidates, gathering as gathered, hub};
 
-use crate::{Direction, Job, JobKind, JobList};
 use pushdown_rules::System;
+use saturation_laws::{Direction, Job, JobKind, JobList};
 use semiring_laws::{Reach, Semiring};
 use std::alloc::Global;
 use weighted_automata::{Entry, Label, Place, Transitions};

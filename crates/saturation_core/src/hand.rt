@@ -1,24 +1,17 @@
 ghost use Rattle.std.specs.Prelude.{◌≡◌, All, IfOk, IfErr};
-ghost use Rattle.saturation_core.specs.Jobs.{InputsFit};
+ghost use Rattle.saturation_laws.specs.Jobs.{InputsFit};
 ghost use Rattle.saturation_core.specs.Settled.{IsWorkedBy};
-ghost use Rattle.saturation_core.specs.Ways.{AreRows, HaveFitInputs};
+ghost use Rattle.saturation_laws.specs.Ways.{AreRows, HaveFitInputs};
 
 use crate::work::candidates;
-use crate::{Direction, JobList};
 use pushdown_rules::System;
+use saturation_laws::{Direction, JobList};
 use semiring_laws::Semiring;
 use std::alloc::Global;
 use std::marker::Model;
 use weighted_automata::Place;
 use witness_graph::Side;
 use wpds_base::Sequence;
-
-/// What a book keeps of a hand that is out: the place that was taken, and the jobs that this gave.
-#[derive(Drop)]
-pub struct Holding<S: Semiring> {
-    pub place: Place,
-    pub jobs: JobList<S>,
-}
 
 /// What a worker takes with it: its seat, and the jobs to work out.
 #[derive(Drop)]
@@ -45,7 +38,7 @@ pub enum Taken<S: Semiring> {
 }
 
 /// Weights, in order.
-pub type WeightList<S> = Sequence<S::W>;
+pub type WeightList<S> = Sequence<<S as Semiring>::W>;
 
 /// A hand whose jobs are worked out: what each is worth, which way, and over which system. The weights of their inputs
 /// are the semiring's.
@@ -60,10 +53,10 @@ pub struct Done<'s, S: Semiring> {
 
 impl<'s, S: Semiring> Model for Done<'s, S> {
     ghost use Rattle.std.specs.Prelude.{All};
-    ghost use Rattle.saturation_core.specs.Jobs.{InputsFit};
-    ghost use Rattle.saturation_core.specs.Worked.{Worked};
+    ghost use Rattle.saturation_laws.specs.Jobs.{InputsFit};
+    ghost use Rattle.saturation_core.specs.DoneValue.{DoneValue};
 
-    ghost Value = { Worked S S.W S.Ret };
+    ghost Value = { DoneValue S S.W S.Ret };
 
     ghost view = { λ d. record { seat = d.seat; jobs = d.jobs; candidates = d.candidates; side = d.side; system = d.system.now } };
 
@@ -122,7 +115,7 @@ impl<S: Semiring> Hand<S> {
             Ok(weights) => Ok(Done {
                 seat: self.seat,
                 jobs: self.jobs,
-                candidates: WeightList::from_vec(weights),
+                candidates: Sequence::from_vec(weights),
                 side: direction.side(),
                 system,
             }),

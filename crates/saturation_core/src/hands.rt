@@ -1,8 +1,9 @@
 ghost use Rattle.std.specs.Prelude.{◌≡◌, ◌↔◌, ◌≤◌, ℕ, IsTrue, length, is_some, if◌then◌else◌, slice_set, option_map};
-ghost use Rattle.saturation_core.specs.States.{hand_at};
-ghost use Rattle.saturation_core.specs.Books.{seat_bits};
+ghost use Rattle.saturation_laws.specs.States.{hand_at};
+ghost use Rattle.saturation_core.specs.Seats.{seat_bits};
 
-use crate::{Holding, SeatSet};
+use crate::SeatSet;
+use saturation_laws::Holding;
 use semiring_laws::Semiring;
 use weighted_automata::Place;
 

@@ -5,17 +5,12 @@
 mod book;
 mod change;
 mod copies;
-mod direction;
-mod event;
 #[cfg(test)]
 mod gather;
 mod hand;
 mod hands;
-mod job;
 mod journal;
-mod laws;
 mod lower;
-mod opening;
 mod plan;
 mod queue;
 mod same;
@@ -27,9 +22,4 @@ mod work;
 pub use book::Book;
 pub use change::{node_now, queue_up, weight_after, weight_now};
 pub use copies::copy_input;
-pub use direction::Direction;
-pub use event::Event;
-pub use hand::{Done, Hand, Holding, Lowered, SeatSet, SettleFault, Taken, WeightList, WorkFault};
-pub use job::{Input, Job, JobKind, JobList};
-pub use laws::{closed_is_applied, every_order_keeps, takes_are_bounded};
-pub use opening::{Opening, PlaceList, StateList};
+pub use hand::{Done, Hand, Lowered, SeatSet, SettleFault, Taken, WeightList, WorkFault};

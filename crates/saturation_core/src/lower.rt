@@ -3,8 +3,8 @@ ghost use Rattle.std.specs.VecDeque.{deque_len, deque_capacity};
 ghost use Rattle.weighted_automata.specs.declared.place.Place.{Place as PlaceValue};
 ghost use Rattle.weighted_automata.specs.Places.{has_place};
 ghost use Rattle.witness_graph.specs.Nodes.{IsNodeAt};
-ghost use Rattle.saturation_core.specs.declared.hand.Holding.{Holding as HoldingValue};
-ghost use Rattle.saturation_core.specs.Plans.{state_with, put, put_all, AreNodesFrom, HaveRoom, goal_of};
+ghost use Rattle.saturation_laws.specs.declared.holding.Holding.{Holding as HoldingValue};
+ghost use Rattle.saturation_core.specs.private.Plans.{state_with, put, put_all, AreNodesFrom, HaveRoom, goal_of};
 
 use crate::plan::Planned;
 use crate::queue::enqueue;

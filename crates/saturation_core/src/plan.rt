@@ -2,14 +2,14 @@ ghost use Rattle.std.specs.Prelude.{◌≡◌, ◌<◌, ◌+◌, ◌^◌, ◌++�
 ghost use Rattle.semiring_laws.specs.Semiring.{Fits};
 ghost use Rattle.weighted_automata.specs.declared.transitions.Entry.{Entry as EntryValue};
 ghost use Rattle.weighted_automata.specs.Entries.{entry_at};
-ghost use Rattle.saturation_core.specs.Jobs.{node_of, named_rule as rule_named, named_first};
-ghost use Rattle.saturation_core.specs.States.{weight_at};
-ghost use Rattle.saturation_core.specs.Openings.{AreKept};
-ghost use Rattle.saturation_core.specs.Plans.{change_with, changes_with, put_from, lowering_of, plan_of};
-ghost use Rattle.saturation_core.specs.Finding.{found_at};
+ghost use Rattle.saturation_laws.specs.Jobs.{node_of, named_rule as rule_named, named_first};
+ghost use Rattle.saturation_laws.specs.States.{weight_at};
+ghost use Rattle.saturation_laws.specs.Openings.{AreKept};
+ghost use Rattle.saturation_core.specs.private.Plans.{change_with, changes_with, put_from, lowering_of, plan_of};
+ghost use Rattle.saturation_core.specs.private.Finding.{found_at};
 
 use crate::change::{node_now, weight_after, weight_now};
-use crate::{Job, JobKind};
+use saturation_laws::{Job, JobKind};
 use semiring_laws::Semiring;
 use std::alloc::Global;
 use weighted_automata::{Entry, Place, Transitions};

@@ -1,12 +1,12 @@
 ghost use Rattle.std.specs.Prelude.{◌≡◌, ◌<◌, ◌≤◌, ◌+◌, IfOk, drop, MatchOption, ◌∷◌, [], IsTrue};
 ghost use Rattle.std.specs.VecDeque.{deque_len, deque_capacity};
 ghost use Rattle.weighted_automata.specs.Places.{has_place};
-ghost use Rattle.saturation_core.specs.declared.opening.Opening.{Opening as OpeningValue};
-ghost use Rattle.saturation_core.specs.Queues.{queued};
-ghost use Rattle.saturation_core.specs.Ways.{HaveFitWeights, jobs_of_place};
+ghost use Rattle.saturation_laws.specs.declared.opening.Opening.{Opening as OpeningValue};
+ghost use Rattle.saturation_laws.specs.Queues.{queued};
+ghost use Rattle.saturation_laws.specs.Ways.{HaveFitWeights, jobs_of_place};
 
-use crate::{Direction, JobList};
 use pushdown_rules::System;
+use saturation_laws::{Direction, JobList};
 use semiring_laws::Semiring;
 use std::alloc::Global;
 use std::collections::VecDeque;

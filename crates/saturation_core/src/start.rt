@@ -1,12 +1,12 @@
 ghost use Rattle.std.specs.Prelude.{◌≡◌, ◌<◌, OnOk, length, [], ◌∷◌, IfOk, replicate, None};
 ghost use Rattle.witness_graph.specs.declared.node.Node.TheVariants.{Start};
 ghost use Rattle.weighted_automata.specs.declared.place.Place.{Place as PlaceValue};
-ghost use Rattle.saturation_core.specs.States.{apply_all};
-ghost use Rattle.saturation_core.specs.Openings.{AreKept, found_so_far, with_edges, pops_at, pops_from, pops};
+ghost use Rattle.saturation_laws.specs.States.{apply_all};
+ghost use Rattle.saturation_laws.specs.Openings.{AreKept, found_so_far, with_edges, pops_at, pops_from, pops};
 
-use crate::Holding;
 use crate::change::{apply_rule, queue_up};
 use pushdown_rules::System;
+use saturation_laws::Holding;
 use semiring_laws::Semiring;
 use std::alloc::Global;
 use std::collections::VecDeque;

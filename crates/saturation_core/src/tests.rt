@@ -2,8 +2,9 @@ ghost use Rattle.std.specs.Prelude.{IfOk, IfSome};
 ghost use Rattle.saturation_core.specs.Settled.{IsWorkedBy};
 
 use crate::gather::{Gather, HUB};
-use crate::{Book, Direction, Done, Opening, PlaceList, StateList, Taken};
+use crate::{Book, Done, Taken};
 use pushdown_rules::{RuleFault, System};
+use saturation_laws::{Direction, Opening, PlaceList, StateList};
 use semiring_laws::{Reach, Semiring};
 use std::alloc::Global;
 use std::test::Fail;

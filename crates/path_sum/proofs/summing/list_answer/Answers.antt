@@ -1,7 +1,7 @@
 use Rattle.std.proofs.Common.{refl, sym, ◌∙◌, subst}
 use Rattle.std.specs.Prelude.{Some}
 use Rattle.std.proofs.lemmas.Option.{slice_get_within}
-use Rattle.saturation_core.proofs.CallerLemmas.{indexed}
+use Rattle.saturation_laws.proofs.CallerLemmas.{indexed}
 use Rattle.path_sum.specs.Sums.{answer_place}
 use Rattle.path_sum.specs.Answers.{IsListingOf}
 use Rattle.path_sum.proofs.EntryLemmas.{found_here, present_here}

@@ -1,7 +1,7 @@
 use Rattle.std.proofs.Common.{length, sym, ap, ◌∙◌, subst}
 use Rattle.weighted_automata.specs.Entries.{entry_at}
-use Rattle.saturation_core.specs.Openings.{AreKept}
-use Rattle.saturation_core.specs.States.{weight_at}
+use Rattle.saturation_laws.specs.Openings.{AreKept}
+use Rattle.saturation_laws.specs.States.{weight_at}
 use Rattle.path_sum.specs.Sums.{answer_place}
 use Rattle.path_sum.specs.Answers.{IsListingOf}
 use Rattle.path_sum.specs.Growings.{state_of}

@@ -1,7 +1,8 @@
 use Rattle.std.proofs.Common.{sym, ap, ◌∙◌, subst}
-use Rattle.saturation_core.specs.declared.event.Event.TheVariants.{Take, Settle}
+use Rattle.saturation_laws.specs.declared.event.Event.TheVariants.{Take, Settle}
 use Rattle.weighted_automata.specs.declared.place.Place.{Place}
-use Rattle.saturation_core.specs.Books.{AnswersTake, Makes}
+use Rattle.saturation_laws.specs.Books.{Makes}
+use Rattle.saturation_core.specs.Calls.{AnswersTake}
 use Rattle.worker_pool.proofs.TurnLemmas.{can_settle, turned_free}
 use Rattle.worker_pool.proofs.alone.turn.Goals as goal
 

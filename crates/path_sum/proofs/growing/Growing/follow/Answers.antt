@@ -1,7 +1,7 @@
 use Rattle.std.proofs.Common.{◌≡◌, ◌<◌, length, sym, ap, ◌∙◌, subst}
 use Rattle.std.specs.Prelude.{None, Some}
 use Rattle.semiring_laws.specs.Semiring.{Fits}
-use Rattle.saturation_core.specs.States.{Change, apply}
+use Rattle.saturation_laws.specs.States.{Change, apply}
 use Rattle.path_sum.specs.Sums.{pair_place}
 use Rattle.path_sum.specs.Growings.{state_of}
 use Rattle.path_sum.proofs.OrderLemmas.{order_fits}
@@ -22,7 +22,7 @@ apply-requires-clause-weight g c =
     let other = c.requires.ready.transitions.each c.args.transition.now c.requires.there in
     let fit = order_fits (g.S.Semiring.laws c.args.task.now.semiring) c.side-side.result c.entry-from.result.now.weight c.args.transition.now.weight pair.0 other.0 in
     let e : c.args.task.now.semiring ≡ semiring = sym c.semiring-semiring.ensures in
-    let whole = ap (λ m. Rattle.saturation_core.specs.Paths.in_order (g.S.Semiring.operations m) c.side-side.result c.entry-from.result.now.weight c.args.transition.now.weight) c.semiring-semiring.ensures in
+    let whole = ap (λ m. Rattle.saturation_laws.specs.Paths.in_order (g.S.Semiring.operations m) c.side-side.result c.entry-from.result.now.weight c.args.transition.now.weight) c.semiring-semiring.ensures in
     subst (λ m. Fits (g.S.Semiring.operations m) c.in_ok-weight.weight) e (subst (Fits (g.S.Semiring.operations c.args.task.now.semiring)) (sym (c.in_ok-weight.ensures ∙ whole)) fit)
 
 pub apply-requires-clause-first : goal.apply-requires-clause-first
@@ -53,4 +53,4 @@ returns-clause-ready g c =
     } in
     ready_after (g.S.Semiring.laws c.args.task.now.semiring) c.args.task.now.transitions (pair_place c.args.i c.args.transition.now.place.from) change (state_of c.args.self.now) (state_of c.apply.new.self) c.requires.ready
     (subst (λ m. state_of c.apply.new.self ≡ apply (g.S.Semiring.operations m) change (state_of c.args.self.now)) e c.in_ok-apply.ensures.state)
-    (subst (λ m. Rattle.saturation_core.specs.Openings.AreKept (g.S.Semiring.operations m) c.apply.new.self.pairs.transitions (length c.apply.new.self.nodes.nodes)) e c.in_ok-apply.ensures.kept)
+    (subst (λ m. Rattle.saturation_laws.specs.Openings.AreKept (g.S.Semiring.operations m) c.apply.new.self.pairs.transitions (length c.apply.new.self.nodes.nodes)) e c.in_ok-apply.ensures.kept)
