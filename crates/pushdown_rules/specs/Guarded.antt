@@ -1,7 +1,8 @@
 -- A semiring that the tests work with: whether there is a run, where a return map can forbid a call to return.
 use Rattle.std.specs.Prelude.{Bool, true, false, ◌||◌, ◌&&◌, refl}
 use Rattle.semiring_laws.specs.Semiring.{Operations, IsSemiring}
-use Rattle.semiring_laws.specs.Reach.{reach_operations, reach_laws}
+use Rattle.semiring_laws.specs.Reach.{reach_operations}
+use Rattle.semiring_laws.specs.ReachLaws.{reach_laws}
 
 -- the map says whether the call may return
 abbrev pub guarded_operations : Operations Bool Bool

@@ -1,5 +1,6 @@
 ghost use Rattle.std.specs.Prelude.{◌≡◌, [], ◌∷◌};
-ghost use Rattle.semiring_laws.specs.Reach.{reach_operations, reach_laws};
+ghost use Rattle.semiring_laws.specs.Reach.{reach_operations};
+ghost use Rattle.semiring_laws.specs.ReachLaws.{reach_laws};
 ghost use Rattle.saturation_core.specs.private.Gather.{fits_gather, gather_runs, gather_tables, gather_direction, gather_sums, gather_candidates, gathering as gathered, hub};
 
 use pushdown_rules::System;

@@ -17,8 +17,8 @@ struct Answered<W> {
 }
 
 fn answers_for<S: Semiring>(
-    semiring: &S,
     alloc: Global,
+    semiring: &S,
     a: &S::W,
     b: &S::W,
 ) -> Result<Answered<S::W>, OutOfMemory>
@@ -35,7 +35,7 @@ fn answers_for<S: Semiring>(
     })
 }
 
-fn neutral<S: Semiring>(semiring: &S, alloc: Global) -> Result<(S::W, S::W), OutOfMemory> {
+fn neutral<S: Semiring>(alloc: Global, semiring: &S) -> Result<(S::W, S::W), OutOfMemory> {
     Ok((semiring.zero(alloc)?, semiring.one(alloc)?))
 }
 
@@ -64,12 +64,12 @@ fn reachability(rt: HostRuntime) -> Result<(), Fail> {
             is_zero: !a,
         };
         assert_eq!(rt;
-            answers_for(&Reach, alloc, &a, &b)?,
+            answers_for(alloc, &Reach, &a, &b)?,
             wanted,
             "at {a} and {b}"
         );
     }
-    assert_eq!(rt; neutral(&Reach, alloc)?, (false, true));
+    assert_eq!(rt; neutral(alloc, &Reach)?, (false, true));
     assert_eq!(rt; alike(&Reach, &Reach, &NoMap::Plain), (true, true));
     Ok(())
 }
@@ -77,8 +77,8 @@ fn reachability(rt: HostRuntime) -> Result<(), Fail> {
 #[test]
 fn combinations(rt: HostRuntime) -> Result<(), Fail> {
     let alloc = rt.alloc();
-    assert_eq!(rt; combine_all(&Reach, alloc, &[])?, false);
-    assert_eq!(rt; combine_all(&Reach, alloc, &[false, false])?, false);
-    assert_eq!(rt; combine_all(&Reach, alloc, &[false, true, false])?, true);
+    assert_eq!(rt; combine_all(alloc, &Reach, &[])?, false);
+    assert_eq!(rt; combine_all(alloc, &Reach, &[false, false])?, false);
+    assert_eq!(rt; combine_all(alloc, &Reach, &[false, true, false])?, true);
     Ok(())
 }
