@@ -5,6 +5,7 @@ pub mod Firing
 pub mod RunValue
 pub mod Values
 pub mod Splits
-pub mod Progress
 pub mod Answers
+pub mod InSystem
+pub mod private
 pub mod Guarded
