@@ -6,6 +6,7 @@ use Rattle.weighted_automata.specs.Entries.{entry_at}
 use Rattle.witness_graph.specs.declared.node.Side.{Side}
 use Rattle.witness_graph.specs.declared.node.Side.TheVariants.{Pre, Post}
 use Rattle.witness_graph.specs.Runs.{runs_of}
+pub use Rattle.witness_graph.specs.Runs.{listing_runs, listed_runs}
 use Rattle.pushdown_rules.specs.Configuration.{Configuration}
 use Rattle.pushdown_rules.specs.Pushdown.{Pushdown}
 use Rattle.saturation_laws.specs.declared.opening.Opening.{Opening}
@@ -46,15 +47,6 @@ module _ {S W Map : Type 0} where
 abbrev pub AnswersOpening : {S W Map : Type 0} → Operations W Map → Side → Pushdown S W Map → Opening → (Configuration → Bool) → W → List (List ℕ) → Type 0
 AnswersOpening s side p o near v runs = (far : Configuration → Bool) → ((d : Configuration) → IsTrue (far d) ↔ (IsOpened o d × (d.control < p.controls)))
     → Answers s p (first_of side near far) (last_of side near far) v runs
-
--- the runs of a listing
-abbrev pub listing_runs : Listing → List (List ℕ)
-listing_runs l = runs_of l.side l.nodes (length l.nodes - 1)
-
--- and none where there is no listing
-abbrev pub listed_runs : Option Listing → List (List ℕ)
-listed_runs None = []
-listed_runs (Some l) = listing_runs l
 
 module _ {S W Map : Type 0} where
   -- the listing of the answer's node, and none where there is no answer

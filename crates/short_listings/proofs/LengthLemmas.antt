@@ -5,10 +5,11 @@ use Rattle.std.specs.List.{AllByRecursion, IsDistinct, list_any}
 use Rattle.std.proofs.lemmas.Bool.{cond-true, cond-false, cases_Bool, eqb-true, eq-eqb}
 use Rattle.std.proofs.lemmas.List.{length-map}
 use Rattle.std.proofs.lemmas.Map.Steps.{length-le_from_distinct_below}
+use Rattle.wpds_base.specs.Lists.{IsIn, IsOnce}
 use Rattle.witness_graph.specs.declared.node.Node.{Node}
 use Rattle.witness_graph.specs.declared.node.Side.TheVariants.{Pre}
 use Rattle.witness_graph.specs.Nodes.{node_at, AreNodes, IsListing}
-use Rattle.witness_graph.specs.Order.{place_of, is_listed, post_order, renamed, listing_of, IsOnce}
+use Rattle.witness_graph.specs.Order.{place_of, is_listed, post_order, renamed, listing_of}
 use Rattle.witness_graph.proofs.CallerLemmas.{order_once, good_order}
 use Rattle.short_listings.specs.Shorter.{begins_empty, shorten, stand, shortened}
 use Rattle.short_listings.proofs.ShorterLemmas.{all_short, nothing_short}
@@ -26,14 +27,11 @@ swapped x y e = elim (cases_Bool (nat_eq x y)) [
   | inr differs ↦ differs
 ]
 
-unlisted : (x : ℕ) (xs : List ℕ) → is_listed xs x ≡ false → AllByRecursion (λ y. nat_eq x y ≡ false) xs
-unlisted x [] e = tt
-unlisted x (y ∷ ys) e = elim (cases_Bool (nat_eq y x)) [
-  | inl is ↦ let f : true ≡ false = sym (ap is_some (cond-true (nat_eq y x) (Some 0) (next (place_of x ys)) is)) ∙ e in cc
-  | inr differs ↦ (
-    swapped x y differs,
-    unlisted x ys (sym (some_next (place_of x ys)) ∙ sym (ap is_some (cond-false (nat_eq y x) (Some 0) (next (place_of x ys)) differs)) ∙ e),
-  )
+unlisted : (x : ℕ) (xs : List ℕ) → (IsIn x xs → ⊥) → AllByRecursion (λ y. nat_eq x y ≡ false) xs
+unlisted x [] out = tt
+unlisted x (y ∷ ys) out = elim (cases_Bool (nat_eq x y)) [
+  | inl is ↦ absurd (out (inl (sym (eqb-true x y is))))
+  | inr differs ↦ (differs, unlisted x ys (λ more. out (inr more)))
 ]
 
 distinct : (xs : List ℕ) → IsOnce xs → IsDistinct nat_eq xs

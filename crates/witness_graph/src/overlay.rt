@@ -1,7 +1,7 @@
 ghost use Rattle.std.specs.Prelude.{◌≡◌, ◌<◌, ◌-◌, ◌++◌, [], ◌∷◌, length, IfOk, OnOk, OnErr};
 ghost use Rattle.witness_graph.specs.Nodes.{AreNodes, IsNodeAt};
 ghost use Rattle.witness_graph.specs.Order.{listing_of};
-ghost use Rattle.witness_graph.specs.Runs.{runs_of};
+ghost use Rattle.witness_graph.specs.Runs.{runs_of, listing_runs};
 
 use crate::order::list_nodes;
 use crate::parts::NodeParts;
@@ -23,7 +23,11 @@ impl<'g> Model for Overlay<'g> {
 
     ghost Value = { Nodes };
 
-    ghost view = { λ o. record { side = o.base.now.side; nodes = o.base.now.nodes ++ o.added.items; spare = vec_capacity o.added - vec_len o.added } };
+    ghost view = { λ o. record {
+      side = o.base.now.side;
+      nodes = o.base.now.nodes ++ o.added.items;
+      spare = vec_capacity o.added - vec_len o.added;
+    } };
 
     ghost invariant = { λ o. AreNodes (o.base.now.nodes ++ o.added.items) };
 }
@@ -34,6 +38,7 @@ impl<'g> Overlay<'g> {
         ensures side { result.side ≡ base.now.side }
         ensures nodes { result.nodes ≡ base.now.nodes }
     {
+        // brings the fact that the graph's nodes are nodes
         let _count = base.len();
         Overlay {
             base,
@@ -48,7 +53,7 @@ impl<'g> Overlay<'g> {
         self.base.side()
     }
 
-    /// Adds a node, and answers its number. It is refused only for want of memory.
+    /// Adds a node, and returns its number. It is refused only when out of memory.
     pub fn push_node(&mut self, _alloc: Global, node: Node) -> Result<u64, OutOfMemory>
         requires { IsNodeAt (length self.old.nodes) node }
         ensures number { IfOk result (λ k. k ≡ length self.old.nodes) }
@@ -67,7 +72,8 @@ impl<'g> Overlay<'g> {
         requires { root < length self.now.nodes }
         ensures side { IfOk result (λ l. l.side ≡ self.now.side) }
         ensures nodes { IfOk result (λ l. l.nodes ≡ listing_of self.now.nodes root) }
-        ensures runs { IfOk result (λ l. runs_of l.side l.nodes (length l.nodes - 1) ≡ runs_of self.now.side self.now.nodes root) }
+        ensures runs { IfOk result (λ l.
+            listing_runs l ≡ runs_of self.now.side self.now.nodes root) }
     {
         let parts = NodeParts::new(self.base.as_slice(), &self.added);
         let nodes = list_nodes(alloc, &parts, root)?;
