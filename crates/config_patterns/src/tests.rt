@@ -1,3 +1,4 @@
+use crate::item::has_symbol;
 use crate::{Edge, EdgeList, Pattern, PatternFault, SymbolSet, is_set};
 use pushdown_rules::Config;
 use std::alloc::Global;

@@ -288,8 +288,8 @@ module _ {S W Map : Type 0} (x : Place) (ts : List (Entry S W Map)) (waiting : L
       ∙ ap (λ b. b || has_place x waiting) (sym (some_index (λ (t : Entry S W Map). t.place) x ts) ∙ e) ∙ sym (some_waiting x waiting)
 
 -- places added behind places added
-pub then_more : {xs ys zs : List Place} → (more : List Place) × (ys ≡ xs ++ more) → (more : List Place) × (zs ≡ ys ++ more) → (more : List Place) × (zs ≡ xs ++ more)
-then_more {xs} {ys} {zs} first second = (first.0 ++ second.0, second.1 ∙ ap (λ l. l ++ second.0) first.1 ∙ append_assoc xs first.0 second.0)
+pub then_more : (xs ys zs : List Place) → (more : List Place) × (ys ≡ xs ++ more) → (more : List Place) × (zs ≡ ys ++ more) → (more : List Place) × (zs ≡ xs ++ more)
+then_more xs ys zs first second = (first.0 ++ second.0, second.1 ∙ ap (λ l. l ++ second.0) first.1 ∙ append_assoc xs first.0 second.0)
 
 -- what waited before is what waits at first
 pub waited_before : (places waiting before : List Place) → (more : List Place) × (places ++ waiting ≡ (places ++ before) ++ more) → take (length before) waiting ≡ before

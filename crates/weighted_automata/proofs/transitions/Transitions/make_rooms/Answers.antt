@@ -23,7 +23,7 @@ loop-place-preserved g c = (
   ],
   λ x h. c.make_room.ensures.kept x (c.loop-place.invariant.2 x h),
   λ x h. made_only x c.args.places.now c.loop-place.self.room c.args.self.now.room c.loop-place.place-index _ c.loop-place-test.true (c.loop-place.invariant.3 x) (c.make_room.ensures.only x h),
-  then_more (c.loop-place.invariant.4) (c.make_room.ensures.more),
+  then_more _ _ _ (c.loop-place.invariant.4) (c.make_room.ensures.more),
 )
 
 pub returns-in_err-make_room-clause-only : goal.returns-in_err-make_room-clause-only
@@ -31,4 +31,4 @@ returns-in_err-make_room-clause-only g c = λ x h.
     made_only x c.args.places.now c.loop-place.self.room c.args.self.now.room c.loop-place.place-index _ c.loop-place-test.true (c.loop-place.invariant.3 x) (c.make_room.ensures.only x h)
 
 pub returns-in_err-make_room-clause-more : goal.returns-in_err-make_room-clause-more
-returns-in_err-make_room-clause-more g c = then_more (c.loop-place.invariant.4) (c.make_room.ensures.more)
+returns-in_err-make_room-clause-more g c = then_more _ _ _ (c.loop-place.invariant.4) (c.make_room.ensures.more)
