@@ -1,5 +1,5 @@
 -- Which items are refused.
-use Rattle.std.specs.Prelude.{ℕ, Bool, nat_le, nat_lt, List, [], ◌∷◌, ◌++◌, length, Option, None, Some, Result, Ok, Err, ◌<◌, ◌≤◌, All}
+use Rattle.std.specs.Prelude.{ℕ, Bool, nat_le, nat_lt, List, [], ◌∷◌, length, Option, None, Some, Result, Ok, Err, ◌<◌, ◌≤◌, All}
 use Rattle.std.specs.List.{list_any}
 use Rattle.wpds_base.specs.Faults.{first_fault}
 use Rattle.wpds_base.specs.Limits.{most_items, most_edges}
