@@ -1,2 +1,2 @@
 -- What private functions cite.
-pub mod Callees
+pub mod Pushes

@@ -1,8 +1,8 @@
-ghost use Rattle.std.specs.Prelude.{◌≡◌, ◌++◌, IfOk, OnOk, All};
+ghost use Rattle.std.specs.Prelude.{◌≡◌, ◌++◌, IfOk, OnOk};
 ghost use Rattle.std.specs.List.{flat_map};
 ghost use Rattle.semiring_laws.specs.Semiring.{Fits};
 ghost use Rattle.prestar_laws.specs.Jobs.{only_if, push_job, goes_on, are_inputs, pair_jobs, may_be_input, pairs_of};
-ghost use Rattle.prestar.specs.private.Callees.{kind_of};
+ghost use Rattle.prestar.specs.private.Pushes.{AreFit, kind_of};
 
 use pushdown_rules::Rule;
 use saturation_core::copy_input;
@@ -57,8 +57,9 @@ impl<'a, S: Semiring> Push<'a, S> {
     // Whether two transitions are its inputs.
     fn takes(&self, first: &Entry<S>, second: &Entry<S>) -> bool
         ensures { let push = self.now in
-            result ≡ are_inputs push.controls (kind_of push.callee) push.rule.now push.top push.below
-                first.now second.now }
+            let kind = kind_of push.callee in
+            result ≡ are_inputs push.controls kind push.rule.now push.top push.below first.now
+            second.now }
     {
         let state = first.place.to;
         first.place.is_from(self.rule.to, Label::Symbol(self.top))
@@ -157,8 +158,7 @@ impl<'a, S: Semiring> Push<'a, S> {
         taken: &Entry<S>,
         jobs: &mut Vec<Job<S>>,
     ) -> Result<(), OutOfMemory>
-        requires fit {
-            All (λ t. Fits (S.operations semiring.now) t.weight) transitions.now.transitions }
+        requires fit { AreFit (S.operations semiring.now) transitions.now.transitions }
         requires taken { Fits (S.operations semiring.now) taken.now.weight }
         ensures { let push = self.now in
             let kind = kind_of push.callee in
@@ -181,8 +181,7 @@ impl<'a, S: Semiring> Push<'a, S> {
         taken: &Entry<S>,
         jobs: &mut Vec<Job<S>>,
     ) -> Result<(), OutOfMemory>
-        requires fit {
-            All (λ t. Fits (S.operations semiring.now) t.weight) transitions.now.transitions }
+        requires fit { AreFit (S.operations semiring.now) transitions.now.transitions }
         requires taken { Fits (S.operations semiring.now) taken.now.weight }
         ensures { let push = self.now in
             let made = pairs_of push.controls (kind_of push.callee) transitions.now.transitions in
