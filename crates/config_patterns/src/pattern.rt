@@ -72,7 +72,11 @@ impl Model for Pattern {
 
     ghost Value = { PatternValue };
 
-    ghost view = { λ p. record { control = p.control; symbols = p.symbols; items = p.items.items } };
+    ghost view = { λ p. record {
+      control = p.control;
+      symbols = p.symbols;
+      items = p.items.items;
+    } };
 
     ghost invariant = { λ p.
         IsPattern (record { control = p.control; symbols = p.symbols; items = p.items.items })

@@ -7,6 +7,8 @@ mod openings;
 #[cfg(test)]
 mod patterns;
 #[cfg(test)]
+mod return_maps;
+#[cfg(test)]
 mod run_values;
 #[cfg(test)]
 mod saturations;

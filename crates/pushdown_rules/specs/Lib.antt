@@ -8,4 +8,3 @@ pub mod Splits
 pub mod Answers
 pub mod InSystem
 pub mod private
-pub mod Guarded

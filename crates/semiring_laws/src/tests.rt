@@ -1,7 +1,11 @@
 ghost use Rattle.std.specs.Prelude.{All};
 ghost use Rattle.semiring_laws.specs.Semiring.{Fits, FitsMap};
 
-use crate::{NoMap, Reach, Semiring, combine_all};
+use crate::{
+    NoMap, Reach, Semiring, below_is_an_order, chains_are_short, combination_is_greatest_below,
+    combination_is_of_members, combine_all, combine_is_greatest_below, operations_distribute,
+    operations_keep_below,
+};
 use std::alloc::Global;
 use std::test::Fail;
 use wpds_base::OutOfMemory;
@@ -81,4 +85,15 @@ fn combinations(rt: HostRuntime) -> Result<(), Fail> {
     assert_eq!(rt; combine_all(alloc, &Reach, &[false, false])?, false);
     assert_eq!(rt; combine_all(alloc, &Reach, &[false, true, false])?, true);
     Ok(())
+}
+
+#[test]
+fn laws() {
+    below_is_an_order::<Reach>();
+    chains_are_short::<Reach>();
+    combination_is_greatest_below::<Reach>();
+    combination_is_of_members::<Reach>();
+    combine_is_greatest_below::<Reach>();
+    operations_distribute::<Reach>();
+    operations_keep_below::<Reach>();
 }

@@ -1,13 +1,13 @@
-ghost use Rattle.std.specs.Prelude.{◌≡◌, ◌<◌, true, All};
-ghost use Rattle.pushdown_rules.specs.Guarded.{guarded_operations, guarded_laws};
+ghost use Rattle.cross_crate_tests.specs.Guarded.{guarded_operations, guarded_laws};
 
-use crate::{Config, RuleFault, System};
+use crate::run_values::are_below;
+use pushdown_rules::{Config, RuleFault, System};
 use semiring_laws::Semiring;
 use std::alloc::Global;
 use std::test::Fail;
 use wpds_base::OutOfMemory;
 
-// Whether there is a run, where a return map can forbid a call to return.
+// Whether there is a run, when a return map can forbid a call to return.
 #[derive(Clone, Copy, Debug, PartialEq, Eq)]
 struct Guarded;
 
@@ -81,12 +81,6 @@ fn calls(alloc: Global) -> Result<System<Guarded>, RuleFault> {
         system.add_rule(alloc, 0, symbol, 0, right, true, map)?;
     }
     Ok(system)
-}
-
-fn are_below(count: u32, run: &[u32]) -> bool
-    ensures { result ≡ true → All (λ k. k < count) run.now }
-{
-    run.iter().all(|k| *k < count)
 }
 
 #[test]

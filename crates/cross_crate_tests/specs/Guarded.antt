@@ -1,4 +1,4 @@
--- A semiring that the tests work with: whether there is a run, where a return map can forbid a call to return.
+-- The tests' semiring with return maps: whether there is a run, when a return map can forbid a call to return.
 use Rattle.std.specs.Prelude.{Bool, true, false, ◌||◌, ◌&&◌, refl}
 use Rattle.semiring_laws.specs.Semiring.{Operations, IsSemiring}
 use Rattle.semiring_laws.specs.Reach.{reach_operations}
