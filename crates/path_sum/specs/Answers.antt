@@ -1,5 +1,5 @@
 -- What an answer to a query is, and what a sum answers.
-use Rattle.std.specs.Prelude.{◌≡◌, ◌↔◌, ℕ, ◌+◌, ◌-◌, ◌*◌, ◌<◌, ◌≤◌, length, Bool, IsTrue, List, [], Option, None, Some}
+use Rattle.std.specs.Prelude.{◌≡◌, ◌↔◌, ℕ, ◌+◌, ◌-◌, ◌*◌, ◌<◌, ◌≤◌, length, Bool, IsTrue, List, [], ◌∷◌, ◌++◌, Option, None, Some}
 use Rattle.semiring_laws.specs.Semiring.{Operations}
 use Rattle.weighted_automata.specs.declared.transitions.Entry.{Entry}
 use Rattle.weighted_automata.specs.Entries.{entry_at}
@@ -14,8 +14,10 @@ use Rattle.saturation_laws.specs.States.{CoreState, weight_at}
 use Rattle.saturation_laws.specs.Paths.{IsOpened}
 use Rattle.pushdown_rules.specs.Answers.{Answers}
 use Rattle.witness_graph.specs.declared.node.Node.{Node}
+use Rattle.witness_graph.specs.declared.node.Node.TheVariants.{Start}
 use Rattle.witness_graph.specs.declared.listing.Listing.{Listing}
-use Rattle.witness_graph.specs.Order.{listing_of}
+use Rattle.witness_graph.specs.Nodes.{Overlaid}
+use Rattle.short_listings.specs.Shorter.{shortened}
 use Rattle.path_sum.specs.declared.answer.Answer.{Answer}
 use Rattle.path_sum.specs.Sums.{Ways, HasWay, IsGrown, answer_place}
 use Rattle.path_sum.specs.Pairs.{states_of}
@@ -48,18 +50,30 @@ abbrev pub AnswersOpening : {S W Map : Type 0} → Operations W Map → Side →
 AnswersOpening s side p o near v runs = (far : Configuration → Bool) → ((d : Configuration) → IsTrue (far d) ↔ (IsOpened o d × (d.control < p.controls)))
     → Answers s p (first_of side near far) (last_of side near far) v runs
 
+-- of all these nodes the first are those of a graph, and the next is the empty run
+abbrev pub BeginsBehind : List Node → List Node → Type 0
+BeginsBehind graph all = (more : List Node) × (all ≡ graph ++ Start ∷ more)
+
+module _ {S W Map : Type 0} (side : Side) (nodes added : List Node) where
+  -- the listing of the answer's node, made shorter, and none where there is no answer
+  abbrev pub IsListingOf : Option (Entry S W Map) → Option Listing → Type 0
+  IsListingOf None listing = listing ≡ None
+  IsListingOf (Some t) listing = (l : Listing) × (listing ≡ Some l) × (l.side ≡ side) × (l.nodes ≡ shortened nodes added t.node)
+      × (listing_runs l ≡ runs_of side (nodes ++ added) t.node)
+
 module _ {S W Map : Type 0} where
-  -- the listing of the answer's node, and none where there is no answer
-  abbrev pub IsListingOf : Side → List Node → Option (Entry S W Map) → Option Listing → Type 0
-  IsListingOf side nodes None listing = listing ≡ None
-  IsListingOf side nodes (Some t) listing = (l : Listing) × (listing ≡ Some l) × (l.side ≡ side) × (l.nodes ≡ listing_of nodes t.node)
-      × (listing_runs l ≡ runs_of side nodes t.node)
+  -- the same of an overlay
+  abbrev pub IsListedOver : Overlaid → Option (Entry S W Map) → Option Listing → Type 0
+  IsListedOver o e listing = (added : List Node) × (o.nodes ≡ o.graph.nodes ++ added) × IsListingOf o.graph.side o.graph.nodes added e listing
 
   -- The answer is that of a sum which is grown from these transitions, nodes, opening and pattern.
   pub record IsGrownAnswer (s : Operations W Map) (side : Side) (o : Opening) (ts : List (Entry S W Map)) (nodes : List Node) (ways : Ways) (a : Answer S W Map) : Type 0 where
     pub state : CoreState S W Map
     pub grown : IsGrown s side o ts nodes ways state
     pub value : a.value ≡ weight_at s answer_place state.transitions
-    pub listing : IsListingOf side state.nodes (entry_at answer_place state.transitions) a.listing
+    -- its nodes and those that the sum added
+    pub added : List Node
+    pub nodes_are : state.nodes ≡ nodes ++ added
+    pub listing : IsListingOf side nodes added (entry_at answer_place state.transitions) a.listing
     -- how many nodes are added at most
     pub few : length state.nodes ≤ length nodes + (ways.states * length (states_of ways.control ts) + 1) * (s.top_rank + 1)

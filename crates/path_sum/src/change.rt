@@ -32,7 +32,7 @@ pub(crate) fn apply_parts<S: Semiring>(
         ≡ apply (S.operations semiring.now) (record { goal = place; weight = weight.now; rule = None; first = Some first; second = second })
         (found_so_far transitions.old.transitions nodes.old.nodes waiting.old.items)) }
     ensures kept { OnOk result (AreKept (S.operations semiring.now) transitions.new.transitions (length nodes.new.nodes)) }
-    ensures side { nodes.new.side ≡ nodes.old.side }
+    ensures graph { nodes.new.graph ≡ nodes.old.graph }
 {
     let old = weight_now(semiring, alloc, transitions, place)?;
     let Some(new) = weight_after(semiring, alloc, &old, weight)? else {

@@ -90,7 +90,7 @@ impl<'g, S: Semiring> Growing<'g, S> {
         ensures state { OnOk result (state_of self.new
             ≡ apply (S.operations semiring.now) (record { goal = place; weight = weight.now; rule = None; first = Some first; second = second }) (state_of self.old)) }
         ensures kept { OnOk result (AreKept (S.operations semiring.now) self.new.pairs.transitions (length self.new.nodes.nodes)) }
-        ensures side { self.new.nodes.side ≡ self.old.nodes.side }
+        ensures graph { self.new.nodes.graph ≡ self.old.nodes.graph }
     {
         apply_parts(
             semiring,
@@ -119,7 +119,7 @@ impl<'g, S: Semiring> Growing<'g, S> {
         requires edge { IsTrue (can_move (ways_of task.now.pattern).edges i transition.now.place.label j) }
         ensures moves { OnOk result (MovesBy (S.operations task.now.semiring) task.now (Along i j transition.now.place) (state_of self.old) (state_of self.new)) }
         ensures ready { OnOk result (IsReady (S.operations task.now.semiring) task.now.transitions (pair_place i transition.now.place.from) (state_of self.new)) }
-        ensures side { self.new.nodes.side ≡ self.old.nodes.side }
+        ensures graph { self.new.nodes.graph ≡ self.old.nodes.graph }
     {
         let pair = Place {
             from: i,
@@ -159,7 +159,7 @@ impl<'g, S: Semiring> Growing<'g, S> {
         ensures grows { OnOk result (GrowsBy (S.operations task.now.semiring) task.now
             (if nat_eq edge.from i && nat_eq edge.symbol symbol then Along i edge.to transition.now.place ∷ [] else []) (state_of self.old) (state_of self.new)) }
         ensures ready { OnOk result (IsReady (S.operations task.now.semiring) task.now.transitions (pair_place i transition.now.place.from) (state_of self.new)) }
-        ensures side { self.new.nodes.side ≡ self.old.nodes.side }
+        ensures graph { self.new.nodes.graph ≡ self.old.nodes.graph }
     {
         if !goes(edge, i, symbol) {
             return Ok(());
@@ -182,7 +182,7 @@ impl<'g, S: Semiring> Growing<'g, S> {
         requires label { transition.now.place.label ≡ Symbol symbol }
         ensures grows { OnOk result (GrowsBy (S.operations task.now.semiring) task.now (edge_moves i symbol transition.now.place (ways_of task.now.pattern).edges) (state_of self.old) (state_of self.new)) }
         ensures ready { OnOk result (IsReady (S.operations task.now.semiring) task.now.transitions (pair_place i transition.now.place.from) (state_of self.new)) }
-        ensures side { self.new.nodes.side ≡ self.old.nodes.side }
+        ensures graph { self.new.nodes.graph ≡ self.old.nodes.graph }
     {
         for edge in task.edges() {
             self.follow_edge(task, alloc, i, symbol, *edge, transition)?;
@@ -204,7 +204,7 @@ impl<'g, S: Semiring> Growing<'g, S> {
         ensures grows { OnOk result (GrowsBy (S.operations task.now.semiring) task.now
             (if nat_eq transition.now.place.from state then moves_by task.now.opening (ways_of task.now.pattern) i transition.now else []) (state_of self.old) (state_of self.new)) }
         ensures ready { OnOk result (IsReady (S.operations task.now.semiring) task.now.transitions (pair_place i state) (state_of self.new)) }
-        ensures side { self.new.nodes.side ≡ self.old.nodes.side }
+        ensures graph { self.new.nodes.graph ≡ self.old.nodes.graph }
     {
         if transition.place.from != state {
             return Ok(());
@@ -227,7 +227,7 @@ impl<'g, S: Semiring> Growing<'g, S> {
         ensures grows { OnOk result (GrowsBy (S.operations task.now.semiring) task.now
             (pair_moves task.now.opening (ways_of task.now.pattern) i state task.now.transitions) (state_of self.old) (state_of self.new)) }
         ensures ready { OnOk result (IsReady (S.operations task.now.semiring) task.now.transitions (pair_place i state) (state_of self.new)) }
-        ensures side { self.new.nodes.side ≡ self.old.nodes.side }
+        ensures graph { self.new.nodes.graph ≡ self.old.nodes.graph }
     {
         let transitions = task.transitions();
         for k in 0..transitions.len() {
@@ -248,7 +248,7 @@ impl<'g, S: Semiring> Growing<'g, S> {
         requires ready { IsReady (S.operations task.now.semiring) task.now.transitions (pair_place i state) (state_of self.old) }
         ensures grows { OnOk result (GrowsBy (S.operations task.now.semiring) task.now
             (end_moves task.now.opening (ways_of task.now.pattern) i state) (state_of self.old) (state_of self.new)) }
-        ensures side { self.new.nodes.side ≡ self.old.nodes.side }
+        ensures graph { self.new.nodes.graph ≡ self.old.nodes.graph }
     {
         if !task.ends_at(i, state) {
             return Ok(());
@@ -279,7 +279,7 @@ impl<'g, S: Semiring> Growing<'g, S> {
         requires ready { IsReady (S.operations task.now.semiring) task.now.transitions place (state_of self.old) }
         ensures grows { OnOk result (GrowsBy (S.operations task.now.semiring) task.now
             (moves_of task.now.opening (ways_of task.now.pattern) task.now.transitions place) (state_of self.old) (state_of self.new)) }
-        ensures side { self.new.nodes.side ≡ self.old.nodes.side }
+        ensures graph { self.new.nodes.graph ≡ self.old.nodes.graph }
     {
         match place.label {
             Label::Empty => {

@@ -4,7 +4,7 @@ ghost use Rattle.weighted_automata.specs.Entries.{entry_at};
 ghost use Rattle.saturation_laws.specs.Books.{IsClosed};
 ghost use Rattle.saturation_laws.specs.Openings.{AreKept};
 ghost use Rattle.path_sum.specs.Sums.{ways_of, answer_place, bare_sum};
-ghost use Rattle.path_sum.specs.Answers.{IsListingOf};
+ghost use Rattle.path_sum.specs.Answers.{IsListedOver, BeginsBehind};
 ghost use Rattle.path_sum.specs.Saturated.{IsSaturatedAutomaton};
 ghost use Rattle.path_sum.specs.Results.{IsSumOver, IsSumOf};
 ghost use Rattle.path_sum.specs.Growings.{state_of};
@@ -17,6 +17,7 @@ use pushdown_rules::System;
 use saturation_core::{Book, weight_now};
 use saturation_laws::{Direction, Opening};
 use semiring_laws::Semiring;
+use short_listings::shorter;
 use std::alloc::Global;
 use std::collections::VecDeque;
 use weighted_automata::{Label, Place, Transitions};
@@ -37,7 +38,7 @@ fn start<'g, S: Semiring>(
     graph: &'g Graph,
 ) -> Result<Growing<'g, S>, OutOfMemory>
     ensures state { IfOk result (λ x. state_of x ≡ bare_sum (S.operations task.now.semiring) task.now.side graph.now.nodes (ways_of task.now.pattern)) }
-    ensures side { IfOk result (λ x. x.nodes.side ≡ graph.now.side) }
+    ensures graph { IfOk result (λ x. x.nodes.graph ≡ graph.now) }
 {
     let first = Place {
         from: 0,
@@ -58,15 +59,18 @@ fn start<'g, S: Semiring>(
     })
 }
 
-// The listing of the answer's node.
+// The listing of the answer's node, made shorter.
 fn list_answer<S: Semiring>(alloc: Global, sum: &Growing<S>) -> Result<Option<Listing>, OutOfMemory>
-    requires { (s : Operations S.W S.Ret) × AreKept s sum.now.pairs.transitions (length sum.now.nodes.nodes) }
-    ensures { IfOk result (λ l. IsListingOf sum.now.nodes.side sum.now.nodes.nodes (entry_at answer_place sum.now.pairs.transitions) l) }
+    requires kept { (s : Operations S.W S.Ret) × AreKept s sum.now.pairs.transitions (length sum.now.nodes.nodes) }
+    requires begins { BeginsBehind sum.now.nodes.graph.nodes sum.now.nodes.nodes }
+    ensures { IfOk result (IsListedOver sum.now.nodes (entry_at answer_place sum.now.pairs.transitions)) }
 {
+    let graph = sum.nodes.graph();
+    let added = sum.nodes.added();
     match sum.pairs.find(ANSWER) {
         Some(k) => {
             let node = sum.pairs.entry(k).node;
-            let listing = sum.nodes.listing(alloc, node)?;
+            let listing = shorter(alloc, graph, added, node)?;
             Ok(Some(listing))
         }
         None => Ok(None),

@@ -18,5 +18,5 @@ loop-k-preserved g c =
           c.args.i c.args.state c.loop-k.k c.args.task.now.transitions c.entry-transition.result.now (state_of c.loop-k.self) (state_of c.follow_any.new.self) _
           there.1 c.loop-k.invariant.0 c.in_ok-follow_any.ensures.grows,
       c.in_ok-follow_any.ensures.ready,
-      c.follow_any.ensures.side ∙ c.loop-k.invariant.2,
+      c.follow_any.ensures.graph ∙ c.loop-k.invariant.2,
     )

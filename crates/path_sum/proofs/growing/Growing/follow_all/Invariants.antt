@@ -10,4 +10,4 @@ invariant-loop-k g l =
     (grow s l.task.side l.task.opening l.task.transitions ways (state_of l.self) (pair_moves l.task.opening ways l.i l.state (drop l.k l.task.transitions))
     ≡ grow s l.task.side l.task.opening l.task.transitions ways (state_of l.initial.self) (pair_moves l.task.opening ways l.i l.state l.task.transitions))
     × IsReady s l.task.transitions (pair_place l.i l.state) (state_of l.self)
-    × (l.self.nodes.side ≡ l.initial.self.nodes.side)
+    × (l.self.nodes.graph ≡ l.initial.self.nodes.graph)

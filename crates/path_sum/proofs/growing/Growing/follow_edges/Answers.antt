@@ -15,5 +15,5 @@ loop-edge-preserved g c = (
       c.args.i c.args.symbol c.args.transition.now.place c.edges-edge-items.result.now c.loop-edge.edge-index _ (state_of c.loop-edge.self) (state_of c.follow_edge.new.self) _
       c.loop-edge-test.true c.loop-edge.invariant.0 c.in_ok-follow_edge.ensures.grows,
   c.in_ok-follow_edge.ensures.ready,
-  c.follow_edge.ensures.side ∙ c.loop-edge.invariant.2,
+  c.follow_edge.ensures.graph ∙ c.loop-edge.invariant.2,
 )

@@ -10,4 +10,4 @@ invariant-loop-edge g l =
     (grow s l.task.side l.task.opening l.task.transitions (ways_of l.task.pattern) (state_of l.self) (edge_moves l.i l.symbol x (map edge_place (drop l.edge-index l.edge-items)))
     ≡ grow s l.task.side l.task.opening l.task.transitions (ways_of l.task.pattern) (state_of l.initial.self) (edge_moves l.i l.symbol x (map edge_place l.edge-items)))
     × IsReady s l.task.transitions (pair_place l.i x.from) (state_of l.self)
-    × (l.self.nodes.side ≡ l.initial.self.nodes.side)
+    × (l.self.nodes.graph ≡ l.initial.self.nodes.graph)
