@@ -123,7 +123,7 @@ told d brief report reported = go reported.answer.value refl
     go : (value : Bool) → reported.answer.value ≡ value → TellsReachability d report
     go true e =
         inl (
-          reached d (listed_runs reported.answer.listing) reported.is_answer.answers.lead (sym e ∙ reported.is_answer.answers.combined),
+          reached d (listed_runs reported.answer.listing) reported.is_answer.shows.answers.lead (sym e ∙ reported.is_answer.shows.answers.combined),
           (if brief then [] else shown reported.answer.listing),
           reported.text
               ∙ ap (λ v. query_text 1 brief (reach_text v) reported.answer.listing) e
@@ -131,10 +131,10 @@ told d brief report reported = go reported.answer.value refl
         )
     go false e =
         inr (
-          never d reported.answer.value e (listed_runs reported.answer.listing) reported.is_answer.answers,
+          never d reported.answer.value e (listed_runs reported.answer.listing) reported.is_answer.shows.answers,
           reported.text
               ∙ ap (λ v. query_text 1 brief (reach_text v) reported.answer.listing) e
-              ∙ unlisted_text brief (codes "unreachable") reported.answer.listing (reported.is_answer.unlisted.1 e)
+              ∙ unlisted_text brief (codes "unreachable") reported.answer.listing (reported.is_answer.shows.unlisted.1 e)
               ∙ line_is (codes "unreachable"),
         )
 

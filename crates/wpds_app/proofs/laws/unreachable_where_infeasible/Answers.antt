@@ -9,7 +9,7 @@ use Rattle.wpds_app.proofs.laws.unreachable_where_infeasible.Goals as goal
 pub returns : goal.returns
 returns g c = λ p i from to brief text named system is.
     let a = is.answer in
-    let answers = is.is_answer.answers in
+    let answers = is.is_answer.shows.answers in
     let zero = c.zero_where_infeasible.ensures.zero p (has_member from) (has_member to) a.value (listed_runs a.listing) system answers in
     let fits = c.answers_are_greatest_below.ensures.fits p (has_member from) (has_member to) a.value (listed_runs a.listing) system answers in
     let text_of_zero = c.unreachable_is_zero.ensures p.semiring a.value named fits in
@@ -17,5 +17,5 @@ returns g c = λ p i from to brief text named system is.
       λ e. zero.0 (text_of_zero.0 (told_unreachable i brief written text a.listing is.told e)),
       λ none.
           let nothing = zero.1 none in
-          is.told ∙ unlisted_line i brief written a.listing (is.is_answer.unlisted.1 nothing) ∙ ap (query_line i) (text_of_zero.1 nothing),
+          is.told ∙ unlisted_line i brief written a.listing (is.is_answer.shows.unlisted.1 nothing) ∙ ap (query_line i) (text_of_zero.1 nothing),
     )
