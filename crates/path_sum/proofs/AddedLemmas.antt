@@ -14,7 +14,7 @@ use Rattle.saturation_laws.specs.declared.opening.Opening.{Opening}
 use Rattle.saturation_laws.specs.Jobs.{node_of}
 use Rattle.saturation_laws.specs.States.{CoreState, Change, weight_at, lower_state, apply}
 use Rattle.path_sum.specs.Sums.{Ways, pair_place, can_move, has_state, along_change, end_change, Move, Along, End, Done, move, grow, bare_sum, IsGrown}
-use Rattle.path_sum.specs.Answers.{BeginsBehind}
+use Rattle.path_sum.specs.private.Growing.{BeginsBehind}
 
 module _ {S W Map : Type 0} (s : Operations W Map) (side : Side) (o : Opening) (ts : List (Entry S W Map)) (ways : Ways) (nodes : List Node) where
   abbrev Begins : CoreState S W Map → Type 0

@@ -14,8 +14,10 @@ use Rattle.saturation_laws.specs.States.{CoreState, weight_at}
 use Rattle.saturation_laws.specs.Books.{BookValue, IsBook, IsClosed}
 use Rattle.saturation_laws.specs.Paths.{IsSaturated}
 use Rattle.saturation_laws.proofs.CallerLemmas.{entry_fits, closed_applies}
-use Rattle.path_sum.specs.Sums.{Ways, answer_place, IsGrown, IsSummed}
-use Rattle.path_sum.specs.Answers.{IsQuery, first_of, last_of, answer_runs}
+use Rattle.path_sum.specs.Sums.{Ways, answer_place, IsGrown}
+use Rattle.path_sum.specs.private.Work.{IsSummed}
+use Rattle.path_sum.specs.private.Paths.{IsQuery, answer_runs}
+use Rattle.path_sum.specs.Answers.{first_of, last_of}
 use Rattle.path_sum.specs.Saturated.{IsSaturatedAutomaton}
 use Rattle.path_sum.proofs.SumLemmas.{sum_answers}
 use Rattle.saturation_laws.specs.Ways.{Way, start_of, IsLawful, HasPathSums}

@@ -24,11 +24,14 @@ use Rattle.saturation_laws.specs.declared.opening.Opening.{Opening}
 use Rattle.saturation_laws.specs.Openings.{AreKept}
 use Rattle.saturation_laws.specs.States.{CoreState, weight_of, weight_at}
 use Rattle.path_sum.specs.declared.answer.Answer.{Answer}
-use Rattle.path_sum.specs.Sums.{ways_of, answer_place, SumRun, TaskValue, bare_sum, moves_of, IsReady, GrowsBy}
-use Rattle.path_sum.specs.Pairs.{states_of, sum_places}
-use Rattle.path_sum.specs.Summing.{IsSummable}
+use Rattle.path_sum.specs.Sums.{ways_of, answer_place, bare_sum}
+use Rattle.path_sum.specs.private.Paths.{SumRun, IsSummable, IsQuery, answer_runs, listed}
+use Rattle.path_sum.specs.private.Inputs.{SumInputValue}
+use Rattle.path_sum.specs.private.Work.{moves_of, sum_places}
+use Rattle.path_sum.specs.private.Growing.{IsReady, GrowsBy}
+use Rattle.path_sum.specs.Pairs.{states_of}
 use Rattle.path_sum.specs.Saturated.{IsSaturatedAutomaton}
-use Rattle.path_sum.specs.Answers.{IsQuery, first_of, last_of, answer_runs, listed, AnswersOpening, listed_runs, IsListingOf, IsGrownAnswer}
+use Rattle.path_sum.specs.Answers.{first_of, last_of, AnswersOpening, listed_runs, IsListingOf, IsGrownAnswer}
 use Rattle.path_sum.specs.Results.{IsSumOver}
 use Rattle.path_sum.proofs.AddedLemmas.{grown_begins}
 use Rattle.path_sum.proofs.EntryLemmas.{present_here}
@@ -52,48 +55,48 @@ module _ {S W Map D : Type 0} {operations : S → Operations W Map} (laws : (x :
   abbrev side : Side
   side = (way.tables d p).side
 
-  abbrev pub task : TaskValue S W Map
-  task = record { semiring = p.semiring; side = side; opening = o; transitions = ts; pattern = pattern }
+  abbrev pub input : SumInputValue S W Map
+  input = record { semiring = p.semiring; side = side; opening = o; transitions = ts; pattern = pattern }
 
   -- what the code goes over
-  pub task_is : (t : TaskValue S W Map) (m : S) (sd : Side) → t ≡ record { semiring = m; side = sd; opening = o; transitions = ts; pattern = pattern } → m ≡ p.semiring → side ≡ sd → t ≡ task
-  task_is t m sd is same goes =
-      let of : S → Side → TaskValue S W Map = λ n b. record { semiring = n; side = b; opening = o; transitions = ts; pattern = pattern } in
+  pub input_is : (t : SumInputValue S W Map) (m : S) (sd : Side) → t ≡ record { semiring = m; side = sd; opening = o; transitions = ts; pattern = pattern } → m ≡ p.semiring → side ≡ sd → t ≡ input
+  input_is t m sd is same goes =
+      let of : S → Side → SumInputValue S W Map = λ n b. record { semiring = n; side = b; opening = o; transitions = ts; pattern = pattern } in
       is ∙ ap (λ n. of n sd) same ∙ ap (of p.semiring) (sym goes)
 
-  pub summable : IsSummable s (value_of s p) p (way.runs d p o) task nodes
+  pub summable : IsSummable s (value_of s p) p (way.runs d p o) input nodes
   summable = record { fits = value_fits valid (laws p.semiring); control = control; gives = sums.gives; sound = is.sound; shape = is.shape }
 
   -- the rounds, as the code sees them
-  pub begun_at : (t : TaskValue S W Map) → t ≡ task → (st : CoreState S W Map) → st ≡ bare_sum (operations t.semiring) t.side nodes (ways_of t.pattern) → IsUnderWay s task nodes st
+  pub begun_at : (t : SumInputValue S W Map) → t ≡ input → (st : CoreState S W Map) → st ≡ bare_sum (operations t.semiring) t.side nodes (ways_of t.pattern) → IsUnderWay s input nodes st
   begun_at t e st is =
-      let P : TaskValue S W Map → Type 0 = λ u. st ≡ bare_sum (operations u.semiring) u.side nodes (ways_of u.pattern) in
-      begun (laws p.semiring) (value_of s p) p (way.runs d p o) task nodes summable st (subst P e is)
+      let P : SumInputValue S W Map → Type 0 = λ u. st ≡ bare_sum (operations u.semiring) u.side nodes (ways_of u.pattern) in
+      begun (laws p.semiring) (value_of s p) p (way.runs d p o) input nodes summable st (subst P e is)
 
-  pub ready_at : (t : TaskValue S W Map) → t ≡ task → (st : CoreState S W Map) (x : Place) (q : List Place) → IsUnderWay s task nodes st → st.queue ≡ x ∷ q
+  pub ready_at : (t : SumInputValue S W Map) → t ≡ input → (st : CoreState S W Map) (x : Place) (q : List Place) → IsUnderWay s input nodes st → st.queue ≡ x ∷ q
       → IsReady (operations t.semiring) t.transitions x (past st q)
   ready_at t e st x q now front =
-      let P : TaskValue S W Map → Type 0 = λ u. IsReady (operations u.semiring) u.transitions x (past st q) in
-      subst P (sym e) (front_ready (laws p.semiring) (value_of s p) p (way.runs d p o) task nodes summable st x q now front)
+      let P : SumInputValue S W Map → Type 0 = λ u. IsReady (operations u.semiring) u.transitions x (past st q) in
+      subst P (sym e) (front_ready (laws p.semiring) (value_of s p) p (way.runs d p o) input nodes summable st x q now front)
 
-  pub round_at : (t : TaskValue S W Map) → t ≡ task → (st new : CoreState S W Map) (x : Place) (q : List Place) → IsUnderWay s task nodes st → st.queue ≡ x ∷ q
-      → GrowsBy (operations t.semiring) t (moves_of t.opening (ways_of t.pattern) t.transitions x) (past st q) new
-      → IsUnderWay s task nodes new × (left_of s task nodes new < left_of s task nodes st)
+  pub round_at : (t : SumInputValue S W Map) → t ≡ input → (st new : CoreState S W Map) (x : Place) (q : List Place) → IsUnderWay s input nodes st → st.queue ≡ x ∷ q
+      → GrowsBy operations t (moves_of t.opening (ways_of t.pattern) t.transitions x) (past st q) new
+      → IsUnderWay s input nodes new × (left_of s input nodes new < left_of s input nodes st)
   round_at t e st new x q now front drawn =
-      let P : TaskValue S W Map → Type 0 = λ u. GrowsBy (operations u.semiring) u (moves_of u.opening (ways_of u.pattern) u.transitions x) (past st q) new in
-      let at : P task = subst P e drawn in (
-        round_keeps (laws p.semiring) (value_of s p) p (way.runs d p o) task nodes summable st new x q now front at,
-        round_falls (laws p.semiring) (value_of s p) p (way.runs d p o) task nodes summable st new x q now front at,
+      let P : SumInputValue S W Map → Type 0 = λ u. GrowsBy operations u (moves_of u.opening (ways_of u.pattern) u.transitions x) (past st q) new in
+      let at : P input = subst P e drawn in (
+        round_keeps (laws p.semiring) (value_of s p) p (way.runs d p o) input nodes summable st new x q now front at,
+        round_falls (laws p.semiring) (value_of s p) p (way.runs d p o) input nodes summable st new x q now front at,
       )
 
-  pub kept_at : (st : CoreState S W Map) → IsUnderWay s task nodes st → AreKept s st.transitions (length st.nodes)
-  kept_at st now = all_kept (laws p.semiring) (value_of s p) p (way.runs d p o) task nodes summable st now
+  pub kept_at : (st : CoreState S W Map) → IsUnderWay s input nodes st → AreKept s st.transitions (length st.nodes)
+  kept_at st now = all_kept (laws p.semiring) (value_of s p) p (way.runs d p o) input nodes summable st now
 
-  module _ (st : CoreState S W Map) (now : IsUnderWay s task nodes st) (empty : st.queue ≡ []) (a : Answer S W Map)
+  module _ (st : CoreState S W Map) (now : IsUnderWay s input nodes st) (empty : st.queue ≡ []) (a : Answer S W Map)
       (value_is : a.value ≡ weight_at s answer_place st.transitions) (added : List Node) (nodes_are : st.nodes ≡ nodes ++ added)
       (listing : IsListingOf side nodes added (entry_at answer_place st.transitions) a.listing) where
     good : IsSum s (value_of s p) (SumRun p side o (ways_of pattern) (way.runs d p o)) side (ways_of pattern) nodes st
-    good = sum_good (laws p.semiring) (value_of s p) p (way.runs d p o) task nodes summable st now.grown
+    good = sum_good (laws p.semiring) (value_of s p) p (way.runs d p o) input nodes summable st now.grown
 
     runs_are : (e : Option (Entry S W Map)) (l : Option Listing) → IsListingOf side nodes added e l → listed_runs l ≡ listed side st e
     runs_are None l is = ap listed_runs is
@@ -104,7 +107,7 @@ module _ {S W Map D : Type 0} {operations : S → Operations W Map} (laws : (x :
     answer_answers far far_is =
         let query : IsQuery p o (ways_of pattern) (has_member pattern) far = record { near_is = members_way pattern; far_is = far_is } in
         let found = finished_answers operations laws way p valid d o ts nodes is sums (ways_of pattern) control (has_member pattern) far query st now.grown
-        (ended (laws p.semiring) (value_of s p) p (way.runs d p o) task nodes summable st now empty) in
+        (ended (laws p.semiring) (value_of s p) p (way.runs d p o) input nodes summable st now empty) in
         let P : W → Type 0 = λ v. Answers s p (first_of side (has_member pattern) far) (last_of side (has_member pattern) far) v (answer_runs side st) in
         let Q : List (List ℕ) → Type 0 = Answers s p (first_of side (has_member pattern) far) (last_of side (has_member pattern) far) a.value in
         subst Q (sym (runs_are (entry_at answer_place st.transitions) a.listing listing)) (subst P (sym value_is) found)
@@ -152,7 +155,7 @@ module _ {S W Map D : Type 0} {operations : S → Operations W Map} (laws : (x :
     answer_grown : IsGrownAnswer s side o ts nodes (ways_of pattern) a
     answer_grown =
         let n = (length pattern.items + 1) * length (states_of pattern.control ts) in
-        let few = few_nodes (laws p.semiring) (value_of s p) p (way.runs d p o) task nodes summable st now in
+        let few = few_nodes (laws p.semiring) (value_of s p) p (way.runs d p o) input nodes summable st now in
         let count : length (sum_places (ways_of pattern) ts) ≡ n + 1 = places_count ts pattern in
         let more : (n + 1) * (s.top_rank + 1) ≡ (n + 1) * s.top_rank + (n + 1) = times_more (n + 1) s.top_rank in
         let same : length (sum_places (ways_of pattern) ts) * s.top_rank ≡ (n + 1) * s.top_rank = ap (λ k. k * s.top_rank) count in

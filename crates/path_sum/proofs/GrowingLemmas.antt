@@ -23,7 +23,8 @@ use Rattle.saturation_laws.specs.Directions.{AreRuns}
 use Rattle.saturation_laws.specs.Invariants.{IsSound}
 use Rattle.saturation_laws.specs.Paths.{symbols_of, IsPath, EachRun, runs_in_order, joined, in_order, along, Joins, IsGiven}
 use Rattle.saturation_laws.proofs.CallerLemmas.{has_place_is, IsLinear, bilinear, all_pairs, then_empty, IsSoundState, IsSoundChange}
-use Rattle.path_sum.specs.Sums.{Ways, pair_place, answer_place, Moves, can_move, has_state, along_change, end_change, PairRun, AnswerRun, SumRun}
+use Rattle.path_sum.specs.Sums.{Ways, pair_place, answer_place, can_move, has_state, along_change, end_change}
+use Rattle.path_sum.specs.private.Paths.{Moves, PairRun, AnswerRun, SumRun}
 use Rattle.path_sum.proofs.OrderLemmas.{along_more, joined_more, path_more, each_more, read_more}
 
 -- each run after the empty one

@@ -13,7 +13,8 @@ use Rattle.config_patterns.proofs.CallerLemmas.{members_read}
 use Rattle.pushdown_rules.specs.Configuration.{Configuration}
 use Rattle.wpds_base.specs.Lists.{IsIn}
 use Rattle.saturation_laws.specs.Paths.{Reads}
-use Rattle.path_sum.specs.Sums.{HasWay, ways_of, edge_place}
+use Rattle.path_sum.specs.private.Paths.{HasWay}
+use Rattle.path_sum.specs.Sums.{ways_of, edge_place}
 use Rattle.path_sum.proofs.PlaceLemmas.{same_in}
 
 abbrev edge : ℕ → ℕ → ℕ → Edge

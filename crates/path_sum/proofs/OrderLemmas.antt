@@ -11,7 +11,7 @@ use Rattle.witness_graph.specs.declared.node.Side.TheVariants.{Pre, Post}
 use Rattle.wpds_base.specs.Lists.{IsIn}
 use Rattle.saturation_laws.specs.Paths.{symbols_of, IsPath, EachRun, runs_in_order, joined, in_order, along, Reads}
 use Rattle.semiring_laws.proofs.CallerLemmas.{extend_left_keeps_below, extend_right_keeps_below}
-use Rattle.path_sum.specs.Sums.{Moves}
+use Rattle.path_sum.specs.private.Paths.{Moves}
 
 module _ {W Map : Type 0} {s : Operations W Map} (laws : IsSemiring s) where
   pub order_fits : (side : Side) (a b : W) → Fits s a → Fits s b → Fits s (in_order s side a b)

@@ -14,7 +14,9 @@ use Rattle.wpds_base.specs.Lists.{IsIn}
 use Rattle.saturation_laws.specs.States.{weight_of, weight_at}
 use Rattle.saturation_laws.specs.Paths.{IsPath, in_order, along, Reads, entry_weight, IsMet}
 use Rattle.semiring_laws.proofs.CallerLemmas.{below_itself, below_trans, below_zero}
-use Rattle.path_sum.specs.Sums.{Ways, HasWay, pair_place, answer_place, Moves, IsSummed}
+use Rattle.path_sum.specs.Sums.{Ways, pair_place, answer_place}
+use Rattle.path_sum.specs.private.Paths.{HasWay, Moves}
+use Rattle.path_sum.specs.private.Work.{IsSummed}
 use Rattle.path_sum.proofs.OrderLemmas.{order_fits, order_assoc, order_one_left, order_one_right, order_zero_left, order_below, along_fit, moves_first}
 
 module _ {S W Map : Type 0} {s : Operations W Map} (laws : IsSemiring s) (side : Side) (o : Opening) (ts : List (Entry S W Map)) (ways : Ways) (sums : List (Entry S W Map))

@@ -14,8 +14,10 @@ use Rattle.config_patterns.specs.Edges.{edges_of, leads_to, stays_on}
 use Rattle.config_patterns.proofs.CallerLemmas.{edges_are}
 use Rattle.wpds_base.specs.Lists.{IsIn}
 use Rattle.saturation_laws.proofs.CallerLemmas.{in_left, in_append}
-use Rattle.path_sum.specs.Sums.{Ways, ways_of, edge_place, pair_place, Moves, has_state, AreReachable}
-use Rattle.path_sum.specs.Pairs.{distinct, states_of, pairs_of, sum_places}
+use Rattle.path_sum.specs.Sums.{Ways, ways_of, edge_place, pair_place, has_state}
+use Rattle.path_sum.specs.private.Paths.{Moves}
+use Rattle.path_sum.specs.private.Work.{AreReachable, pairs_of, sum_places}
+use Rattle.path_sum.specs.Pairs.{distinct, states_of}
 use Rattle.path_sum.proofs.EntryLemmas.{in_right, entry_in}
 use Rattle.path_sum.proofs.GrowingLemmas.{has_state_is}
 

@@ -32,9 +32,11 @@ use Rattle.witness_graph.specs.Nodes.{AreNodes, is_orderly}
 use Rattle.witness_graph.specs.Tight.{IsTightNode}
 use Rattle.saturation_laws.specs.Paths.{IsPath, EachRun, IsOpened, Joins, IsSaturated, IsGiven, HasSums}
 use Rattle.saturation_laws.proofs.CallerLemmas.{get_push, IsSoundChange, weights_fit, tight_same, apply_keeps}
-use Rattle.path_sum.specs.Sums.{Ways, HasWay, pair_place, answer_place, Moves, can_move, has_state, Move, Along, End, Done, along_change, end_change, move, grow, bare_sum, IsGrown, IsSummed, AnswerRun, SumRun}
+use Rattle.path_sum.specs.Sums.{Ways, pair_place, answer_place, can_move, has_state, Move, Along, End, Done, along_change, end_change, move, grow, bare_sum, IsGrown}
+use Rattle.path_sum.specs.private.Paths.{HasWay, Moves, AnswerRun, SumRun, IsQuery, listed, answer_runs}
+use Rattle.path_sum.specs.private.Work.{IsSummed}
 use Rattle.pushdown_rules.specs.Answers.{Leads, Answers}
-use Rattle.path_sum.specs.Answers.{IsQuery, first_of, last_of, listed, answer_runs}
+use Rattle.path_sum.specs.Answers.{first_of, last_of}
 use Rattle.path_sum.proofs.PairLemmas.{met_below}
 use Rattle.path_sum.proofs.GrowingLemmas.{can_move_is, has_state_is, IsSum, along_sound, end_sound}
 

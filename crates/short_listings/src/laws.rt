@@ -10,23 +10,29 @@ use semiring_laws::Semiring;
 
 /// What is made shorter has the same runs, whichever way they go.
 pub fn shorter_has_the_same_runs()
-    ensures { (side : SideValue) (graph added : List NodeValue) (root : ℕ) → AreNodes (graph ++ added) → BeginsEmpty added → root < length (graph ++ added)
-        → runs_of side (shortened graph added root) (length (shortened graph added root) - 1) ≡ runs_of side (graph ++ added) root }
+    ensures { (side : SideValue) (graph added : List NodeValue) (root : ℕ) →
+        AreNodes (graph ++ added) → BeginsEmpty added → root < length (graph ++ added) →
+        let nodes = shortened graph added root in
+        runs_of side nodes (length nodes - 1) ≡ runs_of side (graph ++ added) root }
 {}
 
-/// Where the nodes of a sum are tight, the listing that is made shorter is tight, for whatever its runs are worth.
+/// If the nodes of a sum are tight, the listing that is made shorter is tight, for whatever its runs are worth.
 pub fn shorter_stays_tight<S: Semiring>()
-    ensures { (semiring : S) (value : List ℕ → S.W) (side : SideValue) (graph added : List NodeValue) (root : ℕ) → AreNodes (graph ++ added) → BeginsEmpty added
-        → root < length (graph ++ added) → IsTight (S.operations semiring) value side (graph ++ added) → IsTight (S.operations semiring) value side (shortened graph added root) }
+    ensures { (semiring : S) → let s = S.operations semiring in (value : List ℕ → S.W)
+        (side : SideValue) (graph added : List NodeValue) (root : ℕ) →
+        AreNodes (graph ++ added) → BeginsEmpty added → root < length (graph ++ added) →
+        IsTight s value side (graph ++ added) → IsTight s value side (shortened graph added root) }
 {}
 
 /// A listing that is made shorter has no more nodes than there are.
 pub fn shorter_has_no_more_nodes()
-    ensures { (graph added : List NodeValue) (root : ℕ) → AreNodes (graph ++ added) → BeginsEmpty added → root < length (graph ++ added)
-        → length (shortened graph added root) ≤ length (graph ++ added) }
+    ensures { (graph added : List NodeValue) (root : ℕ) →
+        AreNodes (graph ++ added) → BeginsEmpty added → root < length (graph ++ added) →
+        length (shortened graph added root) ≤ length (graph ++ added) }
 {}
 
 /// The nodes of the graph stay as they are, under their own numbers.
 pub fn nodes_of_the_graph_stay()
-    ensures { (graph added : List NodeValue) → (more : List NodeValue) × ((made_short graph added).0 ≡ graph ++ more) }
+    ensures { (graph added : List NodeValue) →
+        (more : List NodeValue) × ((made_short graph added).0 ≡ graph ++ more) }
 {}

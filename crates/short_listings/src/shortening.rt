@@ -1,6 +1,6 @@
 ghost use Rattle.std.specs.Prelude.{◌≡◌, ◌-◌, ◌<◌, ◌++◌, length, IfOk};
 ghost use Rattle.witness_graph.specs.Nodes.{AreNodes};
-ghost use Rattle.witness_graph.specs.Runs.{runs_of};
+ghost use Rattle.witness_graph.specs.Runs.{runs_of, listing_runs};
 ghost use Rattle.short_listings.specs.Shorter as shorter;
 
 use std::alloc::Global;
@@ -64,7 +64,7 @@ fn only_part(node: Node) -> Option<u64>
     }
 }
 
-// The number that stands for a node: its own where it is one of the graph's.
+// The number that stands for a node: its own if it is one of the graph's.
 fn stand(graph: u64, stands: &[u64], number: u64) -> u64
     ensures { result ≡ shorter.stand graph stands.now number }
 {
@@ -107,7 +107,7 @@ fn by_stands(graph: u64, stands: &[u64], node: Node) -> Node
 }
 
 /// The listing of a node of a sum, made shorter: of a graph's nodes and those that the sum added, of which the first is
-/// the empty run. Only the added nodes are touched. The runs are the same list. It is refused only for want of memory.
+/// the empty run. Only the added nodes are touched. The runs are the same list. Refused only when out of memory.
 pub fn shorter(
     alloc: Global,
     graph: &Graph,
@@ -119,7 +119,8 @@ pub fn shorter(
     requires root { root < length (graph.now.nodes ++ added.now) }
     ensures side { IfOk result (λ l. l.side ≡ graph.now.side) }
     ensures nodes { IfOk result (λ l. l.nodes ≡ shorter.shortened graph.now.nodes added.now root) }
-    ensures runs { IfOk result (λ l. runs_of l.side l.nodes (length l.nodes - 1) ≡ runs_of graph.now.side (graph.now.nodes ++ added.now) root) }
+    ensures runs { IfOk result (λ l.
+        listing_runs l ≡ runs_of graph.now.side (graph.now.nodes ++ added.now) root) }
 {
     let first = graph.len();
     let mut whole = Overlay::new(alloc, graph);

@@ -6,7 +6,8 @@ use Rattle.witness_graph.specs.declared.node.Node.TheVariants.{Start}
 use Rattle.witness_graph.specs.Nodes.{Nodes, AreNodes}
 use Rattle.saturation_laws.proofs.CallerLemmas.{indexed}
 use Rattle.path_sum.specs.Sums.{answer_place}
-use Rattle.path_sum.specs.Answers.{IsListedOver, IsListingOf}
+use Rattle.path_sum.specs.private.Growing.{IsListedOver}
+use Rattle.path_sum.specs.Answers.{IsListingOf}
 use Rattle.path_sum.proofs.EntryLemmas.{found_here, present_here}
 use Rattle.path_sum.proofs.summing.list_answer.Goals as goal
 

@@ -3,11 +3,11 @@ use Rattle.weighted_automata.specs.Entries.{entry_at}
 use Rattle.saturation_laws.specs.Openings.{AreKept}
 use Rattle.saturation_laws.specs.States.{weight_at}
 use Rattle.path_sum.specs.Sums.{answer_place, ways_of}
-use Rattle.path_sum.specs.Answers.{IsListingOf, IsListedOver, BeginsBehind}
+use Rattle.path_sum.specs.Answers.{IsListingOf}
+use Rattle.path_sum.specs.private.Growing.{IsListedOver, BeginsBehind, state_of}
 use Rattle.path_sum.proofs.AddedLemmas.{grown_begins}
 use Rattle.witness_graph.specs.Nodes.{Nodes}
-use Rattle.path_sum.specs.Growings.{state_of}
-use Rattle.path_sum.proofs.FinishedLemmas.{task_is, begun_at, ready_at, round_at, kept_at, answer_sums}
+use Rattle.path_sum.proofs.FinishedLemmas.{input_is, begun_at, ready_at, round_at, kept_at, answer_sums}
 use Rattle.path_sum.proofs.summing.sum_parts.Goals as goal
 
 pub rounds-init : goal.rounds-init
@@ -16,10 +16,10 @@ rounds-init g c =
     let d = c.args.direction.now in
     let valid = c.semiring-semiring.ensures.valid in
     let sums = g.met.D.Direction.sums d p c.args.opening.now valid c.requires.automaton.fits in
-    let is_task = task_is g.S.Semiring.laws valid c.requires.automaton sums c.args.pattern.now c.requires.pattern
-    c.in_ok-task.task c.semiring-semiring.result.now c.side-side.result c.in_ok-task.ensures c.semiring-semiring.ensures.value (c.side-side.ensures p) in (
+    let is_task = input_is g.S.Semiring.laws valid c.requires.automaton sums c.args.pattern.now c.requires.pattern
+    c.in_ok-input.input c.semiring-semiring.result.now c.side-side.result c.in_ok-input.ensures c.semiring-semiring.ensures.value (c.side-side.ensures p) in (
       begun_at g.S.Semiring.laws valid c.requires.automaton sums c.args.pattern.now c.requires.pattern
-          c.in_ok-task.task is_task (state_of c.in_ok-sum.sum) c.in_ok-sum.ensures.state,
+          c.in_ok-input.input is_task (state_of c.in_ok-sum.sum) c.in_ok-sum.ensures.state,
       c.in_ok-sum.ensures.graph,
     )
 
@@ -29,11 +29,11 @@ draw-requires g c =
     let d = c.args.direction.now in
     let valid = c.semiring-semiring.ensures.valid in
     let sums = g.met.D.Direction.sums d p c.args.opening.now valid c.requires.automaton.fits in
-    let is_task = task_is g.S.Semiring.laws valid c.requires.automaton sums c.args.pattern.now c.requires.pattern
-    c.in_ok-task.task c.semiring-semiring.result.now c.side-side.result c.in_ok-task.ensures c.semiring-semiring.ensures.value (c.side-side.ensures p) in
+    let is_task = input_is g.S.Semiring.laws valid c.requires.automaton sums c.args.pattern.now c.requires.pattern
+    c.in_ok-input.input c.semiring-semiring.result.now c.side-side.result c.in_ok-input.ensures c.semiring-semiring.ensures.value (c.side-side.ensures p) in
     record {
       ready = ready_at g.S.Semiring.laws valid c.requires.automaton sums c.args.pattern.now c.requires.pattern
-          c.in_ok-task.task is_task (state_of c.rounds.sum) c.in-Some.place c.next.new.waiting.items c.rounds.invariant.0 c.in-Some.ensures;
+          c.in_ok-input.input is_task (state_of c.rounds.sum) c.in-Some.place c.next.new.waiting.items c.rounds.invariant.0 c.in-Some.ensures;
     }
 
 pub rounds-smaller : goal.rounds-smaller
@@ -42,10 +42,10 @@ rounds-smaller g c =
     let d = c.args.direction.now in
     let valid = c.semiring-semiring.ensures.valid in
     let sums = g.met.D.Direction.sums d p c.args.opening.now valid c.requires.automaton.fits in
-    let is_task = task_is g.S.Semiring.laws valid c.requires.automaton sums c.args.pattern.now c.requires.pattern
-    c.in_ok-task.task c.semiring-semiring.result.now c.side-side.result c.in_ok-task.ensures c.semiring-semiring.ensures.value (c.side-side.ensures p) in
+    let is_task = input_is g.S.Semiring.laws valid c.requires.automaton sums c.args.pattern.now c.requires.pattern
+    c.in_ok-input.input c.semiring-semiring.result.now c.side-side.result c.in_ok-input.ensures c.semiring-semiring.ensures.value (c.side-side.ensures p) in
     let round = round_at g.S.Semiring.laws valid c.requires.automaton sums c.args.pattern.now c.requires.pattern
-    c.in_ok-task.task is_task (state_of c.rounds.sum) (state_of c.draw.new.self) c.in-Some.place c.next.new.waiting.items c.rounds.invariant.0 c.in-Some.ensures c.in_ok-draw.ensures.grows in
+    c.in_ok-input.input is_task (state_of c.rounds.sum) (state_of c.draw.new.self) c.in-Some.place c.next.new.waiting.items c.rounds.invariant.0 c.in-Some.ensures c.in_ok-draw.ensures.grows in
     round.1
 
 pub rounds-preserved : goal.rounds-preserved
@@ -54,10 +54,10 @@ rounds-preserved g c =
     let d = c.args.direction.now in
     let valid = c.semiring-semiring.ensures.valid in
     let sums = g.met.D.Direction.sums d p c.args.opening.now valid c.requires.automaton.fits in
-    let is_task = task_is g.S.Semiring.laws valid c.requires.automaton sums c.args.pattern.now c.requires.pattern
-    c.in_ok-task.task c.semiring-semiring.result.now c.side-side.result c.in_ok-task.ensures c.semiring-semiring.ensures.value (c.side-side.ensures p) in
+    let is_task = input_is g.S.Semiring.laws valid c.requires.automaton sums c.args.pattern.now c.requires.pattern
+    c.in_ok-input.input c.semiring-semiring.result.now c.side-side.result c.in_ok-input.ensures c.semiring-semiring.ensures.value (c.side-side.ensures p) in
     let round = round_at g.S.Semiring.laws valid c.requires.automaton sums c.args.pattern.now c.requires.pattern
-    c.in_ok-task.task is_task (state_of c.rounds.sum) (state_of c.draw.new.self) c.in-Some.place c.next.new.waiting.items c.rounds.invariant.0 c.in-Some.ensures c.in_ok-draw.ensures.grows in
+    c.in_ok-input.input is_task (state_of c.rounds.sum) (state_of c.draw.new.self) c.in-Some.place c.next.new.waiting.items c.rounds.invariant.0 c.in-Some.ensures c.in_ok-draw.ensures.grows in
     (round.0, c.in_ok-draw.ensures.graph ∙ c.rounds.invariant.1)
 
 pub weight_now-requires : goal.weight_now-requires

@@ -1,5 +1,5 @@
 use Rattle.std.proofs.Common.{◌≡◌}
-use Rattle.path_sum.specs.Growings.{state_of}
+use Rattle.path_sum.specs.private.Growing.{state_of}
 use Rattle.path_sum.proofs.RoundLemmas.{IsUnderWay, left_of}
 use Rattle.path_sum.proofs.summing.sum_parts.Given as goal
 

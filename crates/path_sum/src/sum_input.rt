@@ -13,7 +13,7 @@ use wpds_base::OutOfMemory;
 
 /// What a sum goes over: transitions, the opening that they began with, and a pattern with its edges.
 #[derive(Drop)]
-pub(crate) struct Task<'a, S: Semiring> {
+pub(crate) struct SumInput<'a, S: Semiring> {
     semiring: &'a S,
     side: Side,
     opening: &'a Opening,
@@ -22,20 +22,27 @@ pub(crate) struct Task<'a, S: Semiring> {
     edges: EdgeList,
 }
 
-impl<'a, S: Semiring> Model for Task<'a, S> {
+impl<'a, S: Semiring> Model for SumInput<'a, S> {
     ghost use Rattle.std.specs.Prelude.{◌≡◌};
     ghost use Rattle.config_patterns.specs.Edges.{edges_of};
-    ghost use Rattle.path_sum.specs.Sums.{TaskValue};
+    ghost use Rattle.path_sum.specs.private.Inputs.{SumInputValue};
 
-    ghost Value = { TaskValue S S.W S.Ret };
+    ghost Value = { SumInputValue S S.W S.Ret };
 
-    ghost view = { λ t. record { semiring = t.semiring.now; side = t.side; opening = t.opening.now; transitions = t.transitions.now.transitions; pattern = t.pattern.now } };
+    ghost view = { λ t. record {
+      semiring = t.semiring.now;
+      side = t.side;
+      opening = t.opening.now;
+      transitions = t.transitions.now.transitions;
+      pattern = t.pattern.now;
+    } };
 
     ghost invariant = { λ t. t.edges ≡ edges_of t.pattern.now.items };
 }
 
-impl<'a, S: Semiring> Task<'a, S> {
-    /// These. The pattern's edges are made once.
+impl<'a, S: Semiring> SumInput<'a, S> {
+    /// The input of a sum over these transitions, which read to the opening, and this pattern. The pattern's edges are
+    /// made here, once. Refused only when out of memory.
     pub(crate) fn new(
         alloc: Global,
         semiring: &'a S,
@@ -43,11 +50,17 @@ impl<'a, S: Semiring> Task<'a, S> {
         opening: &'a Opening,
         transitions: &'a Transitions<S>,
         pattern: &'a Pattern,
-    ) -> Result<Task<'a, S>, OutOfMemory>
-        ensures { IfOk result (λ t. t ≡ record { semiring = semiring.now; side = side; opening = opening.now; transitions = transitions.now.transitions; pattern = pattern.now }) }
+    ) -> Result<SumInput<'a, S>, OutOfMemory>
+        ensures { IfOk result (λ t. t ≡ record {
+          semiring = semiring.now;
+          side = side;
+          opening = opening.now;
+          transitions = transitions.now.transitions;
+          pattern = pattern.now;
+        }) }
     {
         let edges = pattern.edges(alloc)?;
-        Ok(Task {
+        Ok(SumInput {
             semiring,
             side,
             opening,
@@ -94,7 +107,8 @@ impl<'a, S: Semiring> Task<'a, S> {
 
     /// Whether a state of the pattern is final, and one of the automaton.
     pub(crate) fn ends_at(&self, state: u32, other: u32) -> bool
-        ensures { result ≡ (is_final_of self.now.pattern.items state && has_state other self.now.opening.finals) }
+        ensures { result ≡ (is_final_of self.now.pattern.items state
+            && has_state other self.now.opening.finals) }
     {
         self.pattern.is_final(state) && has_number(self.opening.finals.as_slice(), other)
     }
