@@ -1,5 +1,5 @@
 -- Where the reading of an expression stands in memory, as the definitions have it.
-use Rattle.std.specs.Prelude.{ℕ, List, ◌∷◌, map, reverse, Option, Some, Result}
+use Rattle.std.specs.Prelude.{ℕ, List, ◌∷◌, map, reverse, Option, Some, option_map, Result}
 use Rattle.truth_tables.specs.Machine.{Unclosed, NotOpen, OperatorOpen, BracketOpen, First2Open, Second2Open, First3Open, Second3Open, Third3Open, Progress, Wanted, Behind2, Behind3, Counted2, Counted3, Operand}
 use Rattle.truth_tables.specs.Operands.{Made, operand_of}
 use Rattle.truth_tables.specs.declared.operand.Unread.{Unread}
@@ -32,6 +32,10 @@ position_of Behind3' ps = Behind3 (stack_of ps)
 position_of (Counted2' n) ps = Counted2 (stack_of ps) n
 position_of (Counted3' n) ps = Counted3 (stack_of ps) n
 position_of (Behind e) ps = Operand (stack_of ps) (operand_of e)
+
+-- the same, where there is a position
+abbrev pub progress_of : Option Position → List OpenPart → Option (Progress (Result Made Unread) (Result ℕ Unread))
+progress_of o ps = option_map (λ q. position_of q ps) o
 
 -- a part more is open, behind which an operand is wanted
 abbrev pub part_pushed : List OpenMade → OpenPart → Option (Progress (Result Made Unread) (Result ℕ Unread))
