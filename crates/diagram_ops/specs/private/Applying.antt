@@ -4,7 +4,7 @@ use Rattle.truth_tables.specs.Tables.{value3_of}
 use Rattle.diagram_store.specs.declared.branch.Branch.{Branch}
 use Rattle.diagram_store.specs.Nodes.{node_at, IsAbove, IsReduced}
 use Rattle.diagram_store.specs.Meaning.{value_at}
-use Rattle.diagram_ops.specs.Scratch.{Keeps, Stands}
+use Rattle.diagram_ops.specs.private.Scratch.{Keeps, Stands}
 
 -- the variable of a reference, if it is a node
 abbrev pub variable : List Branch → ℕ → Option ℕ

@@ -7,8 +7,8 @@ use Rattle.diagram_store.specs.Nodes.{IsReduced}
 use Rattle.diagram_store.specs.Meaning.{value_at}
 use Rattle.diagram_ops.specs.declared.composing.Operand.{Operand}
 use Rattle.diagram_ops.specs.declared.composing.Operand.TheVariants.{First, Second}
-use Rattle.diagram_ops.specs.Scratch.{Keeps, Stands, IsPast}
-use Rattle.diagram_ops.specs.Applying.{AreApplied}
+use Rattle.diagram_ops.specs.private.Scratch.{Keeps, Stands, IsPast}
+use Rattle.diagram_ops.specs.private.Applying.{AreApplied}
 
 -- the place of a variable of a relation
 abbrev pub position : Operand → ℕ → ℕ

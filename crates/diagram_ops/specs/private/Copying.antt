@@ -3,8 +3,8 @@ use Rattle.std.specs.Prelude.{◌≡◌, ℕ, ◌+◌, ◌<◌, Bool, List, leng
 use Rattle.diagram_store.specs.declared.branch.Branch.{Branch}
 use Rattle.diagram_store.specs.Nodes.{node_at, IsAbove, IsReduced}
 use Rattle.diagram_store.specs.Meaning.{value_at}
-use Rattle.diagram_store.specs.Canonical.{turn_after}
-use Rattle.diagram_ops.specs.Scratch.{Keeps}
+use Rattle.diagram_store.specs.Canonical.{IsWalked}
+use Rattle.diagram_ops.specs.private.Scratch.{Keeps}
 
 -- p of the copy means what r of the scratch does
 pub record IsCopied (scratch : List Branch) (r : ℕ) (out : List Branch) (p : ℕ) : Type 0 where
@@ -25,4 +25,4 @@ pub record Copies (scratch : List Branch) (old : ℕ → Option ℕ) (before : L
   pub keeps : Keeps before after
   pub others : (k : ℕ) → r < k → new k ≡ old k
   pub copied : IsCopied scratch r after p
-  pub turn : turn_after after p (length before + 2) p ≡ Some (length after + 2)
+  pub walk : IsWalked after before p after

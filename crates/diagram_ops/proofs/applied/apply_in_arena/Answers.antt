@@ -2,11 +2,11 @@ use Rattle.std.proofs.Common.{List, ◌∙◌}
 use Rattle.diagram_store.specs.declared.branch.Branch.{Branch}
 use Rattle.diagram_store.specs.Nodes.{IsAbove}
 use Rattle.diagram_store.specs.Meaning.{value_at}
-use Rattle.diagram_ops.specs.Images.{IsValue}
+use Rattle.diagram_ops.specs.private.Images.{IsValue}
 use Rattle.diagram_ops.proofs.KeepingLemmas.{keeps_within, keeps_both, stands_kept}
 use Rattle.diagram_ops.proofs.ApplyingLemmas.{value3_same}
 use Rattle.diagram_ops.proofs.VariableLemmas.{applied_below}
-use Rattle.diagram_ops.proofs.applied.applied.Goals as goal
+use Rattle.diagram_ops.proofs.applied.apply_in_arena.Goals as goal
 
 pub apply-requires-clause-x : goal.apply-requires-clause-x
 apply-requires-clause-x c =
@@ -32,6 +32,4 @@ returns-clause-value c = λ bits.
 
 pub returns-clause-variables : goal.returns-clause-variables
 returns-clause-variables c = λ limit.
-    applied_below limit c.in_ok-made.made.nodes c.in_ok-made.made.root c.in_ok-made.made.is_canonical c.args.table
-    c.args.a.now.nodes c.args.a.now.root c.args.a.now.is_canonical.reduced c.args.b.now.nodes c.args.b.now.root c.args.b.now.is_canonical.reduced
-    c.args.c.now.nodes c.args.c.now.root c.args.c.now.is_canonical.reduced (returns-clause-value c)
+    applied_below c.independent_variables.ensures limit c.in_ok-made.made c.args.table c.args.a.now c.args.b.now c.args.c.now (returns-clause-value c)

@@ -1,5 +1,5 @@
 use Rattle.diagram_ops.proofs.TableLemmas.{widened_value}
-use Rattle.diagram_ops.proofs.applied.widened.Goals as goal
+use Rattle.diagram_ops.proofs.applied.widen.Goals as goal
 
 pub returns : goal.returns
 returns c = λ p q.

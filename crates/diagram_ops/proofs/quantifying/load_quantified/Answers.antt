@@ -2,10 +2,10 @@ use Rattle.std.proofs.Common.{◌≡◌, ℕ, List, ◌+◌, ◌≤◌, length, 
 use Rattle.std.proofs.lemmas.List.{length_push}
 use Rattle.std.specs.Prelude.{None, Some}
 use Rattle.diagram_ops.proofs.QuantifyingLemmas.{never_quantified, always_quantified}
-use Rattle.diagram_ops.specs.Images.{IsImage, IsQuantified}
+use Rattle.diagram_ops.specs.private.Images.{IsImage, IsQuantified}
 use Rattle.diagram_ops.proofs.KeepingLemmas.{keeps_same, keeps_both}
 use Rattle.diagram_ops.proofs.ImageLemmas.{image_first, image_kept, image_push, root_within, root_stands}
-use Rattle.diagram_ops.proofs.quantifying.quantified.Goals as goal
+use Rattle.diagram_ops.proofs.quantifying.load_quantified.Goals as goal
 
 pub loop-k-init : goal.loop-k-init
 loop-k-init c = record {

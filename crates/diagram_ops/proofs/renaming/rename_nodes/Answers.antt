@@ -1,7 +1,7 @@
 use Rattle.std.proofs.Common.{◌+◌, get_or}
 use Rattle.diagram_store.specs.declared.branch.Branch.{Branch}
 use Rattle.diagram_ops.proofs.ImageLemmas.{node_of_list}
-use Rattle.diagram_ops.proofs.renaming.renamed.Goals as goal
+use Rattle.diagram_ops.proofs.renaming.rename_nodes.Goals as goal
 
 abbrev blank : Branch
 blank = record { var = 0; low = 0; high = 0 }

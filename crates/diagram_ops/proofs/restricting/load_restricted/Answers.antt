@@ -2,10 +2,10 @@ use Rattle.std.proofs.Common.{◌≡◌, ℕ, List, ◌+◌, ◌≤◌, length, 
 use Rattle.std.proofs.lemmas.List.{length_push}
 use Rattle.diagram_store.specs.Meaning.{set_bit}
 use Rattle.diagram_store.proofs.CallerLemmas.{value_at_end}
-use Rattle.diagram_ops.specs.Images.{IsImage, IsRestricted}
+use Rattle.diagram_ops.specs.private.Images.{IsImage, IsRestricted}
 use Rattle.diagram_ops.proofs.KeepingLemmas.{keeps_same, keeps_both}
 use Rattle.diagram_ops.proofs.ImageLemmas.{image_first, image_kept, image_push, root_within, root_stands}
-use Rattle.diagram_ops.proofs.restricting.restricted.Goals as goal
+use Rattle.diagram_ops.proofs.restricting.load_restricted.Goals as goal
 
 pub loop-k-init : goal.loop-k-init
 loop-k-init c = record {
