@@ -1,3 +1,6 @@
+ghost use Rattle.std.specs.Prelude.{◌≡◌, ◌+◌, ◌++◌, List, IfOk, OnOk, length};
+ghost use Rattle.witness_graph.specs.declared.node.Node.{Node as NodeValue};
+
 use crate::{
     nodes_of_the_graph_stay, shorter, shorter_has_no_more_nodes, shorter_has_the_same_runs,
     shorter_stays_tight,
@@ -5,7 +8,7 @@ use crate::{
 use semiring_laws::Reach;
 use std::alloc::Global;
 use std::test::Fail;
-use witness_graph::{Graph, Node, Side};
+use witness_graph::{Graph, Listing, Node, Overlay, Side};
 use wpds_base::OutOfMemory;
 
 const fn lower(
@@ -22,21 +25,41 @@ const fn lower(
     }
 }
 
-// The listing that is made shorter of the last node of a graph and of those that are added to it.
-fn short(
-    alloc: Global,
-    side: Side,
-    old: &[Node],
-    added: &[Node],
-) -> Result<witness_graph::Listing, OutOfMemory> {
+fn graph_of(alloc: Global, side: Side, nodes: &[Node]) -> Result<Graph, OutOfMemory> {
     let mut graph = Graph::new(alloc, side);
-    for node in old {
+    for node in nodes {
         if node.is_at(graph.len()) {
             graph.push_node(alloc, *node)?;
         }
     }
-    let root = graph.len() + added.len() as u64 - 1;
-    shorter(alloc, &graph, added, root)
+    Ok(graph)
+}
+
+// Adds a node if it may stand behind the last one, and returns the number of the last one then.
+fn add(alloc: Global, sum: &mut Overlay, last: u64, node: Node) -> Result<u64, OutOfMemory>
+    requires { length sum.old.nodes ≡ last + 1 }
+    ensures graph { sum.new.graph ≡ sum.old.graph }
+    ensures last { IfOk result (λ k. length sum.new.nodes ≡ k + 1) }
+    ensures more { OnOk result ((more : List NodeValue) × (sum.new.nodes ≡ sum.old.nodes ++ more)) }
+{
+    let Some(number) = last.checked_add(1) else {
+        return Err(OutOfMemory);
+    };
+    if !node.is_at(number) {
+        return Ok(last);
+    }
+    sum.push_node(alloc, node)
+}
+
+// The listing, made shorter, of the last node of a sum: a graph's nodes, the empty run, and others.
+fn short(alloc: Global, side: Side, old: &[Node], others: &[Node]) -> Result<Listing, OutOfMemory> {
+    let graph = graph_of(alloc, side, old)?;
+    let mut sum = Overlay::new(alloc, &graph);
+    let mut last = sum.push_node(alloc, Node::Start)?;
+    for node in others {
+        last = add(alloc, &mut sum, last, *node)?;
+    }
+    shorter(alloc, sum.graph(), sum.added(), last)
 }
 
 #[test]
@@ -49,7 +72,6 @@ fn listings(rt: HostRuntime) -> Result<(), Fail> {
         lower(None, Some(0), Some(0), Some(1)),
     ];
     let added = [
-        Node::Start,
         lower(None, None, Some(3), Some(2)),
         lower(None, None, Some(4), None),
     ];
@@ -62,20 +84,18 @@ fn listings(rt: HostRuntime) -> Result<(), Fail> {
         lower(None, Some(0), Some(1), None),
     ];
     let added = [
-        Node::Start,
         lower(None, None, Some(2), Some(3)),
         lower(None, None, Some(4), None),
     ];
     let made = short(alloc, Side::Post, &old, &added)?;
     assert_eq!(rt; made.nodes.as_slice(), old.as_slice());
     // the empty run alone, which the answer names
-    let added = [Node::Start, lower(None, None, Some(0), None)];
+    let added = [lower(None, None, Some(0), None)];
     let made = short(alloc, Side::Pre, &[], &added)?;
     assert_eq!(rt; made.nodes.as_slice(), [Node::Start].as_slice());
     // a set that has more runs than the one before it is kept
     let old = [lower(None, Some(7), None, None)];
     let added = [
-        Node::Start,
         lower(None, None, Some(1), Some(0)),
         lower(Some(2), None, Some(1), None),
     ];
