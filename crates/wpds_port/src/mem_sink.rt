@@ -25,9 +25,15 @@ impl Model for MemSink {
 
     ghost Value = { MemoryOutput };
 
-    ghost view = { λ s. record { written = s.bytes.items; room = s.room; piece = s.piece; calls = s.plan } };
+    ghost view = { λ s. record {
+      written = s.bytes.items;
+      room = s.room;
+      piece = s.piece;
+      calls = s.plan;
+    } };
 
-    ghost invariant = { λ s. (length s.bytes.items ≤ s.room) × (s.room ≤ vec_capacity s.bytes) × (1 ≤ s.piece) };
+    ghost invariant = { λ s.
+        (length s.bytes.items ≤ s.room) × (s.room ≤ vec_capacity s.bytes) × (1 ≤ s.piece) };
 }
 
 impl MemSink {

@@ -23,7 +23,11 @@ impl Model for MemSource {
 
     ghost Value = { MemoryInput };
 
-    ghost view = { λ s. record { left = drop s.at s.bytes.items; piece = s.piece; calls = s.plan } };
+    ghost view = { λ s. record {
+      left = drop s.at s.bytes.items;
+      piece = s.piece;
+      calls = s.plan;
+    } };
 
     ghost invariant = { λ s. (s.at ≤ length s.bytes.items) × (1 ≤ s.piece) };
 }
