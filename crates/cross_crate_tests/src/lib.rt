@@ -1,7 +1,9 @@
-//! Worked rows that take several crates, as tests: values of runs, backward saturations by one seat and by two, and the
-//! sums over them.
+//! Worked rows that take several crates, as tests: values of runs, backward saturations by one seat and by two, and
+//! answers to queries.
 #![tactic(auto)]
 
+#[cfg(test)]
+mod answers;
 #[cfg(test)]
 mod openings;
 #[cfg(test)]
@@ -14,7 +16,5 @@ mod run_values;
 mod saturations;
 #[cfg(test)]
 mod seats;
-#[cfg(test)]
-mod sums;
 #[cfg(test)]
 mod systems;
