@@ -34,8 +34,8 @@ pub(crate) fn apply_parts<S: Semiring>(
     ensures kept { OnOk result (AreKept (S.operations semiring.now) transitions.new.transitions (length nodes.new.nodes)) }
     ensures side { nodes.new.side ≡ nodes.old.side }
 {
-    let old = weight_now(semiring, alloc, transitions, place)?;
-    let Some(new) = weight_after(semiring, alloc, &old, weight)? else {
+    let old = weight_now(alloc, semiring, transitions, place)?;
+    let Some(new) = weight_after(alloc, semiring, &old, weight)? else {
         return Ok(());
     };
     let before = node_now(transitions, place);

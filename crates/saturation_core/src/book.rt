@@ -78,17 +78,17 @@ impl<'s, S: Semiring, D: Direction<S>> Book<'s, S, D> {
         let edges = opening.edges.as_slice();
         let semiring = system.semiring();
         add_edges(
-            semiring,
             alloc,
+            semiring,
             edges,
             &mut transitions,
             &graph,
             &mut waiting,
         )?;
         add_pops_of(
+            alloc,
             side,
             system,
-            alloc,
             &mut transitions,
             &mut graph,
             &mut waiting,
@@ -201,8 +201,8 @@ impl<'s, S: Semiring, D: Direction<S>> Book<'s, S, D> {
             None => Ok(Taken::Idle(seats_out(&self.out))),
             Some(place) => {
                 let (direction, system) = (&self.direction, self.system);
-                let jobs = list_jobs(direction, alloc, system, &self.transitions, place)?;
-                let kept = copy_jobs(system.semiring(), alloc, jobs.as_slice())?;
+                let jobs = list_jobs(alloc, direction, system, &self.transitions, place)?;
+                let kept = copy_jobs(alloc, system.semiring(), jobs.as_slice())?;
                 // For this event, and for one more of each hand.
                 self.journal.reserve(65)?;
                 self.waiting.pop_front();
@@ -269,7 +269,7 @@ impl<'s, S: Semiring, D: Direction<S>> Book<'s, S, D> {
         let semiring = self.system.semiring();
         let (jobs, worths) = (done.jobs().as_slice(), done.candidates().as_slice());
         let nodes = self.graph.len();
-        let plan = plan_jobs(semiring, alloc, &self.transitions, nodes, jobs, worths)?;
+        let plan = plan_jobs(alloc, semiring, &self.transitions, nodes, jobs, worths)?;
         make_room(
             alloc,
             &plan,

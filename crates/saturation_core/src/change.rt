@@ -25,8 +25,8 @@ pub fn queue_up(waiting: &mut VecDeque<Place>, place: Place) -> Result<(), OutOf
 
 /// The weight at a place, and zero where there is none.
 pub fn weight_now<S: Semiring>(
-    semiring: &S,
     alloc: Global,
+    semiring: &S,
     transitions: &Transitions<S>,
     place: Place,
 ) -> Result<S::W, OutOfMemory>
@@ -51,8 +51,8 @@ pub fn node_now<S: Semiring>(transitions: &Transitions<S>, place: Place) -> Opti
 
 /// What a weight makes of the one that is there, where it changes it.
 pub fn weight_after<S: Semiring>(
-    semiring: &S,
     alloc: Global,
+    semiring: &S,
     old: &S::W,
     weight: &S::W,
 ) -> Result<Option<S::W>, OutOfMemory>
@@ -69,8 +69,8 @@ pub fn weight_after<S: Semiring>(
 
 /// Combines the weight of a rule into a place, whose runs get the rule alone. After want of memory the parts are of no use.
 pub(crate) fn apply_rule<S: Semiring>(
-    semiring: &S,
     alloc: Global,
+    semiring: &S,
     transitions: &mut Transitions<S>,
     graph: &mut Graph,
     waiting: &mut VecDeque<Place>,
@@ -86,8 +86,8 @@ pub(crate) fn apply_rule<S: Semiring>(
     ensures kept { OnOk result (AreKept (S.operations semiring.now) transitions.new.transitions (length graph.new.nodes)) }
     ensures side { graph.new.side ≡ graph.old.side }
 {
-    let old = weight_now(semiring, alloc, transitions, place)?;
-    let Some(new) = weight_after(semiring, alloc, &old, weight)? else {
+    let old = weight_now(alloc, semiring, transitions, place)?;
+    let Some(new) = weight_after(alloc, semiring, &old, weight)? else {
         return Ok(());
     };
     let before = node_now(transitions, place);

@@ -111,7 +111,7 @@ impl<S: Semiring> Hand<S> {
         ensures worked { IfOk result (IsWorkedBy D.way direction.now) }
         ensures fault { IfErr result (λ f. f.hand ≡ self) }
     {
-        match candidates(direction, alloc, system, self.jobs.as_slice()) {
+        match candidates(alloc, direction, system, self.jobs.as_slice()) {
             Ok(weights) => Ok(Done {
                 seat: self.seat,
                 jobs: self.jobs,

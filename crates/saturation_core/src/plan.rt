@@ -40,8 +40,8 @@ fn last_at<S: Semiring>(plan: &[Planned<S>], place: Place) -> Option<usize>
 
 // The weight at a place after a plan, and zero where there is none.
 fn weight_in<S: Semiring>(
-    semiring: &S,
     alloc: Global,
+    semiring: &S,
     transitions: &Transitions<S>,
     plan: &[Planned<S>],
     place: Place,
@@ -52,7 +52,7 @@ fn weight_in<S: Semiring>(
 {
     match last_at(plan, place) {
         Some(k) => semiring.copy(alloc, &plan[k].weight),
-        None => weight_now(semiring, alloc, transitions, place),
+        None => weight_now(alloc, semiring, transitions, place),
     }
 }
 
@@ -118,8 +118,8 @@ fn input_node<S: Semiring>(input: &Option<Entry<S>>) -> Option<u64>
 
 // What a job of this worth lowers after a plan, whose nodes are numbered from `nodes` on.
 fn lowering<S: Semiring>(
-    semiring: &S,
     alloc: Global,
+    semiring: &S,
     transitions: &Transitions<S>,
     nodes: u64,
     plan: &[Planned<S>],
@@ -133,8 +133,8 @@ fn lowering<S: Semiring>(
     ensures { IfOk result (λ o. o ≡ lowering_of (S.operations semiring.now) (change_with job.now worth.now) (put_from nodes plan.now transitions.now.transitions)) }
 {
     let goal = job.goal;
-    let old = weight_in(semiring, alloc, transitions, plan, goal)?;
-    let Some(weight) = weight_after(semiring, alloc, &old, worth)? else {
+    let old = weight_in(alloc, semiring, transitions, plan, goal)?;
+    let Some(weight) = weight_after(alloc, semiring, &old, worth)? else {
         return Ok(None);
     };
     let node = Node::Lower {
@@ -158,8 +158,8 @@ fn add<S: Semiring>(plan: &mut Vec<Planned<S>>, step: Option<Planned<S>>) -> Res
 
 /// What jobs of these worths lower, one after the other, where the first new node has the number `nodes`.
 pub(crate) fn plan_jobs<S: Semiring>(
-    semiring: &S,
     alloc: Global,
+    semiring: &S,
     transitions: &Transitions<S>,
     nodes: u64,
     jobs: &[Job<S>],
@@ -174,8 +174,8 @@ pub(crate) fn plan_jobs<S: Semiring>(
     let mut plan = Vec::new(alloc);
     for i in 0..jobs.len() {
         let step = lowering(
-            semiring,
             alloc,
+            semiring,
             transitions,
             nodes,
             &plan,

@@ -54,8 +54,8 @@ pub(crate) fn front(queue: &VecDeque<Place>) -> Option<Place>
 
 /// The jobs of the transition at a place.
 pub(crate) fn list_jobs<S: Semiring, D: Direction<S>>(
-    direction: &D,
     alloc: Global,
+    direction: &D,
     system: &System<S>,
     transitions: &Transitions<S>,
     place: Place,

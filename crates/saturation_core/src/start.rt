@@ -37,8 +37,8 @@ pub(crate) fn empty_run(alloc: Global, side: Side) -> Result<Graph, OutOfMemory>
 
 /// Adds the edges, each with weight one and the node of the empty run. After want of memory the parts are of no use.
 pub(crate) fn add_edges<S: Semiring>(
-    semiring: &S,
     alloc: Global,
+    semiring: &S,
     edges: &[Place],
     transitions: &mut Transitions<S>,
     graph: &Graph,
@@ -60,8 +60,8 @@ pub(crate) fn add_edges<S: Semiring>(
 
 // Adds the place of a rule, where it is a pop rule. After want of memory the parts are of no use.
 fn add_pop<S: Semiring>(
-    system: &System<S>,
     alloc: Global,
+    system: &System<S>,
     k: u32,
     transitions: &mut Transitions<S>,
     graph: &mut Graph,
@@ -86,8 +86,8 @@ fn add_pop<S: Semiring>(
     let semiring = system.semiring();
     let weight = &rule.weight;
     apply_rule(
-        semiring,
         alloc,
+        semiring,
         transitions,
         graph,
         waiting,
@@ -100,8 +100,8 @@ fn add_pop<S: Semiring>(
 
 /// Adds the place of each pop rule, with the rule's weight. After want of memory the parts are of no use.
 pub(crate) fn add_pops<S: Semiring>(
-    system: &System<S>,
     alloc: Global,
+    system: &System<S>,
     transitions: &mut Transitions<S>,
     graph: &mut Graph,
     waiting: &mut VecDeque<Place>,
@@ -112,16 +112,16 @@ pub(crate) fn add_pops<S: Semiring>(
     ensures side { graph.new.side ≡ graph.old.side }
 {
     for k in 0..system.rules() {
-        add_pop(system, alloc, k, transitions, graph, waiting)?;
+        add_pop(alloc, system, k, transitions, graph, waiting)?;
     }
     Ok(())
 }
 
 /// Adds what the side adds to the edges. After want of memory the parts are of no use.
 pub(crate) fn add_pops_of<S: Semiring>(
+    alloc: Global,
     side: Side,
     system: &System<S>,
-    alloc: Global,
     transitions: &mut Transitions<S>,
     graph: &mut Graph,
     waiting: &mut VecDeque<Place>,
@@ -132,7 +132,7 @@ pub(crate) fn add_pops_of<S: Semiring>(
     ensures side { graph.new.side ≡ graph.old.side }
 {
     match side {
-        Side::Pre => add_pops(system, alloc, transitions, graph, waiting),
+        Side::Pre => add_pops(alloc, system, transitions, graph, waiting),
         Side::Post => Ok(()),
     }
 }
