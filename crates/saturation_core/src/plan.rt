@@ -27,7 +27,9 @@ pub(crate) struct Planned<S: Semiring> {
 // Where the last lowering of a place stands.
 fn last_at<S: Semiring>(plan: &[Planned<S>], place: Place) -> Option<usize>
     ensures within { IfSome result (λ k. k < length plan.now) }
-    ensures found { (n : ℕ) (ts : List (EntryValue S S.W S.Ret)) → entry_at place (put_from n plan.now ts) ≡ found_at place n plan.now result (entry_at place ts) }
+    ensures found { (n : ℕ) (ts : List (EntryValue S S.W S.Ret))
+        → entry_at place (put_from n plan.now ts) ≡ found_at place n plan.now result
+        (entry_at place ts) }
 {
     let mut last = None;
     for (k, step) in plan.iter().enumerate() {
@@ -47,8 +49,10 @@ fn weight_in<S: Semiring>(
     place: Place,
 ) -> Result<S::W, OutOfMemory>
     requires now { (n : ℕ) × AreKept (S.operations semiring.now) transitions.now.transitions n }
-    requires then { (n : ℕ) × AreKept (S.operations semiring.now) (put_from n plan.now transitions.now.transitions) (n + length plan.now) }
-    ensures { (n : ℕ) → IfOk result (λ w. w ≡ weight_at (S.operations semiring.now) place (put_from n plan.now transitions.now.transitions)) }
+    requires then { (n : ℕ) × AreKept (S.operations semiring.now)
+        (put_from n plan.now transitions.now.transitions) (n + length plan.now) }
+    ensures { (n : ℕ) → IfOk result (λ w. w ≡ weight_at (S.operations semiring.now) place
+        (put_from n plan.now transitions.now.transitions)) }
 {
     match last_at(plan, place) {
         Some(k) => semiring.copy(alloc, &plan[k].weight),
@@ -64,7 +68,8 @@ fn node_in<S: Semiring>(
     place: Place,
 ) -> Option<u64>
     requires { nodes + length plan.now < 2 ^ 64 }
-    ensures { result ≡ option_map node_of (entry_at place (put_from nodes plan.now transitions.now.transitions)) }
+    ensures { result ≡ option_map node_of (entry_at place
+        (put_from nodes plan.now transitions.now.transitions)) }
 {
     match last_at(plan, place) {
         Some(k) => Some(nodes + k as u64),
@@ -129,8 +134,10 @@ fn lowering<S: Semiring>(
     requires few { nodes + length plan.now < 2 ^ 64 }
     requires worth { Fits (S.operations semiring.now) worth.now }
     requires now { AreKept (S.operations semiring.now) transitions.now.transitions nodes }
-    requires then { AreKept (S.operations semiring.now) (put_from nodes plan.now transitions.now.transitions) (nodes + length plan.now) }
-    ensures { IfOk result (λ o. o ≡ lowering_of (S.operations semiring.now) (change_with job.now worth.now) (put_from nodes plan.now transitions.now.transitions)) }
+    requires then { AreKept (S.operations semiring.now)
+        (put_from nodes plan.now transitions.now.transitions) (nodes + length plan.now) }
+    ensures { IfOk result (λ o. o ≡ lowering_of (S.operations semiring.now)
+        (change_with job.now worth.now) (put_from nodes plan.now transitions.now.transitions)) }
 {
     let goal = job.goal;
     let old = weight_in(alloc, semiring, transitions, plan, goal)?;
@@ -169,7 +176,8 @@ pub(crate) fn plan_jobs<S: Semiring>(
     requires len { length worths.now ≡ length jobs.now }
     requires worths { All (Fits (S.operations semiring.now)) worths.now }
     requires kept { AreKept (S.operations semiring.now) transitions.now.transitions nodes }
-    ensures { IfOk result (λ v. v.items ≡ plan_of (S.operations semiring.now) (changes_with jobs.now worths.now) nodes transitions.now.transitions) }
+    ensures { IfOk result (λ v. v.items ≡ plan_of (S.operations semiring.now)
+        (changes_with jobs.now worths.now) nodes transitions.now.transitions) }
 {
     let mut plan = Vec::new(alloc);
     for i in 0..jobs.len() {
