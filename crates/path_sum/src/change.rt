@@ -38,8 +38,8 @@ pub(crate) fn apply_parts<S: Semiring>(
         (length nodes.new.nodes)) }
     ensures graph { nodes.new.graph ≡ nodes.old.graph }
 {
-    let old = weight_now(semiring, alloc, transitions, place)?;
-    let Some(new) = weight_after(semiring, alloc, &old, weight)? else {
+    let old = weight_now(alloc, semiring, transitions, place)?;
+    let Some(new) = weight_after(alloc, semiring, &old, weight)? else {
         return Ok(());
     };
     let before = node_now(transitions, place);

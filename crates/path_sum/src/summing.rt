@@ -110,7 +110,7 @@ pub fn sum_parts<S: Semiring, D: Direction<S>>(
     'rounds: while let Some(place) = next(&mut sum.waiting) {
         sum.draw(alloc, &input, place)?;
     }
-    let value = weight_now(semiring, alloc, &sum.pairs, ANSWER)?;
+    let value = weight_now(alloc, semiring, &sum.pairs, ANSWER)?;
     let listing = list_answer(alloc, &sum)?;
     Ok(Answer { value, listing })
 }

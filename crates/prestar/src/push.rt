@@ -98,8 +98,8 @@ impl<'a, S: Semiring> Push<'a, S> {
             kind: self.callee.kind(),
             rule: Some(self.number),
             frame: None,
-            first: Some(copy_input(semiring, alloc, first)?),
-            second: Some(copy_input(semiring, alloc, second)?),
+            first: Some(copy_input(alloc, semiring, first)?),
+            second: Some(copy_input(alloc, semiring, second)?),
             goal,
         })
     }

@@ -47,23 +47,24 @@ pub(crate) fn enqueue(queue: &mut VecDeque<Place>, x: Place)
 
 /// The place that waits longest.
 pub(crate) fn front(queue: &VecDeque<Place>) -> Option<Place>
-    ensures { MatchOption result (queue.now.items ≡ []) (λ x. queue.now.items ≡ x ∷ drop 1 queue.now.items) }
+    ensures { MatchOption result (queue.now.items ≡ [])
+        (λ x. queue.now.items ≡ x ∷ drop 1 queue.now.items) }
 {
     queue.front().copied()
 }
 
 /// The jobs of the transition at a place.
 pub(crate) fn list_jobs<S: Semiring, D: Direction<S>>(
-    direction: &D,
     alloc: Global,
+    direction: &D,
     system: &System<S>,
     transitions: &Transitions<S>,
     place: Place,
 ) -> Result<JobList<S>, OutOfMemory>
     requires fits { (o : OpeningValue) × IsTrue (D.way.fits_opening direction.now system.now o) }
     requires weights { HaveFitWeights S.operations system.now transitions.now.transitions }
-    ensures { IfOk result (λ js. js
-        ≡ jobs_of_place S.operations D.way direction.now system.now place transitions.now.transitions) }
+    ensures { IfOk result (λ js. js ≡ jobs_of_place S.operations D.way
+        direction.now system.now place transitions.now.transitions) }
 {
     match transitions.find(place) {
         Some(k) => direction.jobs(alloc, system, transitions, k),

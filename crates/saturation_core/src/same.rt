@@ -98,7 +98,8 @@ fn same_at<S: Semiring>(one: &System<S>, other: &System<S>, k: u32) -> bool
 // The same where a number is given.
 fn same_named<S: Semiring>(one: &System<S>, other: &System<S>, k: Option<u32>) -> bool
     requires { one.now.semiring ≡ other.now.semiring }
-    ensures { IsTrue result ↔ IfSome k (λ j. slice_get one.now.rules j ≡ slice_get other.now.rules j) }
+    ensures { IsTrue result
+        ↔ IfSome k (λ j. slice_get one.now.rules j ≡ slice_get other.now.rules j) }
 {
     match k {
         Some(k) => same_at(one, other, k),

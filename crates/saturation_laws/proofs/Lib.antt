@@ -10,6 +10,7 @@ mod OpeningWeights
 mod HandJobs
 mod CombinationLemmas
 mod ListMembers
+mod ReplayLemmas
 mod BookFields
 mod BookInvariant
 mod Examples

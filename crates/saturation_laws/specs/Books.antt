@@ -7,7 +7,8 @@ use Rattle.saturation_laws.specs.declared.event.Event.{Event}
 use Rattle.saturation_laws.specs.declared.opening.Opening.{Opening}
 use Rattle.saturation_laws.specs.declared.job.Job.{Job}
 use Rattle.saturation_laws.specs.States.{CoreState, hand_at, step, replay}
-use Rattle.saturation_laws.specs.Invariants.{LockInvariant}
+use Rattle.saturation_laws.specs.Directions.{IsConsequence}
+use Rattle.saturation_laws.specs.Invariants.{LockInvariant, IsApplied}
 use Rattle.saturation_laws.specs.Bound.{takes, gives, WithinRankBound}
 use Rattle.saturation_laws.specs.Ways.{Way, HaveFitInputs, start_of, AreRows}
 
@@ -38,6 +39,11 @@ module _ {S W Map D : Type 0} (operations : S → Operations W Map) (way : Way S
   abbrev pub Makes : BookValue S W Map D → Event → BookValue S W Map D → Type 0
   Makes old e new = (st : CoreState S W Map) × (step (operations old.system.semiring) (way.tables old.direction old.system) old.state e ≡ Some st)
       × (new ≡ record old { state = st; journal = old.journal ++ e ∷ [] })
+
+  -- each consequence of the book's transitions is applied
+  abbrev pub IsAllApplied : BookValue S W Map D → Type 0
+  IsAllApplied b = (j : Job S W Map) → IsConsequence (way.tables b.direction b.system) b.state.transitions j
+      → IsApplied (operations b.system.semiring) (way.tables b.direction b.system) b.state.transitions j
 
   -- jobs that a worker can work out over the book's system: rows, whose inputs have weights
   pub record CanWork (b : BookValue S W Map D) (jobs : List (Job S W Map)) : Type 0 where

@@ -1,5 +1,6 @@
 -- What holds of the locked value.
 use Rattle.std.specs.Prelude.{◌≡◌, ◌≢◌, ◌⊎◌, ℕ, ◌<◌, List, length, Option, Some, IsSome, IsTrue}
+use Rattle.wpds_base.specs.Limits.{most_seats}
 use Rattle.semiring_laws.specs.Semiring.{Operations, Below}
 use Rattle.weighted_automata.specs.declared.place.Place.{Place}
 use Rattle.weighted_automata.specs.declared.transitions.Entry.{Entry}
@@ -49,7 +50,7 @@ module _ {S W Map : Type 0} where
 
   pub record HasShape (s : Operations W Map) (value : List ℕ → W) (side : Side) (st : CoreState S W Map) : Type 0 where
     pub places : HasDistinctPlaces st.transitions
-    pub seats : length st.hands ≡ 64
+    pub seats : length st.hands ≡ most_seats
     pub queue : IsOnce st.queue
     pub present : (x : Place) → IsIn x st.queue → IsSome (entry_at x st.transitions)
     pub nodes : AreNodes st.nodes

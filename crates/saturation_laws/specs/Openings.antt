@@ -1,5 +1,6 @@
 -- The state that a saturation begins with.
 use Rattle.std.specs.Prelude.{ℕ, suc, ◌<◌, List, [], ◌∷◌, ◌++◌, Option, None, Some, replicate, slice_get, if◌then◌else◌}
+use Rattle.wpds_base.specs.Limits.{most_seats}
 use Rattle.semiring_laws.specs.Semiring.{Operations, Fits}
 use Rattle.weighted_automata.specs.declared.place.Place.{Place}
 use Rattle.weighted_automata.specs.declared.place.Label.TheVariants.{Symbol}
@@ -48,7 +49,7 @@ module _ {S W Map : Type 0} (s : Operations W Map) where
   with_edges (x ∷ xs) st = with_edges xs (with_edge x st)
 
   abbrev pub bare : CoreState S W Map
-  bare = record { transitions = []; nodes = Start ∷ []; queue = []; hands = replicate 64 None }
+  bare = record { transitions = []; nodes = Start ∷ []; queue = []; hands = replicate most_seats None }
 
   abbrev pub opening_state : Side → Pushdown S W Map → List Place → CoreState S W Map
   opening_state side p edges = apply_all s (pops side p.rules) (with_edges edges bare)
@@ -63,4 +64,4 @@ changed_weight s old weight = if s.same (s.combine old weight) old then None els
 
 -- a state while it is opened, when no hand is out
 abbrev pub found_so_far : {S W Map : Type 0} → List (Entry S W Map) → List Node → List Place → CoreState S W Map
-found_so_far ts nodes queue = record { transitions = ts; nodes = nodes; queue = queue; hands = replicate 64 None }
+found_so_far ts nodes queue = record { transitions = ts; nodes = nodes; queue = queue; hands = replicate most_seats None }

@@ -1,5 +1,5 @@
 -- The state of the core, and what events make of it.
-use Rattle.std.specs.Prelude.{ℕ, Bool, false, ◌&&◌, nat_lt, List, [], ◌∷◌, ◌++◌, length, Option, None, Some, is_none, option_map, option_and_then, slice_index_or, slice_set, if◌then◌else◌}
+use Rattle.std.specs.Prelude.{◌≢◌, ℕ, All, Bool, false, ◌&&◌, nat_lt, List, [], ◌∷◌, ◌++◌, length, Option, None, Some, is_none, option_map, option_and_then, slice_index_or, slice_set, if◌then◌else◌}
 use Rattle.semiring_laws.specs.Semiring.{Operations}
 use Rattle.weighted_automata.specs.declared.place.Place.{Place}
 use Rattle.weighted_automata.specs.declared.transitions.Entry.{Entry}
@@ -28,6 +28,16 @@ pub record Change (W : Type 0) : Type 0 where
   pub rule : Option ℕ
   pub first : Option ℕ
   pub second : Option ℕ
+
+-- by which seat an event is
+abbrev pub seat_of : Event → ℕ
+seat_of (Take seat x) = seat
+seat_of (Settle seat) = seat
+seat_of (GiveBack seat) = seat
+
+-- none of the events is by this seat
+abbrev pub AreOfOthers : ℕ → List Event → Type 0
+AreOfOthers seat es = All (λ e. seat ≢ seat_of e) es
 
 module _ {S W Map : Type 0} where
   abbrev pub hand_at : ℕ → List (Option (Holding S W Map)) → Option (Holding S W Map)

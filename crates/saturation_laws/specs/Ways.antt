@@ -3,7 +3,8 @@ use Rattle.std.specs.Prelude.{ℕ, Bool, List, map, IsTrue, All}
 use Rattle.semiring_laws.specs.Semiring.{Operations, Fits}
 use Rattle.weighted_automata.specs.declared.place.Place.{Place}
 use Rattle.weighted_automata.specs.declared.transitions.Entry.{Entry}
-use Rattle.weighted_automata.specs.Entries.{entry_at}
+use Rattle.weighted_automata.specs.Entries.{entry_at, Present, HasDistinctPlaces}
+use Rattle.wpds_base.specs.Lists.{IsOnce}
 use Rattle.pushdown_rules.specs.Pushdown.{Pushdown, IsSystem}
 use Rattle.pushdown_rules.specs.Values.{value_of}
 use Rattle.saturation_laws.specs.declared.opening.Opening.{Opening}
@@ -56,6 +57,11 @@ module _ {S W Map D : Type 0} (operations : S → Operations W Map) (way : Way S
   -- What the sums rest on, over each system and opening that it fits.
   abbrev pub IsSummable : Type 0
   IsSummable = (d : D) (p : Pushdown S W Map) (o : Opening) → IsSystem operations p → IsTrue (way.fits_opening d p o) → HasPathSums d p o
+
+  -- Each job of a transition stands once, over each system and opening that it fits.
+  abbrev pub ListsJobsOnce : Type 0
+  ListsJobsOnce = (d : D) (p : Pushdown S W Map) (o : Opening) → IsSystem operations p → IsTrue (way.fits_opening d p o)
+      → (ts : List (Entry S W Map)) (t : Entry S W Map) → HasDistinctPlaces ts → Present ts t → IsOnce ((way.tables d p).jobs ts t)
 
 module _ {S W Map D : Type 0} (way : Way S W Map D) where
   -- what the jobs are worth, in order

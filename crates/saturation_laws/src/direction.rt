@@ -3,7 +3,7 @@ ghost use Rattle.weighted_automata.specs.declared.transitions.Entry.{Entry};
 ghost use Rattle.pushdown_rules.specs.Pushdown.{Pushdown};
 ghost use Rattle.saturation_laws.specs.declared.opening.Opening.{Opening};
 ghost use Rattle.saturation_laws.specs.Jobs.{row_of, InputsFit};
-ghost use Rattle.saturation_laws.specs.Ways.{Way, HaveFitWeights, IsLawful, IsSummable, HasOneCandidate};
+ghost use Rattle.saturation_laws.specs.Ways.{Way, HaveFitWeights, IsLawful, IsSummable, HasOneCandidate, ListsJobsOnce};
 
 use crate::{Job, JobList};
 use pushdown_rules::System;
@@ -35,7 +35,8 @@ pub trait Direction<S: Semiring>: Copy {
         requires taken { taken < length transitions.now.transitions }
         requires fit { HaveFitWeights S.operations system.now transitions.now.transitions }
         ensures { (t : Entry S S.W S.Ret) → slice_get transitions.now.transitions taken ≡ Some t
-            → IfOk result (λ jobs. jobs ≡ ((way).tables self.now system.now).jobs transitions.now.transitions t) };
+            → IfOk result (λ jobs. jobs
+            ≡ ((way).tables self.now system.now).jobs transitions.now.transitions t) };
 
     /// What a job makes of the weights of its inputs.
     fn candidate(
@@ -58,6 +59,10 @@ pub trait Direction<S: Semiring>: Copy {
     /// What the sums over it rest on: a run is met by a path, and a path gives a run.
     ghost sums: { IsSummable S.operations way };
 
-    /// A candidate depends on the job, the side, the semiring's parameters and the rules that the job names, and on nothing else.
+    /// Each job of a transition stands once.
+    ghost jobs_once: { ListsJobsOnce S.operations way };
+
+    /// A candidate depends on the job, the side, the semiring's parameters and the rules that the job names, and on nothing
+    /// else.
     ghost same_candidate: { HasOneCandidate way };
 }

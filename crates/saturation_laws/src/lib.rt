@@ -13,5 +13,8 @@ pub use direction::Direction;
 pub use event::Event;
 pub use holding::Holding;
 pub use job::{Input, Job, JobKind, JobList};
-pub use laws::{closed_is_applied, every_order_keeps, takes_are_bounded};
+pub use laws::{
+    closed_is_applied, each_job_stands_once, every_order_keeps, others_leave_a_hand,
+    parts_replay_in_steps, takes_are_bounded,
+};
 pub use opening::{Opening, PlaceList, StateList};

@@ -35,7 +35,7 @@ fn turn<S: Semiring, D: Direction<S>>(
 }
 
 /// Saturates a book by seat 0 alone, which settles each hand before it takes the next, until nothing waits. It is refused
-/// only for want of memory, and then the book is gone.
+/// only when out of memory, and then the book is gone.
 pub fn saturate_alone<'s, S: Semiring, D: Direction<S>>(
     alloc: Global,
     book: Book<'s, S, D>,

@@ -19,7 +19,7 @@ use Rattle.saturation_laws.specs.declared.job.JobKind.{JobKind}
 use Rattle.saturation_laws.specs.declared.job.JobKind.TheVariants.{PreStep, PrePushControl, PrePushOther, PostStep, PostPopMiddle, PostPopOther, PostEnter, PostLeave, PostGlue}
 use Rattle.saturation_laws.specs.declared.job.Job.{Job}
 use Rattle.saturation_laws.specs.Jobs.{Row, Tables, row_of, HasInput, named_rule, named_first}
-use Rattle.wpds_base.specs.Lists.{IsIn}
+use Rattle.wpds_base.specs.Lists.{IsIn, IsOnce}
 use Rattle.saturation_laws.specs.Directions.{AreRuns, AreInputRuns, IsConsequence, IsDirection, HaveSameCandidates}
 use Rattle.saturation_laws.specs.Paths.{EachRun, HasSums, joined, along}
 
@@ -100,6 +100,10 @@ module _ {S W Map : Type 0} where
   its_input : (t u : Entry S W Map) → HasInput (gathering t) u → t ≡ u
   its_input t u (inl e) = cc
   its_input t u (inr e) = cc
+
+-- one job stands once
+pub gather_once : {S W Map : Type 0} (t : Entry S W Map) → IsOnce (gathering t ∷ [])
+gather_once t = (λ h. h, tt)
 
 -- runs with nothing after them
 each_alone : (xs : List (List ℕ)) → concatenations xs ([] ∷ []) ≡ xs

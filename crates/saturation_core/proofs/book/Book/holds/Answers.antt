@@ -26,7 +26,7 @@ returns g c =
     let w = c.args.done.now in
     let one : b.system.semiring ≡ w.system.semiring =
     sym c.semiring.ensures.value ∙ c.same_kind.ensures.0 c.if-not-same_kind.false ∙ c.semiring-2.ensures.value ∙ ap (λ p. p.semiring) c.system-other.ensures in
-    let side : w.side ≡ (g.D.Direction.way.tables b.direction b.system).side =
+    let side : (g.D.Direction.way.tables w.direction w.system).side ≡ (g.D.Direction.way.tables b.direction b.system).side =
     sym c.side-2.ensures ∙ sym (c.same_side.ensures.0 c.if-not-same_side.false) ∙ sym (c.side.ensures b.system) in
     let rules = subst (λ q. All (AgreeOn b.system q) c.as_slice-jobs.result.now) c.system-other.ensures (c.agree.ensures.0 c.if-not-agree.false) in
     subst (λ x. IsTrue c.lists.result ↔ CanSettle g.D.Direction.way x w) c.self.view_is
