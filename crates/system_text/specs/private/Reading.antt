@@ -10,8 +10,9 @@ use Rattle.system_text.specs.declared.document.WeightText.TheVariants.{One, Numb
 use Rattle.system_text.specs.declared.document.RuleLine.{RuleLine}
 use Rattle.system_text.specs.declared.document.ConfigText.{ConfigText}
 use Rattle.system_text.specs.declared.document.QueryLine.{QueryLine}
+use Rattle.wpds_base.specs.Limits.{most_controls, most_symbols, most_rules, most_pushed, most_items, most_cost}
 use Rattle.system_text.specs.Names.{is_name, has_twice, number_in}
-use Rattle.system_text.specs.Numbers.{number_of}
+use Rattle.system_text.specs.private.Numbers.{number_of}
 use Rattle.system_text.specs.FirstForm.{header_words}
 
 infixl 10 ◌>>=◌
@@ -44,7 +45,7 @@ number_before_colon names w = guarded (bytes_eq (drop (length w - 1) w) (codes "
 
 -- a cap within the limits
 abbrev pub cost_up_to : ℕ → Option WeightsLine
-cost_up_to cap = guarded (nat_lt 0 cap && nat_le cap 1000000000000000000) (Some (Cost cap))
+cost_up_to cap = guarded (nat_lt 0 cap && nat_le cap most_cost) (Some (Cost cap))
 
 -- which weights the words behind `weights` name
 abbrev pub weights_named : List (List ℕ) → Option WeightsLine
@@ -73,12 +74,12 @@ right_of weights ws =
 module _ (controls symbols : List (List ℕ)) where
   -- the rule with these words, where its right side and its weight are told apart
   abbrev pub rule_with : (p g q : List ℕ) (right : List (List ℕ)) → WeightText → Option RuleLine
-  rule_with p g q ws weight = guarded (nat_le (length ws) 2) (do
+  rule_with p g q ws weight = guarded (nat_le (length ws) most_pushed) (do
     control ← number_in controls p
     symbol ← number_in symbols g
     to ← number_in controls q
     right ← each (number_in symbols) ws
-    Some (record { control = control; symbol = symbol; to = to; right = right; weight = weight }))
+    Some (record { control = control; symbol = symbol; to = to; right = right; weight = weight; map = None }))
 
 module _ (weights : WeightsLine) (controls symbols : List (List ℕ)) where
   abbrev pub rule_of : List (List ℕ) → Option RuleLine
@@ -88,7 +89,7 @@ module _ (weights : WeightsLine) (controls symbols : List (List ℕ)) where
 module _ (controls symbols : List (List ℕ)) where
   abbrev pub config_of : List (List ℕ) → Option ConfigText
   config_of [] = None
-  config_of (w ∷ ws) = guarded (nat_le (length ws) 1000) (do
+  config_of (w ∷ ws) = guarded (nat_le (length ws) most_items) (do
     control ← number_before_colon controls w
     stack ← each (number_in symbols) ws
     Some (record { control = control; stack = stack }))
@@ -107,14 +108,14 @@ module _ (controls symbols : List (List ℕ)) where
 
 -- the lines whose words are fixed, of which the last is what stands behind the last line feed, and the number of rules
 abbrev pub is_framed : (header last : List (List ℕ)) (rules : ℕ) → Bool
-is_framed h l n = same_words l ([] ∷ []) && nat_le n 130000 && same_words h header_words
+is_framed h l n = same_words l ([] ∷ []) && nat_le n most_rules && same_words h header_words
 
 -- the document with these lines: four, then rules, a query and the empty text behind the last line feed
 abbrev pub document_of : (header weights controls symbols : List (List ℕ)) (rules : List (List (List ℕ))) (query last : List (List ℕ)) → Option Document
 document_of h w c s rs q l = guarded (is_framed h l (length rs)) (do
   weights ← weights_of w
-  controls ← names_of (codes "controls") 1000 c
-  symbols ← names_of (codes "symbols") 40000 s
+  controls ← names_of (codes "controls") most_controls c
+  symbols ← names_of (codes "symbols") most_symbols s
   rules ← each (rule_of weights controls symbols) rs
   query ← query_of controls symbols q
-  Some (record { weights = weights; controls = controls; symbols = symbols; rules = rules; query = query }))
+  Some (record { weights = weights; controls = controls; symbols = symbols; items = []; rules = rules; queries = query ∷ [] }))
