@@ -12,9 +12,11 @@ use Rattle.saturation_laws.specs.declared.event.Event.{Event}
 use Rattle.saturation_laws.specs.declared.holding.Holding.{Holding}
 use Rattle.saturation_laws.specs.declared.opening.Opening.{Opening}
 use Rattle.saturation_laws.specs.States.{CoreState, apply_all, replay}
-use Rattle.saturation_laws.specs.Openings.{pops, with_edges, opening_state, found_so_far}
+use Rattle.saturation_laws.specs.Openings.{pops, with_edges, opening_state}
 use Rattle.saturation_laws.specs.Books.{BookValue, opened_by, IsBook}
 use Rattle.saturation_core.specs.Seats.{hands_out}
+use Rattle.saturation_core.specs.declared.found.Found.{Found}
+use Rattle.saturation_core.specs.private.Steps.{with_hands, Becomes}
 use Rattle.saturation_laws.proofs.CallerLemmas.{book_from}
 use Rattle.saturation_laws.specs.Ways.{Way, IsLawful}
 
@@ -26,27 +28,21 @@ module _ {S W Map : Type 0} where
   pub no_hand_out : (hs : List (Option (Holding S W Map))) → hs ≡ replicate 64 None → hands_out hs ≡ 0
   no_hand_out hs none = ap hands_out none ∙ hands_out-none S W Map 64
 
-  abbrev pub state_of : List (Entry S W Map) → List Node → List Place → List (Option (Holding S W Map)) → CoreState S W Map
-  state_of ts ns q hs = record { transitions = ts; nodes = ns; queue = q; hands = hs }
-
   -- the edges, and then what the side adds, make the opening state
-  pub filled : (s z : Operations W Map) (p : Pushdown S W Map) (edges es : List Place) (side named : Side)
-      (bare_ts edge_ts pop_ts ts : List (Entry S W Map)) (bare_ns pop_ns ns : List Node) (bare_q edge_q q : List Place) (hands : List (Option (Holding S W Map)))
-      → z ≡ s → es ≡ edges → named ≡ side → bare_ts ≡ [] → bare_ns ≡ Start ∷ [] → bare_q ≡ []
-      → found_so_far edge_ts bare_ns edge_q ≡ with_edges z es (found_so_far bare_ts bare_ns bare_q)
-      → found_so_far pop_ts pop_ns q ≡ apply_all s (pops side p.rules) (found_so_far edge_ts bare_ns edge_q)
-      → ts ≡ pop_ts → ns ≡ pop_ns → hands ≡ replicate 64 None
-      → state_of ts ns q hands ≡ opening_state s named p edges
-  filled s z p edges es side named bare_ts edge_ts pop_ts ts bare_ns pop_ns ns bare_q edge_q q hands same these way none_ts start none_q edged popped at_ts at_ns none =
-      ap (λ us. state_of us ns q hands) at_ts ∙ ap (λ ms. state_of pop_ts ms q hands) at_ns ∙ ap (state_of pop_ts pop_ns q) none
-      ∙ popped
-      ∙ ap (apply_all s (pops side p.rules)) (edged
-      ∙ ap (λ o. with_edges o es (found_so_far bare_ts bare_ns bare_q)) same
-      ∙ ap (λ xs. with_edges s xs (found_so_far bare_ts bare_ns bare_q)) these
-      ∙ ap (λ us. with_edges s edges (found_so_far us bare_ns bare_q)) none_ts
-      ∙ ap (λ ms. with_edges s edges (found_so_far [] ms bare_q)) start
-      ∙ ap (λ r. with_edges s edges (found_so_far [] (Start ∷ []) r)) none_q)
-      ∙ ap (λ i. apply_all s (pops i p.rules) (with_edges s edges (found_so_far [] (Start ∷ []) []))) (sym way)
+  pub filled : (s z : Operations W Map) (p : Pushdown S W Map) (edges es : List Place) (side named : Side) (bare edged popped : Found S W Map) (hands : List (Option (Holding S W Map)))
+      → z ≡ s → es ≡ edges → named ≡ side → bare.transitions.transitions ≡ [] → bare.graph.nodes ≡ Start ∷ [] → bare.waiting.items ≡ []
+      → Becomes bare (with_edges z es) edged → Becomes edged (apply_all s (pops side p.rules)) popped → hands ≡ replicate 64 None
+      → with_hands popped hands ≡ opening_state s named p edges
+  filled s z p edges es side named bare edged popped hands same these way none start none_q by_edges by_pops no_hands =
+      let st : List (Entry S W Map) → List Node → List Place → CoreState S W Map = λ ts ns q. record { transitions = ts; nodes = ns; queue = q; hands = replicate 64 None } in
+      ap (with_hands popped) no_hands ∙ by_pops (replicate 64 None)
+      ∙ ap (apply_all s (pops side p.rules)) (by_edges (replicate 64 None)
+      ∙ ap (λ o. with_edges o es (with_hands bare (replicate 64 None))) same
+      ∙ ap (λ xs. with_edges s xs (with_hands bare (replicate 64 None))) these
+      ∙ ap (λ ts. with_edges s edges (st ts bare.graph.nodes bare.waiting.items)) none
+      ∙ ap (λ ns. with_edges s edges (st [] ns bare.waiting.items)) start
+      ∙ ap (λ q. with_edges s edges (st [] (Start ∷ []) q)) none_q)
+      ∙ ap (λ i. apply_all s (pops i p.rules) (with_edges s edges (st [] (Start ∷ []) []))) (sym way)
 
 -- the parts of a book that was just begun
 abbrev pub begin : {S W Map D : Type 0} → Pushdown S W Map → D → Opening → CoreState S W Map → List Event → BookValue S W Map D

@@ -1,56 +1,56 @@
 -- The lowerings of a plan, one after another.
 use Rattle.std.proofs.Common.{◌≡◌, ℕ, suc, ◌+◌, ◌<◌, ◌≤◌, List, [], ◌∷◌, ◌++◌, length, ap, ◌∙◌, subst, arith}
 use Rattle.std.specs.Prelude.{IsTrue}
+use Rattle.std.specs.VecDeque.{deque_len, deque_capacity}
 use Rattle.std.proofs.lemmas.List.{length_push}
 use Rattle.weighted_automata.specs.declared.place.Place.{Place}
 use Rattle.weighted_automata.specs.Places.{has_place}
-use Rattle.witness_graph.specs.declared.node.Side.{Side}
-use Rattle.witness_graph.specs.Nodes.{Nodes, IsNodeAt}
+use Rattle.witness_graph.specs.Nodes.{IsNodeAt}
+use Rattle.saturation_core.specs.declared.found.Found.{Found}
 use Rattle.saturation_core.specs.declared.plan.Planned.{Planned}
-use Rattle.saturation_core.specs.private.Plans.{AreNodesFrom, HaveRoom}
+use Rattle.saturation_core.specs.private.Plans.{AreNodesFrom}
+use Rattle.saturation_core.specs.private.Steps.{HasRoomFor}
 use Rattle.saturation_core.proofs.PutPlan.{room_first, room_rest}
 
 module _ {S W Map : Type 0} where
-  -- The lowerings that are left have room, and their nodes may stand next. `all` is how many there were.
-  pub record IsUnderWay (ls : List (Planned S W Map)) (all : ℕ) (room : List Place) (graph : Nodes) (side : Side) (len old_len cap old_cap : ℕ) : Type 0 where
-    pub nodes : AreNodesFrom (length graph.nodes) ls
-    pub places : HaveRoom room ls
-    pub spare : length ls ≤ graph.spare
-    pub queue : len + length ls ≤ cap
-    pub same_side : graph.side ≡ side
-    pub count : len + length ls ≤ old_len + all
-    pub capacity : cap ≡ old_cap
+  -- The lowerings that are left have room, and their nodes may stand next. `all` is how many there were, on the first.
+  pub record IsUnderWay (ls : List (Planned S W Map)) (all : ℕ) (now first : Found S W Map) : Type 0 where
+    pub nodes : AreNodesFrom (length now.graph.nodes) ls
+    pub room : HasRoomFor ls now
+    pub same_side : now.graph.side ≡ first.graph.side
+    pub count : deque_len now.waiting + length ls ≤ deque_len first.waiting + all
+    pub capacity : deque_capacity now.waiting ≡ deque_capacity first.waiting
 
-  module _ (l : Planned S W Map) (ls : List (Planned S W Map)) (all : ℕ) (room : List Place) (graph : Nodes) (side : Side) (len old_len cap old_cap : ℕ)
-      (now : IsUnderWay (l ∷ ls) all room graph side len old_len cap old_cap) where
-    pub next_node : IsNodeAt (length graph.nodes) l.node
-    next_node = now.nodes.0
+  module _ (l : Planned S W Map) (ls : List (Planned S W Map)) (all : ℕ) (now first : Found S W Map) (is : IsUnderWay (l ∷ ls) all now first) where
+    pub next_node : IsNodeAt (length now.graph.nodes) l.node
+    next_node = is.nodes.0
 
-    pub next_place : IsTrue (has_place l.goal room)
-    next_place = room_first room l ls now.places
+    pub next_place : IsTrue (has_place l.goal now.transitions.room)
+    next_place = room_first now.transitions.room l ls is.room.places
 
-    pub next_spare : 0 < graph.spare
-    next_spare = omega (arith, now.spare)
+    pub next_spare : 0 < now.graph.spare
+    next_spare = omega (arith, is.room.spare)
 
-    pub next_queue : len < cap
-    next_queue = omega (arith, now.queue)
+    pub next_queue : deque_len now.waiting < deque_capacity now.waiting
+    next_queue = omega (arith, is.room.queue)
 
-    pub step_on : (new_room : List Place) (after : Nodes) (new_len new_cap : ℕ) → ((x : Place) → IsTrue (has_place x room) → IsTrue (has_place x new_room)) → after.nodes ≡ graph.nodes ++ l.node ∷ []
-        → graph.spare ≤ after.spare + 1 → after.side ≡ graph.side → new_len ≤ len + 1 → new_cap ≡ cap
-        → IsUnderWay ls all new_room after side new_len old_len new_cap old_cap
-    step_on new_room after new_len new_cap keeps added spare way more same =
+    pub step_on : (new : Found S W Map) → ((x : Place) → IsTrue (has_place x now.transitions.room) → IsTrue (has_place x new.transitions.room)) → new.graph.nodes ≡ now.graph.nodes ++ l.node ∷ []
+        → now.graph.spare ≤ new.graph.spare + 1 → new.graph.side ≡ now.graph.side → deque_len new.waiting ≤ deque_len now.waiting + 1 → deque_capacity new.waiting ≡ deque_capacity now.waiting
+        → IsUnderWay ls all new first
+    step_on new keeps added spare way more same =
         let P : ℕ → Type 0 = λ k. AreNodesFrom k ls in
-        let e : suc (length graph.nodes) ≡ length after.nodes = omega (arith, ap length added, length_push graph.nodes l.node) in
+        let e : suc (length now.graph.nodes) ≡ length new.graph.nodes = omega (arith, ap length added, length_push now.graph.nodes l.node) in
         record {
-          nodes = subst P e now.nodes.1;
-          places = room_rest room new_room l ls now.places keeps;
-          spare = omega (arith, now.spare, spare);
-          queue = omega (arith, now.queue, more, same);
-          same_side = way ∙ now.same_side;
-          count = omega (arith, now.count, more);
-          capacity = same ∙ now.capacity;
+          nodes = subst P e is.nodes.1;
+          room = record {
+            places = room_rest now.transitions.room new.transitions.room l ls is.room.places keeps;
+            spare = omega (arith, is.room.spare, spare);
+            queue = omega (arith, is.room.queue, more, same);
+          };
+          same_side = way ∙ is.same_side;
+          count = omega (arith, is.count, more);
+          capacity = same ∙ is.capacity;
         }
 
-  pub with_front : (old ls : List (Planned S W Map)) (l : Planned S W Map) (all : ℕ) (room : List Place) (graph : Nodes) (side : Side) (len old_len cap old_cap : ℕ) → old ≡ l ∷ ls
-      → IsUnderWay old all room graph side len old_len cap old_cap → IsUnderWay (l ∷ ls) all room graph side len old_len cap old_cap
-  with_front old ls l all room graph side len old_len cap old_cap items = let P : List (Planned S W Map) → Type 0 = λ ms. IsUnderWay ms all room graph side len old_len cap old_cap in λ now. subst P items now
+  pub with_front : (old ls : List (Planned S W Map)) (l : Planned S W Map) (all : ℕ) (now first : Found S W Map) → old ≡ l ∷ ls → IsUnderWay old all now first → IsUnderWay (l ∷ ls) all now first
+  with_front old ls l all now first items = let P : List (Planned S W Map) → Type 0 = λ ms. IsUnderWay ms all now first in λ is. subst P items is

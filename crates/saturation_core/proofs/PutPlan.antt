@@ -132,6 +132,15 @@ module _ {S W Map : Type 0} (s : Operations W Map) where
   apply_jobs_is d [] st = refl
   apply_jobs_is d (j ∷ js) st = apply_jobs_is d js (apply s (change_of s d j) st)
 
+  -- a plan begins with no lowering, and keeps what is there
+  pub plan_begins : (cs : List (Change W)) (n m : ℕ) (ts : List (Entry S W Map)) (plan : List (Planned S W Map)) → plan ≡ [] → m ≡ n → AreKept s ts n
+      → (plan_of s cs m ts ≡ plan ++ plan_of s cs (m + length plan) (put_from m plan ts)) × AreKept s (put_from m plan ts) (m + length plan)
+  plan_begins cs n m ts plan none same kept =
+      let P : List (Planned S W Map) → Type 0 = λ ps. (plan_of s cs m ts ≡ ps ++ plan_of s cs (m + length ps) (put_from m ps ts)) × AreKept s (put_from m ps ts) (m + length ps) in
+      let here : m ≡ m + 0 = omega arith in
+      let there : n ≡ m + 0 = omega (arith, same) in
+      subst P (sym none) (ap (λ k. plan_of s cs k ts) here, subst (AreKept s ts) there kept)
+
   -- one job more
   module _ (js : List (Job S W Map)) (ws : List W) (i : ℕ) (within : i < length js) (long : length ws ≡ length js) (n : ℕ) (ts : List (Entry S W Map))
       (plan all : List (Planned S W Map)) (was : all ≡ plan ++ plan_of s (changes_with (drop i js) (drop i ws)) (n + length plan) (put_from n plan ts)) where

@@ -1,19 +1,18 @@
 -- What a book is after it has settled a hand.
 use Rattle.std.proofs.Common.{◌≡◌, inl, inr, ℕ, ◌+◌, List, [], ◌∷◌, ◌++◌, length, map, false, refl, sym, ap, ap₂, ◌∙◌, subst, arith}
-use Rattle.std.specs.Prelude.{◌↔◌, All, Bool, Option, None, Some, IfSome, IsTrue, option_map, slice_set}
+use Rattle.std.specs.Prelude.{◌↔◌, All, Bool, Result, Ok, Err, OnErr, Option, None, Some, IfSome, IsTrue, option_map, slice_set}
 use Rattle.std.specs.List.{AllByRecursion}
 use Rattle.std.proofs.lemmas.Option.{same_Some}
 use Rattle.std.proofs.lemmas.List.{length-map}
 use Rattle.std.proofs.lemmas.List.Elements.{All-from_recursion, recursion_from_All}
 use Rattle.semiring_laws.specs.Semiring.{Operations, IsSemiring, Fits}
-use Rattle.weighted_automata.specs.declared.place.Place.{Place}
 use Rattle.weighted_automata.specs.declared.transitions.Entry.{Entry}
-use Rattle.witness_graph.specs.declared.node.Node.{Node}
 use Rattle.pushdown_rules.specs.Pushdown.{Pushdown}
 use Rattle.pushdown_rules.specs.Values.{value_of}
 use Rattle.pushdown_rules.proofs.CallerLemmas.{value_fits}
 use Rattle.saturation_laws.specs.declared.job.Job.{Job}
 use Rattle.saturation_laws.specs.declared.holding.Holding.{Holding}
+use Rattle.saturation_core.specs.declared.found.Found.{Found}
 use Rattle.saturation_core.specs.declared.plan.Planned.{Planned}
 use Rattle.saturation_laws.specs.declared.event.Event.{Event}
 use Rattle.saturation_laws.specs.declared.event.Event.TheVariants.{Settle}
@@ -24,13 +23,19 @@ use Rattle.saturation_laws.specs.Openings.{AreKept}
 use Rattle.saturation_laws.specs.Directions.{AgreeOn, HaveSameCandidates}
 use Rattle.saturation_laws.specs.Books.{BookValue, opened_by, Makes, IsBook}
 use Rattle.saturation_core.specs.Seats.{hands_out}
-use Rattle.saturation_core.specs.private.Plans.{changes_with, state_with, put_all, AreNodesFrom, plan_of}
+use Rattle.saturation_core.specs.private.Plans.{changes_with, put_all, AreNodesFrom, plan_of}
+use Rattle.saturation_core.specs.private.Steps.{with_hands, Becomes}
 use Rattle.saturation_core.specs.DoneValue.{DoneValue}
 use Rattle.saturation_core.specs.Settled.{jobs_of, jobs_out, IsWorked, CanSettle}
 use Rattle.saturation_laws.proofs.CallerLemmas.{worth_fits, change_fits, job_sound, opening_fits, book_works}
 use Rattle.saturation_core.proofs.PutPlan.{IsFitChange, nodes_added, plan_is, apply_jobs_is, plan_nodes}
 use Rattle.saturation_core.proofs.HandLemmas.{hands_out-freed}
 use Rattle.saturation_laws.specs.Ways.{Way, IsLawful, HasOneCandidate}
+
+-- what holds anyway holds on a refusal
+pub on_refusal : {T E P : Type 0} (r : Result T E) → P → OnErr r P
+on_refusal (Ok x) h = tt
+on_refusal (Err e) h = h
 
 module _ {S W Map : Type 0} where
   -- the hand whose jobs were read
@@ -43,10 +48,8 @@ module _ {S W Map : Type 0} where
   one_out hs seat js out = let h = held (hand_at seat hs) js out in hands_out-freed hs seat h.0 h.1
 
   -- the state that lowerings begin with
-  pub put_on : (new : CoreState S W Map) (plan : List (Planned S W Map)) (st : CoreState S W Map) (ts : List (Entry S W Map)) (nodes : List Node) (queue : List Place) → new ≡ put_all plan (state_with ts nodes queue st.hands)
-      → ts ≡ st.transitions → nodes ≡ st.nodes → queue ≡ st.queue → new ≡ put_all plan st
-  put_on new plan st ts nodes queue made same_ts same_nodes same_queue =
-      made ∙ ap (put_all plan) (ap (λ us. state_with us nodes queue st.hands) same_ts ∙ ap (λ ms. state_with st.transitions ms queue st.hands) same_nodes ∙ ap (λ q. state_with st.transitions st.nodes q st.hands) same_queue)
+  pub put_on : (plan : List (Planned S W Map)) (old roomy new : Found S W Map) → Becomes old (λ st. st) roomy → Becomes roomy (put_all plan) new → Becomes old (put_all plan) new
+  put_on plan old roomy new same made hands = made hands ∙ ap (put_all plan) (same hands)
 
   worths_of : (s : Operations W Map) (m : ℕ) (candidate : Job S W Map → W) (js : List (Job S W Map)) → AllByRecursion (IsFitChange s m) (changes_with js (map candidate js)) → AllByRecursion (Fits s) (map candidate js)
   worths_of s m candidate [] fit = tt
@@ -110,22 +113,22 @@ module _ {S W Map D : Type 0} (operations : S → Operations W Map) (way : Way S
         (planned ∙ ap (λ vs. plan_of s (changes_with js vs) n b.state.transitions) worths ∙ ap (λ k. plan_of s (changes_with js (map d.candidate js)) k b.state.transitions) count)
         ∙ plan_is s (changes_with js (map d.candidate js)) b.state ∙ apply_jobs_is s d js b.state
 
-    pub settled : (ts : List (Entry S W Map)) (nodes : List Node) (queue : List Place) (hands : List (Option (Holding S W Map))) (journal : List Event)
-        → state_with ts nodes queue b.state.hands ≡ put_all plan b.state → hands ≡ slice_set b.state.hands seat None → journal ≡ b.journal ++ Settle seat ∷ []
-        → Makes operations way b (Settle seat) (record b { state = state_with ts nodes queue hands; journal = journal })
-    settled ts nodes queue hands journal put hs es =
+    pub settled : (new : Found S W Map) (hands : List (Option (Holding S W Map))) (journal : List Event)
+        → with_hands new b.state.hands ≡ put_all plan b.state → hands ≡ slice_set b.state.hands seat None → journal ≡ b.journal ++ Settle seat ∷ []
+        → Makes operations way b (Settle seat) (record b { state = with_hands new hands; journal = journal })
+    settled new hands journal put hs es =
         let s = operations b.system.semiring in
         let d = way.tables b.direction b.system in
         let h = held (hand_at seat b.state.hands) js out in
-        let st : CoreState S W Map = state_with ts nodes queue hands in
+        let st : CoreState S W Map = with_hands new hands in
         let same : settle s d seat h.0 b.state ≡ st =
-        ap (λ ks. free s d seat (apply_jobs s d ks b.state)) h.2 ∙ ap (free s d seat) (sym (put ∙ made_all)) ∙ ap (state_with ts nodes queue) (sym hs) in
+        ap (λ ks. free s d seat (apply_jobs s d ks b.state)) h.2 ∙ ap (free s d seat) (sym (put ∙ made_all)) ∙ ap (with_hands new) (sym hs) in
         (st, ap (option_map (λ g. settle s d seat g b.state)) h.1 ∙ ap Some same, ap (λ (es : List Event). record b { state = st; journal = es }) es)
 
   -- how many nodes there are then
-  pub settled_nodes : (b : BookValue S W Map D) (plan : List (Planned S W Map)) (ts : List (Entry S W Map)) (nodes : List Node) (queue : List Place) → state_with ts nodes queue b.state.hands ≡ put_all plan b.state
-      → length b.state.nodes + length plan ≡ length nodes
-  settled_nodes b plan ts nodes queue put = sym (ap (λ st. length st.nodes) put ∙ nodes_added plan b.state)
+  pub settled_nodes : (b : BookValue S W Map D) (plan : List (Planned S W Map)) (new : Found S W Map) → with_hands new b.state.hands ≡ put_all plan b.state
+      → length b.state.nodes + length plan ≡ length new.graph.nodes
+  settled_nodes b plan new put = sym (ap (λ st. length st.nodes) put ∙ nodes_added plan b.state)
 
 module _ {S W Map D : Type 0} (operations : S → Operations W Map) (laws : (x : S) → IsSemiring (operations x)) (way : Way S W Map D)
     (direction : IsLawful operations way) where

@@ -7,11 +7,14 @@ use Rattle.semiring_laws.specs.Semiring.{Operations}
 use Rattle.weighted_automata.specs.declared.place.Place.{Place}
 use Rattle.pushdown_rules.specs.declared.rule.Rule.{Rule}
 use Rattle.saturation_laws.specs.States.{CoreState, Change, apply, apply_all}
-use Rattle.saturation_laws.specs.Openings.{pop_change, pops_of, pops_at, pops_from, with_edges, found_so_far}
+use Rattle.saturation_laws.specs.Openings.{pop_change, pops_of, pops_at, pops_from, with_edges}
 use Rattle.saturation_laws.specs.Queues.{queued}
 use Rattle.weighted_automata.specs.Entries.{lowered}
 use Rattle.weighted_automata.specs.declared.transitions.Entry.{Entry}
 use Rattle.witness_graph.specs.declared.node.Node.{Node}
+use Rattle.saturation_laws.specs.declared.holding.Holding.{Holding}
+use Rattle.saturation_core.specs.declared.found.Found.{Found}
+use Rattle.saturation_core.specs.private.Steps.{with_hands}
 
 pub replicate-push : {X : Type 0} (n : ℕ) (x : X) → replicate n x ++ x ∷ [] ≡ replicate (n + 1) x
 replicate-push zero x = refl
@@ -28,14 +31,18 @@ missing (x ∷ xs) zero within e = cc
 missing (x ∷ xs) (suc k) within e = let w : suc k < suc (length xs) = within in missing xs k (omega (arith, w)) e
 
 module _ {S W Map : Type 0} (s : Operations W Map) where
-  pub edge_more : (es : List Place) (i : ℕ) (d : Place) (ts us : List (Entry S W Map)) (nodes : List Node) (q r : List Place) (w : W) (all : CoreState S W Map)
-      → i < length es → with_edges s (drop i es) (found_so_far ts nodes q) ≡ all → w ≡ s.one → us ≡ lowered (get_or es i d) w 0 ts → r ≡ queued (get_or es i d) q
-      → with_edges s (drop (i + 1) es) (found_so_far us nodes r) ≡ all
-  edge_more es i d ts us nodes q r w all within was one new last =
+  pub edge_more : (es : List Place) (i : ℕ) (d : Place) (old new : Found S W Map) (w : W) (hands : List (Option (Holding S W Map))) (all : CoreState S W Map)
+      → i < length es → with_edges s (drop i es) (with_hands old hands) ≡ all
+      → w ≡ s.one → new.transitions.transitions ≡ lowered (get_or es i d) w 0 old.transitions.transitions → new.graph.nodes ≡ old.graph.nodes → new.waiting.items ≡ queued (get_or es i d) old.waiting.items
+      → with_edges s (drop (i + 1) es) (with_hands new hands) ≡ all
+  edge_more es i d old new w hands all within was one found same last =
       let x = get_or es i d in
-      ap (λ vs. with_edges s (drop (i + 1) es) (found_so_far vs nodes r)) (new ∙ ap (λ v. lowered x v 0 ts) one)
-      ∙ ap (λ p. with_edges s (drop (i + 1) es) (found_so_far (lowered x s.one 0 ts) nodes p)) last
-      ∙ sym (at_drop_more (λ xs. with_edges s xs (found_so_far ts nodes q)) es i d within) ∙ was
+      let st : List (Entry S W Map) → List Node → List Place → CoreState S W Map = λ ts ns q. record { transitions = ts; nodes = ns; queue = q; hands = hands } in
+      let ts = old.transitions.transitions in
+      ap (λ us. with_edges s (drop (i + 1) es) (st us new.graph.nodes new.waiting.items)) (found ∙ ap (λ v. lowered x v 0 ts) one)
+      ∙ ap (λ ns. with_edges s (drop (i + 1) es) (st (lowered x s.one 0 ts) ns new.waiting.items)) same
+      ∙ ap (λ q. with_edges s (drop (i + 1) es) (st (lowered x s.one 0 ts) old.graph.nodes q)) last
+      ∙ sym (at_drop_more (λ xs. with_edges s xs (with_hands old hands)) es i d within) ∙ was
 
   module _ (rs : List (Rule S W Map)) (k : ℕ) (r : Rule S W Map) (there : slice_get rs k ≡ Some r) (now all : CoreState S W Map) (was : apply_all s (pops_from k (drop k rs)) now ≡ all) where
     from_here : apply_all s (pops_of k r ++ pops_from (k + 1) (drop (k + 1) rs)) now ≡ all

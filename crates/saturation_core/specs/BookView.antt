@@ -10,11 +10,11 @@ book_view b = record {
   system = b.system.now;
   direction = b.direction;
   opening = b.opening;
-  state = record { transitions = b.transitions.transitions; nodes = b.graph.nodes; queue = b.waiting.items; hands = b.out.items };
+  state = record { transitions = b.found.transitions.transitions; nodes = b.found.graph.nodes; queue = b.found.waiting.items; hands = b.out.items };
   journal = b.journal.items;
 }
 
 -- Each hand that is out can be given back without memory.
 pub record HasRoom {S D W Map : Type 0} (b : Inside S D W Map) : Type 0 where
   pub journal : vec_len b.journal + hands_out b.out.items ≤ vec_capacity b.journal
-  pub queue : deque_len b.waiting + hands_out b.out.items ≤ deque_capacity b.waiting
+  pub queue : deque_len b.found.waiting + hands_out b.out.items ≤ deque_capacity b.found.waiting

@@ -1,4 +1,5 @@
--- What a settling plans before it changes a book, and the tests' direction.
+-- What a settling plans before it changes a book, what was found so far as a state, and the tests' direction.
 pub mod Plans
+pub mod Steps
 pub mod Finding
 pub mod Gather

@@ -9,21 +9,19 @@ ghost use Rattle.saturation_core.specs.Calls.{AnswersTake, HandWorks};
 ghost use Rattle.saturation_core.specs.Settled.{CanSettle};
 
 use crate::copies::copy_jobs;
-use crate::hands::{none_out, place_out, put, seats_out};
+use crate::found::Found;
+use crate::hands::{no_hands, none_out, place_out, put, seats_out};
 use crate::journal::{count_takes, count_takes_of};
-use crate::lower::{lower_all, make_room};
 use crate::plan::plan_jobs;
 use crate::queue::{enqueue, front, list_jobs};
 use crate::same::{agree, lists, same_side};
-use crate::start::{add_edges, add_pops_of, empty_run, no_hands};
 use crate::{Done, Hand, Lowered, SettleFault, Taken};
 use pushdown_rules::System;
 use saturation_laws::{Direction, Event, Holding, JobList, Opening};
 use semiring_laws::Semiring;
 use std::alloc::Global;
-use std::collections::VecDeque;
 use std::marker::Model;
-use weighted_automata::{Place, Transitions};
+use weighted_automata::Transitions;
 use witness_graph::Graph;
 use wpds_base::OutOfMemory;
 
@@ -33,9 +31,7 @@ pub struct Book<'s, S: Semiring, D: Direction<S>> {
     system: &'s System<S>,
     direction: D,
     opening: Opening,
-    transitions: Transitions<S>,
-    graph: Graph,
-    waiting: VecDeque<Place>,
+    found: Found<S>,
     out: Vec<Option<Holding<S>>>,
     journal: Vec<Event>,
 }
@@ -51,7 +47,7 @@ impl<'s, S: Semiring, D: Direction<S>> Model for Book<'s, S, D> {
     ghost view = { book_view };
 
     ghost invariant = { λ b. IsBook S.operations D.way (book_view b) × HasRoom b
-        × (b.graph.side ≡ (D.way.tables b.direction b.system.now).side) };
+        × (b.found.graph.side ≡ (D.way.tables b.direction b.system.now).side) };
 }
 
 impl<'s, S: Semiring, D: Direction<S>> Book<'s, S, D> {
@@ -73,34 +69,15 @@ impl<'s, S: Semiring, D: Direction<S>> Book<'s, S, D> {
         }) }
     {
         let side = direction.side();
-        let mut graph = empty_run(alloc, side)?;
-        let mut transitions = Transitions::new(alloc);
-        let mut waiting = VecDeque::new(alloc);
+        let mut found = Found::new(alloc, side)?;
         let edges = opening.edges.as_slice();
-        let semiring = system.semiring();
-        add_edges(
-            alloc,
-            semiring,
-            edges,
-            &mut transitions,
-            &graph,
-            &mut waiting,
-        )?;
-        add_pops_of(
-            alloc,
-            side,
-            system,
-            &mut transitions,
-            &mut graph,
-            &mut waiting,
-        )?;
+        found.add_edges(alloc, system.semiring(), edges)?;
+        found.add_pops_of(alloc, side, system)?;
         Ok(Book {
             system,
             direction,
             opening,
-            transitions,
-            graph,
-            waiting,
+            found,
             out: no_hands(alloc)?,
             journal: Vec::new(alloc),
         })
@@ -132,7 +109,7 @@ impl<'s, S: Semiring, D: Direction<S>> Book<'s, S, D> {
     pub fn transitions(&self) -> &Transitions<S>
         ensures { result.now.transitions ≡ self.now.state.transitions }
     {
-        &self.transitions
+        &self.found.transitions
     }
 
     /// The runs that were found so far.
@@ -140,14 +117,14 @@ impl<'s, S: Semiring, D: Direction<S>> Book<'s, S, D> {
         ensures nodes { result.now.nodes ≡ self.now.state.nodes }
         ensures side { result.now.side ≡ (D.way.tables self.now.direction self.now.system).side }
     {
-        &self.graph
+        &self.found.graph
     }
 
     /// Whether the queue is empty and no hand is out.
     pub fn is_closed(&self) -> bool
         ensures { IsTrue result ↔ IsClosed self.now }
     {
-        match front(&self.waiting) {
+        match front(&self.found.waiting) {
             None => none_out(&self.out),
             Some(_) => false,
         }
@@ -183,7 +160,7 @@ impl<'s, S: Semiring, D: Direction<S>> Book<'s, S, D> {
     {
         let at = seat as usize;
         if let Some(place) = place_out(&self.out, at) {
-            enqueue(&mut self.waiting, place);
+            enqueue(&mut self.found.waiting, place);
             self.journal.push_reserved(Event::GiveBack { seat });
             put(&mut self.out, at, None);
         }
@@ -197,16 +174,17 @@ impl<'s, S: Semiring, D: Direction<S>> Book<'s, S, D> {
         ensures works { IfOk result (λ t. HandWorks S.operations D.way self.old t) }
         ensures err { OnErr result (self.new ≡ self.old) }
     {
-        match front(&self.waiting) {
+        match front(&self.found.waiting) {
             None if none_out(&self.out) => Ok(Taken::Closed),
             None => Ok(Taken::Idle(seats_out(&self.out))),
             Some(place) => {
                 let (direction, system) = (&self.direction, self.system);
-                let jobs = list_jobs(alloc, direction, system, &self.transitions, place)?;
+                let transitions = &self.found.transitions;
+                let jobs = list_jobs(alloc, direction, system, transitions, place)?;
                 let kept = copy_jobs(alloc, system.semiring(), jobs.as_slice())?;
                 // For this event, and for one more of each hand.
                 self.journal.reserve(65)?;
-                self.waiting.pop_front();
+                self.found.waiting.pop_front();
                 self.journal.push_reserved(Event::Take { seat, place });
                 put(
                     &mut self.out,
@@ -272,23 +250,10 @@ impl<'s, S: Semiring, D: Direction<S>> Book<'s, S, D> {
         let seat = done.seat();
         let semiring = self.system.semiring();
         let (jobs, worths) = (done.jobs().as_slice(), done.candidates().as_slice());
-        let nodes = self.graph.len();
-        let plan = plan_jobs(alloc, semiring, &self.transitions, nodes, jobs, worths)?;
-        make_room(
-            alloc,
-            &plan,
-            &mut self.transitions,
-            &mut self.graph,
-            &mut self.waiting,
-        )?;
+        let plan = plan_jobs(alloc, semiring, &self.found, jobs, worths)?;
+        self.found.make_room(alloc, &plan)?;
         let count = plan.len() as u64;
-        lower_all(
-            alloc,
-            plan,
-            &mut self.transitions,
-            &mut self.graph,
-            &mut self.waiting,
-        );
+        self.found.lower_all(alloc, plan);
         self.journal.push_reserved(Event::Settle { seat });
         put(&mut self.out, seat as usize, None);
         Ok(Lowered { count })

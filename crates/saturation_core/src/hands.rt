@@ -1,4 +1,4 @@
-ghost use Rattle.std.specs.Prelude.{◌≡◌, ◌↔◌, ◌≤◌, ℕ, IsTrue, length, is_some, if◌then◌else◌, slice_set, option_map};
+ghost use Rattle.std.specs.Prelude.{◌≡◌, ◌↔◌, ◌≤◌, ℕ, IsTrue, length, is_some, if◌then◌else◌, slice_set, option_map, IfOk, replicate, None};
 ghost use Rattle.wpds_base.specs.Limits.{most_seats};
 ghost use Rattle.saturation_laws.specs.States.{hand_at};
 ghost use Rattle.saturation_core.specs.Seats.{seat_bits};
@@ -6,7 +6,20 @@ ghost use Rattle.saturation_core.specs.Seats.{seat_bits};
 use crate::SeatSet;
 use saturation_laws::Holding;
 use semiring_laws::Semiring;
+use std::alloc::Global;
 use weighted_automata::Place;
+use wpds_base::OutOfMemory;
+
+/// A seat for each of 64 workers, without hands.
+pub(crate) fn no_hands<S: Semiring>(alloc: Global) -> Result<Vec<Option<Holding<S>>>, OutOfMemory>
+    ensures { IfOk result (λ v. v.items ≡ replicate most_seats None) }
+{
+    let mut out = Vec::new(alloc);
+    for _seat in 0..64u32 {
+        out.push(None)?;
+    }
+    Ok(out)
+}
 
 /// Whether no hand is out.
 pub(crate) fn none_out<S: Semiring>(out: &[Option<Holding<S>>]) -> bool

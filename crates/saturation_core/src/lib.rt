@@ -5,17 +5,16 @@
 mod book;
 mod change;
 mod copies;
+mod found;
 #[cfg(test)]
 mod gather;
 mod hand;
 mod hands;
 mod journal;
 mod laws;
-mod lower;
 mod plan;
 mod queue;
 mod same;
-mod start;
 #[cfg(test)]
 mod tests;
 mod work;

@@ -1,14 +1,16 @@
-ghost use Rattle.std.specs.Prelude.{◌≡◌, ◌<◌, ◌+◌, ◌^◌, ◌++◌, ℕ, List, All, IfOk, OnOk, IfSome, length, option_map, option_to_list};
+ghost use Rattle.std.specs.Prelude.{◌≡◌, ◌<◌, ◌+◌, ◌^◌, ◌++◌, ℕ, List, All, IfOk, OnOk, IfSome, length, option_map, option_to_list, map};
 ghost use Rattle.semiring_laws.specs.Semiring.{Fits};
 ghost use Rattle.weighted_automata.specs.declared.transitions.Entry.{Entry as EntryValue};
 ghost use Rattle.weighted_automata.specs.Entries.{entry_at};
 ghost use Rattle.saturation_laws.specs.Jobs.{node_of, named_rule as rule_named, named_first};
 ghost use Rattle.saturation_laws.specs.States.{weight_at};
 ghost use Rattle.saturation_laws.specs.Openings.{AreKept};
-ghost use Rattle.saturation_core.specs.private.Plans.{change_with, changes_with, put_from, lowering_of, plan_of};
+ghost use Rattle.saturation_core.specs.private.Plans.{change_with, changes_with, put_from, lowering_of, plan_of, goal_of};
+ghost use Rattle.saturation_core.specs.private.Steps.{IsKept};
 ghost use Rattle.saturation_core.specs.private.Finding.{found_at};
 
 use crate::change::{node_now, weight_after, weight_now};
+use crate::found::Found;
 use saturation_laws::{Job, JobKind};
 use semiring_laws::Semiring;
 use std::alloc::Global;
@@ -163,33 +165,41 @@ fn add<S: Semiring>(plan: &mut Vec<Planned<S>>, step: Option<Planned<S>>) -> Res
     Ok(())
 }
 
-/// What jobs of these worths lower, one after the other, where the first new node has the number `nodes`.
+/// The goals of a plan, in order.
+pub(crate) fn goals<S: Semiring>(
+    alloc: Global,
+    plan: &[Planned<S>],
+) -> Result<Vec<Place>, OutOfMemory>
+    ensures { IfOk result (λ v. v.items ≡ map goal_of plan.now) }
+{
+    let mut places = Vec::new(alloc);
+    for step in plan {
+        places.push(step.goal)?;
+    }
+    Ok(places)
+}
+
+/// What jobs of these worths lower, one after the other, where the first new node stands next in the graph.
 pub(crate) fn plan_jobs<S: Semiring>(
     alloc: Global,
     semiring: &S,
-    transitions: &Transitions<S>,
-    nodes: u64,
+    found: &Found<S>,
     jobs: &[Job<S>],
     worths: &[S::W],
 ) -> Result<Vec<Planned<S>>, OutOfMemory>
-    requires few { nodes < 2 ^ 63 }
     requires len { length worths.now ≡ length jobs.now }
     requires worths { All (Fits (S.operations semiring.now)) worths.now }
-    requires kept { AreKept (S.operations semiring.now) transitions.now.transitions nodes }
+    requires kept { IsKept (S.operations semiring.now) found.now }
     ensures { IfOk result (λ v. v.items ≡ plan_of (S.operations semiring.now)
-        (changes_with jobs.now worths.now) nodes transitions.now.transitions) }
+        (changes_with jobs.now worths.now) (length found.now.graph.nodes)
+        found.now.transitions.transitions) }
 {
+    let transitions = &found.transitions;
+    let nodes = found.graph.len();
     let mut plan = Vec::new(alloc);
     for i in 0..jobs.len() {
-        let step = lowering(
-            alloc,
-            semiring,
-            transitions,
-            nodes,
-            &plan,
-            &jobs[i],
-            &worths[i],
-        )?;
+        let (job, worth) = (&jobs[i], &worths[i]);
+        let step = lowering(alloc, semiring, transitions, nodes, &plan, job, worth)?;
         add(&mut plan, step)?;
     }
     Ok(plan)

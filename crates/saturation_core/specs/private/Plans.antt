@@ -5,11 +5,9 @@ use Rattle.weighted_automata.specs.declared.place.Place.{Place}
 use Rattle.weighted_automata.specs.declared.transitions.Entry.{Entry}
 use Rattle.weighted_automata.specs.Places.{has_place}
 use Rattle.weighted_automata.specs.Entries.{entry_at, lowered}
-use Rattle.witness_graph.specs.declared.node.Node.{Node}
 use Rattle.witness_graph.specs.declared.node.Node.TheVariants.{Lower}
 use Rattle.witness_graph.specs.Nodes.{IsNodeAt}
 use Rattle.saturation_laws.specs.declared.job.Job.{Job}
-use Rattle.saturation_laws.specs.declared.holding.Holding.{Holding}
 use Rattle.saturation_core.specs.declared.plan.Planned.{Planned}
 use Rattle.saturation_laws.specs.Jobs.{node_of, named_rule, named_first}
 use Rattle.saturation_laws.specs.Queues.{queued}
@@ -31,9 +29,6 @@ module _ {S W Map : Type 0} where
   changes_with [] ws = []
   changes_with (j ∷ js) [] = []
   changes_with (j ∷ js) (w ∷ ws) = change_with j w ∷ changes_with js ws
-
-  abbrev pub state_with : List (Entry S W Map) → List Node → List Place → List (Option (Holding S W Map)) → CoreState S W Map
-  state_with ts nodes queue hands = record { transitions = ts; nodes = nodes; queue = queue; hands = hands }
 
   -- the state after a lowering, and after some
   abbrev pub put : Planned S W Map → CoreState S W Map → CoreState S W Map

@@ -1,15 +1,15 @@
-use Rattle.std.proofs.Common.{◌≡◌, length, sym, ap, ◌∙◌, subst, arith}
+use Rattle.std.proofs.Common.{◌≡◌, [], length, refl, sym, ap, ◌∙◌, subst, arith}
 use Rattle.std.specs.Prelude.{All}
 use Rattle.semiring_laws.specs.Semiring.{Fits}
 use Rattle.saturation_laws.specs.declared.event.Event.TheVariants.{Settle}
-use Rattle.saturation_laws.specs.Openings.{AreKept}
-use Rattle.saturation_laws.specs.Books.{BookValue, Makes}
+use Rattle.saturation_laws.specs.Books.{BookValue, Makes, IsBook}
 use Rattle.saturation_core.specs.Seats.{hands_out}
-use Rattle.saturation_core.specs.private.Plans.{state_with, changes_with, AreNodesFrom}
+use Rattle.saturation_core.specs.private.Plans.{changes_with, AreNodesFrom}
+use Rattle.saturation_core.specs.private.Steps.{with_hands, IsKept}
 use Rattle.saturation_core.specs.BookView.{book_view}
 use Rattle.saturation_laws.proofs.CallerLemmas.{event_keeps}
 use Rattle.saturation_core.proofs.HandLemmas.{hands_out-seats}
-use Rattle.saturation_core.proofs.SettleBook.{one_out, put_on, planned_is, ready, settled, settled_nodes, book_keeps, worths_fit, worths_long, nodes_next}
+use Rattle.saturation_core.proofs.SettleBook.{on_refusal, one_out, put_on, planned_is, ready, settled, settled_nodes, book_keeps, worths_fit, worths_long, nodes_next}
 use Rattle.saturation_core.proofs.book.Book.apply.Goals as goal
 
 pub plan_jobs-requires-clause-worths : goal.plan_jobs-requires-clause-worths
@@ -29,21 +29,37 @@ plan_jobs-requires-clause-len g c =
 
 pub plan_jobs-requires-clause-kept : goal.plan_jobs-requires-clause-kept
 plan_jobs-requires-clause-kept g c =
-    let kept = book_keeps g.S.Semiring.operations g.S.Semiring.laws g.D.Direction.way g.met.D.Direction.laws (book_view c.self.inside) c.self.invariant.0 in
-    let ts = c.self.inside.transitions.transitions in
-    subst (λ z. AreKept (g.S.Semiring.operations z) ts c.len-nodes.result) (sym c.semiring-semiring.ensures.value)
-    (subst (AreKept (g.S.Semiring.operations c.self.inside.system.now.semiring) ts) (sym c.len-nodes.ensures.len) kept)
+    subst (λ z. IsKept (g.S.Semiring.operations z) c.self.inside.found) (sym c.semiring-semiring.ensures.value)
+    (book_keeps g.S.Semiring.operations g.S.Semiring.laws g.D.Direction.way g.met.D.Direction.laws (book_view c.self.inside) c.self.invariant.0)
+
+-- room alone is no change of the book
+pub invariant_of-self : goal.invariant_of-self
+invariant_of-self g c =
+    let b = book_view c.self.inside in
+    let same = c.make_room.ensures.state c.self.inside.out.items in (
+      subst (λ st. IsBook g.S.Semiring.operations g.D.Direction.way (record b { state = st })) (sym same) c.self.invariant.0,
+      record {
+        journal = c.self.invariant.1.journal;
+        queue = omega (arith, c.self.invariant.1.queue, c.make_room.ensures.len, c.make_room.ensures.capacity);
+      },
+      c.make_room.ensures.side ∙ c.self.invariant.2,
+    )
+
+pub returns-in_err-make_room-clause-err : goal.returns-in_err-make_room-clause-err
+returns-in_err-make_room-clause-err g c =
+    let b = book_view c.self.inside in
+    on_refusal c.from_residual-in_err-make_room.result (ap (λ st. record b { state = st }) (c.make_room.ensures.state c.self.inside.out.items) ∙ c.self.view_is)
 
 pub lower_all-requires-clause-nodes : goal.lower_all-requires-clause-nodes
 lower_all-requires-clause-nodes g c =
     let r = ready g.S.Semiring.operations g.D.Direction.way g.met.D.Direction.same_candidate (book_view c.self.inside) c.args.self.now c.self.view_is c.args.done.now c.requires c.candidates.ensures.worked
     c.seat-seat.result c.as_slice-jobs.result.now c.as_slice-worths.result.now c.seat-seat.ensures (c.as_slice-jobs.ensures ∙ c.jobs.ensures.value) (c.as_slice-worths.ensures ∙ c.candidates.ensures.value) in
-    let planned = planned_is g.S.Semiring.operations g.D.Direction.way c.self.inside.system.now.semiring c.semiring-semiring.result.now (changes_with c.as_slice-jobs.result.now c.as_slice-worths.result.now) c.len-nodes.result
-    c.self.inside.transitions.transitions c.in_ok-plan.plan.items c.in_ok-plan.ensures c.semiring-semiring.ensures.value in
-    subst (λ ns. AreNodesFrom (length ns) c.in_ok-plan.plan.items) (sym c.make_room.ensures.nodes)
+    let planned = planned_is g.S.Semiring.operations g.D.Direction.way c.self.inside.system.now.semiring c.semiring-semiring.result.now (changes_with c.as_slice-jobs.result.now c.as_slice-worths.result.now) (length c.self.inside.found.graph.nodes)
+    c.self.inside.found.transitions.transitions c.in_ok-plan.plan.items c.in_ok-plan.ensures c.semiring-semiring.ensures.value in
+    subst (λ ns. AreNodesFrom (length ns) c.in_ok-plan.plan.items) (sym (ap (λ st. st.nodes) (c.make_room.ensures.state [])))
     (nodes_next g.S.Semiring.operations g.S.Semiring.laws g.D.Direction.way g.met.D.Direction.laws
     (book_view c.self.inside) c.self.invariant.0 c.seat-seat.result c.as_slice-jobs.result.now r.out c.as_slice-worths.result.now r.worths
-    c.len-nodes.result c.in_ok-plan.plan.items c.len-nodes.ensures.len planned)
+    (length c.self.inside.found.graph.nodes) c.in_ok-plan.plan.items refl planned)
 
 pub push_reserved-requires : goal.push_reserved-requires
 push_reserved-requires g c =
@@ -53,19 +69,19 @@ push_reserved-requires g c =
 
 made : (g : _) (c : goal.After-put g) → Makes g.S.Semiring.operations g.D.Direction.way (book_view c.self.inside) (Settle c.seat-seat.result)
     (record (book_view c.self.inside) {
-      state = state_with c.lower_all.new.transitions.transitions c.lower_all.new.graph.nodes c.lower_all.new.waiting.items c.put.new.out.items;
+      state = with_hands c.lower_all.new.self c.put.new.out.items;
       journal = c.push_reserved.new.self.items;
     })
 made g c =
     let r = ready g.S.Semiring.operations g.D.Direction.way g.met.D.Direction.same_candidate (book_view c.self.inside) c.args.self.now c.self.view_is c.args.done.now c.requires c.candidates.ensures.worked
     c.seat-seat.result c.as_slice-jobs.result.now c.as_slice-worths.result.now c.seat-seat.ensures (c.as_slice-jobs.ensures ∙ c.jobs.ensures.value) (c.as_slice-worths.ensures ∙ c.candidates.ensures.value) in
-    let planned = planned_is g.S.Semiring.operations g.D.Direction.way c.self.inside.system.now.semiring c.semiring-semiring.result.now (changes_with c.as_slice-jobs.result.now c.as_slice-worths.result.now) c.len-nodes.result
-    c.self.inside.transitions.transitions c.in_ok-plan.plan.items c.in_ok-plan.ensures c.semiring-semiring.ensures.value in
+    let planned = planned_is g.S.Semiring.operations g.D.Direction.way c.self.inside.system.now.semiring c.semiring-semiring.result.now (changes_with c.as_slice-jobs.result.now c.as_slice-worths.result.now) (length c.self.inside.found.graph.nodes)
+    c.self.inside.found.transitions.transitions c.in_ok-plan.plan.items c.in_ok-plan.ensures c.semiring-semiring.ensures.value in
     let b = book_view c.self.inside in
-    settled g.S.Semiring.operations g.D.Direction.way b c.seat-seat.result c.as_slice-jobs.result.now c.as_slice-worths.result.now c.len-nodes.result c.in_ok-plan.plan.items
-    r.out r.worths c.len-nodes.ensures.len planned
-    c.lower_all.new.transitions.transitions c.lower_all.new.graph.nodes c.lower_all.new.waiting.items c.put.new.out.items c.push_reserved.new.self.items
-    (put_on _ c.in_ok-plan.plan.items b.state _ _ _ (c.lower_all.ensures.state c.self.inside.out.items) c.make_room.ensures.transitions c.make_room.ensures.nodes c.make_room.ensures.items)
+    settled g.S.Semiring.operations g.D.Direction.way b c.seat-seat.result c.as_slice-jobs.result.now c.as_slice-worths.result.now (length c.self.inside.found.graph.nodes) c.in_ok-plan.plan.items
+    r.out r.worths refl planned
+    c.lower_all.new.self c.put.new.out.items c.push_reserved.new.self.items
+    (put_on c.in_ok-plan.plan.items c.self.inside.found c.make_room.new.self c.lower_all.new.self c.make_room.ensures.state c.lower_all.ensures.state c.self.inside.out.items)
     c.put.ensures c.push_reserved.ensures.items
 
 pub invariant_of-self-2 : goal.invariant_of-self-2
@@ -88,7 +104,7 @@ invariant_of-self-2 g c =
 pub returns-clause-settled : goal.returns-clause-settled
 returns-clause-settled g c =
     let new : BookValue g.row.S.Denot g.row.S-W.Denot g.row.S-Ret.Denot g.row.D.Denot = record (book_view c.self.inside) {
-      state = state_with c.lower_all.new.transitions.transitions c.lower_all.new.graph.nodes c.lower_all.new.waiting.items c.put.new.out.items;
+      state = with_hands c.lower_all.new.self c.put.new.out.items;
       journal = c.push_reserved.new.self.items;
     } in
     subst (λ k. Makes g.S.Semiring.operations g.D.Direction.way c.args.self.now (Settle k) new) c.seat-seat.ensures
@@ -98,6 +114,6 @@ pub returns-clause-count : goal.returns-clause-count
 returns-clause-count g c =
     let b = book_view c.self.inside in
     let was : length c.args.self.now.state.nodes ≡ length b.state.nodes = ap (λ v. length v.state.nodes) (sym c.self.view_is) in
-    let all = settled_nodes g.S.Semiring.operations g.D.Direction.way b c.in_ok-plan.plan.items c.lower_all.new.transitions.transitions c.lower_all.new.graph.nodes c.lower_all.new.waiting.items
-    (put_on _ c.in_ok-plan.plan.items b.state _ _ _ (c.lower_all.ensures.state c.self.inside.out.items) c.make_room.ensures.transitions c.make_room.ensures.nodes c.make_room.ensures.items) in
+    let all = settled_nodes g.S.Semiring.operations g.D.Direction.way b c.in_ok-plan.plan.items c.lower_all.new.self
+    (put_on c.in_ok-plan.plan.items c.self.inside.found c.make_room.new.self c.lower_all.new.self c.make_room.ensures.state c.lower_all.ensures.state c.self.inside.out.items) in
     omega (arith, was, all)

@@ -35,7 +35,7 @@ invariant_of-self-in-Some g c =
     let seat : c.args.seat < 64 = c.requires.seat in
     let more = hands_out-set c.self.inside.out.items c.put.new.out.items c.args.seat _ c.put.ensures in
     let few = hands_out-seats c.self.inside.out.items c.put.new.out.items c.args.seat _ c.put.ensures in
-    let one = popped c.pop_front.result c.self.inside.waiting.items c.pop_front.new.self.items c.in-Some.place (deque_len c.self.inside.waiting) (deque_len c.pop_front.new.self) c.pop_front.ensures.items c.pop_front.ensures.rest c.in-Some.ensures c.pop_front.ensures.len in (
+    let one = popped c.pop_front.result c.self.inside.found.waiting.items c.pop_front.new.self.items c.in-Some.place (deque_len c.self.inside.found.waiting) (deque_len c.pop_front.new.self) c.pop_front.ensures.items c.pop_front.ensures.rest c.in-Some.ensures c.pop_front.ensures.len in (
       event_keeps g.S.Semiring.operations g.S.Semiring.laws g.D.Direction.way
           g.met.D.Direction.laws
           (book_view c.self.inside) c.self.invariant.0 (Take c.args.seat c.in-Some.place) _ (made g c),

@@ -1,0 +1,217 @@
+ghost use Rattle.std.specs.Prelude.{◌≡◌, ◌<◌, ◌≤◌, ◌+◌, ◌^◌, [], ◌∷◌, IfOk, OnOk, IsTrue, length};
+ghost use Rattle.std.specs.VecDeque.{deque_len, deque_capacity};
+ghost use Rattle.wpds_base.specs.Limits.{most_seats};
+ghost use Rattle.semiring_laws.specs.Semiring.{Fits};
+ghost use Rattle.weighted_automata.specs.declared.place.Place.{Place as PlaceValue};
+ghost use Rattle.weighted_automata.specs.Places.{has_place};
+ghost use Rattle.witness_graph.specs.declared.node.Node.TheVariants.{Start};
+ghost use Rattle.witness_graph.specs.Nodes.{IsNodeAt};
+ghost use Rattle.saturation_laws.specs.States.{apply, apply_all};
+ghost use Rattle.saturation_laws.specs.Openings.{with_edges, pops_at, pops_from, pops};
+ghost use Rattle.saturation_core.specs.private.Plans.{put, put_all, AreNodesFrom};
+ghost use Rattle.saturation_core.specs.private.Steps.{Becomes, IsKept, HasRoomFor, rule_change};
+
+use crate::change::{node_now, queue_up, weight_after, weight_now};
+use crate::plan::{Planned, goals};
+use crate::queue::enqueue;
+use pushdown_rules::System;
+use semiring_laws::Semiring;
+use std::alloc::Global;
+use std::collections::VecDeque;
+use weighted_automata::{Label, Place, Transitions};
+use witness_graph::{Graph, Node, Side};
+use wpds_base::OutOfMemory;
+
+/// What was found so far: the transitions, the nodes of their runs, and the places that wait, longest first. Where a call
+/// that adds to it is refused, it is left in an unspecified state.
+#[derive(Drop)]
+pub(crate) struct Found<S: Semiring> {
+    pub(crate) transitions: Transitions<S>,
+    pub(crate) graph: Graph,
+    pub(crate) waiting: VecDeque<Place>,
+}
+
+impl<S: Semiring> Found<S> {
+    /// The empty run alone. There are no transitions, and nothing waits.
+    pub(crate) fn new(alloc: Global, side: Side) -> Result<Found<S>, OutOfMemory>
+        ensures transitions { IfOk result (λ f. f.transitions.transitions ≡ []) }
+        ensures nodes { IfOk result (λ f. f.graph.nodes ≡ Start ∷ []) }
+        ensures queue { IfOk result (λ f. f.waiting.items ≡ []) }
+        ensures side { IfOk result (λ f. f.graph.side ≡ side) }
+    {
+        let mut graph = Graph::new(alloc, side);
+        graph.push_node(alloc, Node::Start)?;
+        Ok(Found {
+            transitions: Transitions::new(alloc),
+            graph,
+            waiting: VecDeque::new(alloc),
+        })
+    }
+
+    /// Adds the edges, each with weight one and the node of the empty run.
+    pub(crate) fn add_edges(
+        &mut self,
+        alloc: Global,
+        semiring: &S,
+        edges: &[Place],
+    ) -> Result<(), OutOfMemory>
+        requires node { 0 < length self.old.graph.nodes }
+        requires kept { IsKept (S.operations semiring.now) self.old }
+        ensures state { OnOk result
+            (Becomes self.old (with_edges (S.operations semiring.now) edges.now) self.new) }
+        ensures kept { OnOk result (IsKept (S.operations semiring.now) self.new) }
+        ensures side { self.new.graph.side ≡ self.old.graph.side }
+    {
+        for edge in edges {
+            let one = semiring.one(alloc)?;
+            self.transitions.lower(alloc, *edge, one, 0)?;
+            queue_up(&mut self.waiting, *edge)?;
+        }
+        Ok(())
+    }
+
+    /// Adds what the side adds to the edges: backwards, the place of each pop rule, with the rule's weight.
+    pub(crate) fn add_pops_of(
+        &mut self,
+        alloc: Global,
+        side: Side,
+        system: &System<S>,
+    ) -> Result<(), OutOfMemory>
+        requires kept { IsKept (S.operations system.now.semiring) self.old }
+        ensures state { OnOk result (Becomes self.old
+            (apply_all (S.operations system.now.semiring) (pops side system.now.rules)) self.new) }
+        ensures side { self.new.graph.side ≡ self.old.graph.side }
+    {
+        match side {
+            Side::Pre => self.add_pops(alloc, system),
+            Side::Post => Ok(()),
+        }
+    }
+
+    // Adds the place of each pop rule, with the rule's weight.
+    fn add_pops(&mut self, alloc: Global, system: &System<S>) -> Result<(), OutOfMemory>
+        requires kept { IsKept (S.operations system.now.semiring) self.old }
+        ensures state { OnOk result (Becomes self.old
+            (apply_all (S.operations system.now.semiring) (pops_from 0 system.now.rules))
+            self.new) }
+        ensures side { self.new.graph.side ≡ self.old.graph.side }
+    {
+        for k in 0..system.rules() {
+            self.add_pop(alloc, system, k)?;
+        }
+        Ok(())
+    }
+
+    // Adds the place of a rule, where it is a pop rule.
+    fn add_pop(&mut self, alloc: Global, system: &System<S>, k: u32) -> Result<(), OutOfMemory>
+        requires number { k < length system.now.rules }
+        requires kept { IsKept (S.operations system.now.semiring) self.old }
+        ensures state { OnOk result (Becomes self.old
+            (apply_all (S.operations system.now.semiring) (pops_at k system.now.rules)) self.new) }
+        ensures kept { OnOk result (IsKept (S.operations system.now.semiring) self.new) }
+        ensures side { self.new.graph.side ≡ self.old.graph.side }
+    {
+        let rule = system.rule(k);
+        if !rule.right.as_slice().is_empty() {
+            return Ok(());
+        }
+        let place = Place {
+            from: rule.control,
+            label: Label::Symbol(rule.symbol),
+            to: rule.to,
+        };
+        let semiring = system.semiring();
+        self.apply_rule(alloc, semiring, place, &rule.weight, k)?;
+        Ok(())
+    }
+
+    // Combines the weight of a rule into a place, whose runs get the rule alone.
+    fn apply_rule(
+        &mut self,
+        alloc: Global,
+        semiring: &S,
+        place: Place,
+        weight: &S::W,
+        rule: u32,
+    ) -> Result<(), OutOfMemory>
+        requires kept { IsKept (S.operations semiring.now) self.old }
+        requires weight { Fits (S.operations semiring.now) weight.now }
+        ensures state { OnOk result (Becomes self.old
+            (apply (S.operations semiring.now) (rule_change place weight.now rule)) self.new) }
+        ensures kept { OnOk result (IsKept (S.operations semiring.now) self.new) }
+        ensures side { self.new.graph.side ≡ self.old.graph.side }
+    {
+        let old = weight_now(alloc, semiring, &self.transitions, place)?;
+        let Some(new) = weight_after(alloc, semiring, &old, weight)? else {
+            return Ok(());
+        };
+        let node = Node::Lower {
+            before: node_now(&self.transitions, place),
+            rule: Some(rule),
+            first: None,
+            second: None,
+        };
+        let number = self.graph.push_node(alloc, node)?;
+        self.transitions.lower(alloc, place, new, number)?;
+        queue_up(&mut self.waiting, place)?;
+        Ok(())
+    }
+
+    /// Makes room for the lowerings of a plan, and in the queue for 64 places more. Only the room changes.
+    pub(crate) fn make_room(
+        &mut self,
+        alloc: Global,
+        plan: &[Planned<S>],
+    ) -> Result<(), OutOfMemory>
+        requires few { length plan.now < 2 ^ 63 }
+        ensures state { Becomes self.old (λ st. st) self.new }
+        ensures side { self.new.graph.side ≡ self.old.graph.side }
+        ensures len { deque_len self.new.waiting ≡ deque_len self.old.waiting }
+        ensures capacity { deque_capacity self.old.waiting ≤ deque_capacity self.new.waiting }
+        ensures room { OnOk result (HasRoomFor plan.now self.new) }
+        ensures queue { OnOk result (deque_len self.new.waiting + length plan.now + most_seats
+            ≤ deque_capacity self.new.waiting) }
+    {
+        let places = goals(alloc, plan)?;
+        self.transitions.reserve(alloc, &places)?;
+        self.graph.reserve(alloc, plan.len() as u64)?;
+        self.waiting.reserve(plan.len() + 64)?;
+        Ok(())
+    }
+
+    /// Makes the lowerings of a plan in order, where there is room for them. It takes no memory.
+    pub(crate) fn lower_all(&mut self, alloc: Global, plan: Vec<Planned<S>>)
+        requires nodes { AreNodesFrom (length self.old.graph.nodes) plan.items }
+        requires room { HasRoomFor plan.items self.old }
+        ensures state { Becomes self.old (put_all plan.items) self.new }
+        ensures side { self.new.graph.side ≡ self.old.graph.side }
+        ensures len { deque_len self.new.waiting ≤ deque_len self.old.waiting + length plan.items }
+        ensures capacity { deque_capacity self.new.waiting ≡ deque_capacity self.old.waiting }
+    {
+        let mut rest = VecDeque::from(plan);
+        'steps: while let Some(step) = rest.pop_front() {
+            self.lower(alloc, step);
+        }
+    }
+
+    // Makes one lowering, where there is room for it. It takes no memory.
+    fn lower(&mut self, alloc: Global, step: Planned<S>)
+        requires node { IsNodeAt (length self.old.graph.nodes) step.node }
+        requires place { IsTrue (has_place step.goal self.old.transitions.room) }
+        requires spare { 0 < self.old.graph.spare }
+        requires queue { deque_len self.old.waiting < deque_capacity self.old.waiting }
+        ensures state { Becomes self.old (put step) self.new }
+        ensures room { (x : PlaceValue) → IsTrue (has_place x self.old.transitions.room)
+            → IsTrue (has_place x self.new.transitions.room) }
+        ensures spare { self.old.graph.spare ≤ self.new.graph.spare + 1 }
+        ensures side { self.new.graph.side ≡ self.old.graph.side }
+        ensures len { deque_len self.new.waiting ≤ deque_len self.old.waiting + 1 }
+        ensures capacity { deque_capacity self.new.waiting ≡ deque_capacity self.old.waiting }
+    {
+        let number = self.graph.push_node(alloc, step.node).unwrap();
+        self.transitions
+            .lower(alloc, step.goal, step.weight, number)
+            .unwrap();
+        enqueue(&mut self.waiting, step.goal);
+    }
+}
