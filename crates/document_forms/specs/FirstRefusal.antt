@@ -1,0 +1,141 @@
+-- The first refusal of a document: of the lines that count the first that has a kind below those
+-- above it, and of its kinds the lowest.
+use Rattle.std.specs.Prelude.{◌≡◌, ◌⊎◌, IsTrue, IsFalse, ℕ, ◌+◌, ◌≤◌, Bool, true, false, not, nat_lt, if◌then◌else◌, List, [], ◌∷◌, ◌++◌, length, drop, filter, filter_map, map, Option, Some, None, option_map, option_and_then, unwrap_or}
+use Rattle.std.specs.List.{list_any}
+use Rattle.wpds_base.specs.Faults.{first_fault}
+use Rattle.wpds_base.specs.Limits.{most_bytes}
+use Rattle.wpds_base.specs.Lists.{IsIn}
+use Rattle.wpds_port.specs.declared.Word.{Word}
+use Rattle.document_forms.specs.Lines.{Line, lines, numbered, counts, is_text}
+use Rattle.document_forms.specs.Forms.{Symbols, LineForm, form_of, line_words, is_header}
+use Rattle.document_forms.specs.Refusals.{Kind, TooLong, NotText, Header, Form, NothingAsked, kind_number, Refusal, refusal}
+use Rattle.document_forms.specs.Above.{declared, is_query, above_of}
+use Rattle.document_forms.specs.Kinds.{Conditions, weights_conditions, conditions}
+
+-- ---- the lines that count
+
+-- A line that counts: its number, whether it is text, its words, and the form that they have.
+pub record Counted : Type 0 where
+  pub number : ℕ
+  pub text : Bool
+  pub words : Option (List Word)
+  pub form : Option LineForm
+
+abbrev pub counted_with : Line → Option (List Word) → Counted
+counted_with l ws = record {
+  number = l.number;
+  text = is_text l.bytes;
+  words = ws;
+  form = option_and_then form_of ws;
+}
+
+abbrev pub counted : Line → Counted
+counted l = counted_with l (line_words l.bytes)
+
+abbrev pub counted_lines : List ℕ → List Counted
+counted_lines bytes = map counted (filter (λ l. counts l.bytes) (numbered 1 (lines bytes)))
+
+-- the forms of those that have one
+abbrev pub forms : List Counted → List LineForm
+forms ls = filter_map (λ l. l.form) ls
+
+-- how many symbols a document declares, on all its lines
+abbrev pub all_symbols : List Counted → ℕ
+all_symbols ls = length (declared Symbols (forms (drop 2 ls)))
+
+-- ---- the kinds of a line
+
+abbrev pub is_header_line : Counted → Bool
+is_header_line l = unwrap_or (option_map is_header l.words) false
+
+-- the conditions of the line's form, and that it has one
+abbrev pub by_form : (LineForm → Conditions) → Option LineForm → Conditions
+by_form test None = (true, Form) ∷ []
+by_form test (Some f) = test f
+
+-- The first line is the header, and the second the weights line.
+abbrev pub conditions_below : ℕ → List Counted → Counted → Conditions
+conditions_below all [] l = (not (is_header_line l), Header) ∷ []
+conditions_below all (h ∷ []) l = by_form weights_conditions l.form
+conditions_below all (h ∷ w ∷ above) l =
+    by_form (conditions all (above_of (forms (w ∷ above)))) l.form
+
+abbrev pub line_conditions : ℕ → List Counted → Counted → Conditions
+line_conditions all above l = (not l.text, NotText) ∷ conditions_below all above l
+
+-- The line has this kind, where the document declares so many symbols.
+abbrev pub HasKind : ℕ → List Counted → Counted → Kind → Type 0
+HasKind all above l k = IsIn (true, k) (line_conditions all above l)
+
+-- the kind that counts
+abbrev pub kind_below : ℕ → List Counted → Counted → Option Kind
+kind_below all above l = first_fault (line_conditions all above l)
+
+-- It is the lowest of the kinds that the line has.
+pub record IsLowest (all : ℕ) (above : List Counted) (l : Counted) (k : Kind) : Type 0 where
+  pub has : HasKind all above l k
+  pub lowest : (j : Kind) → HasKind all above l j → kind_number k ≤ kind_number j
+
+-- ---- the first refusal
+
+-- No line has a kind below those above it.
+abbrev pub AreAccepted : ℕ → List Counted → Type 0
+AreAccepted all ls =
+    (above : List Counted) (l : Counted) (below : List Counted) → ls ≡ above ++ l ∷ below
+    → (k : Kind) → HasKind all above l k → ⊥
+
+-- Of these lines the first that has a kind is refused, with the lowest.
+pub record IsRefusedLine (all : ℕ) (ls : List Counted) (r : Refusal) : Type 0 where
+  pub above : List Counted
+  pub line : Counted
+  pub below : List Counted
+  pub split : ls ≡ above ++ line ∷ below
+  pub accepted : AreAccepted all above
+  pub kind : IsLowest all above line r.kind
+  pub number : r.line ≡ line.number
+
+abbrev pub is_short : List ℕ → Bool
+is_short bytes = not (nat_lt most_bytes (length bytes))
+
+-- What is missing behind the last line: a header, or a query.
+abbrev pub missing : List Counted → Option Kind
+missing [] = Some Header
+missing (h ∷ ls) = if list_any is_query (forms ls) then None else Some NothingAsked
+
+-- All lines are accepted, and something is missing on the line after the last.
+pub record IsRefusedEnd (bytes : List ℕ) (r : Refusal) : Type 0 where
+  pub accepted : AreAccepted (all_symbols (counted_lines bytes)) (counted_lines bytes)
+  pub kind : missing (counted_lines bytes) ≡ Some r.kind
+  pub number : r.line ≡ length (lines bytes) + 1
+
+-- The first refusal of the bytes.
+abbrev pub FirstRefusal : List ℕ → Refusal → Type 0
+FirstRefusal bytes r =
+    let ls = counted_lines bytes in
+    (IsFalse (is_short bytes) × (r ≡ refusal 0 TooLong))
+    ⊎ (IsTrue (is_short bytes) × (IsRefusedLine (all_symbols ls) ls r ⊎ IsRefusedEnd bytes r))
+
+-- ---- found line by line
+
+-- the first of the lines that has a kind, below those above and one another
+abbrev pub first_refused : ℕ → (above ls : List Counted) → Option Refusal
+first_refused all above [] = None
+first_refused all above (l ∷ ls) = elim (kind_below all above l) [
+  | Some k ↦ Some (refusal l.number k)
+  | None ↦ first_refused all (above ++ l ∷ []) ls
+]
+
+abbrev pub end_refusal : List ℕ → List Counted → Option Refusal
+end_refusal bytes ls = option_map (refusal (length (lines bytes) + 1)) (missing ls)
+
+abbrev pub refusal_in : List ℕ → List Counted → Option Refusal
+refusal_in bytes ls = elim (first_refused (all_symbols ls) [] ls) [
+  | Some r ↦ Some r
+  | None ↦ end_refusal bytes ls
+]
+
+abbrev pub refusal_of : List ℕ → Option Refusal
+refusal_of bytes = elim (is_short bytes) [
+  | false ↦ Some (refusal 0 TooLong)
+  | true ↦ refusal_in bytes (counted_lines bytes)
+]

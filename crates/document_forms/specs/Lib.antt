@@ -1,0 +1,15 @@
+pub mod FormulaCodes
+pub mod Lines
+pub mod Names
+pub mod Words
+pub mod Patterns
+pub mod Returns
+pub mod Weights
+pub mod Forms
+pub mod Refusals
+pub mod Above
+pub mod Kinds
+pub mod FirstRefusal
+pub mod Documents
+pub mod Languages
+pub mod Writing

@@ -1,0 +1,29 @@
+use wpds_base::Sequence;
+
+/// Numbers of symbols, in the order in which they are written.
+pub type Symbols = Sequence<u32>;
+
+/// The symbols that an item takes.
+#[derive(Debug, Drop)]
+pub enum SetText {
+    /// `.`: all symbols that the document declares.
+    All,
+    /// A symbol, or symbols in braces.
+    Listed(Symbols),
+}
+
+/// An item of a pattern: one symbol of its set or, with a star, any number of them.
+#[derive(Debug, Drop)]
+pub struct ItemText {
+    pub set: SetText,
+    pub star: bool,
+}
+
+pub type ItemTexts = Sequence<ItemText>;
+
+/// A set of configurations as it is written: a control, and items that the stack is read by from its top.
+#[derive(Debug, Drop)]
+pub struct PatternText {
+    pub control: u32,
+    pub items: ItemTexts,
+}
