@@ -1,1 +1,2 @@
 mod RefusalExamples
+mod DocumentExamples

@@ -561,6 +561,10 @@ query_of_an_unknown_control = refl
 query_without_a_side : reach (codes "query p: =>" ∷ []) ≡ Some (refusal 5 Form)
 query_without_a_side = refl
 
+-- the longest mark is `:=`
+no_blank_behind_a_colon : reach (codes "query p:=> p:" ∷ []) ≡ Some (refusal 5 Form)
+no_blank_behind_a_colon = refl
+
 query_with_a_weight : reach (codes "query p: => p: : 5" ∷ []) ≡ Some (refusal 5 Form)
 query_with_a_weight = refl
 
