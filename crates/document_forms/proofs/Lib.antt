@@ -1,2 +1,7 @@
+mod LineLemmas
+mod ItemLemmas
+mod NameLemmas
+mod KindLemmas
+mod RefusalLemmas
 mod RefusalExamples
 mod DocumentExamples

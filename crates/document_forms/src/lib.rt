@@ -4,14 +4,22 @@
 mod document;
 mod expression;
 mod language;
+mod laws;
 mod pattern;
 mod weight;
 
 pub use document::{Document, MapText, Move, Moves, QueryLine, QueryLines, RuleLine, RuleLines};
 pub use expression::Expression;
 pub use language::Language;
+pub use laws::{
+    found_line_by_line, lowest_kind_counts, names_of_a_class, one_cutting_into_lines,
+    one_document_or_one_refusal, one_list_of_items, tests_of_names,
+};
 pub use pattern::{ItemText, ItemTexts, PatternText, SetText, Symbols};
 pub use weight::{
     Action, Actions, Assignment, Assignments, FactSign, FactSigns, FormText, FormTexts, Numbers,
     ValueText, VariableForm, WeightText, WeightsLine,
 };
+
+#[cfg(test)]
+mod tests;

@@ -1,0 +1,65 @@
+//! What the definitions say, as laws.
+
+ghost use Rattle.std.specs.Prelude.{◌≡◌, ◌↔◌, ◌⊎◌, ℕ, Bool, true, false, List, [], ◌∷◌, ◌++◌, Option, Some, Ok, Err};
+ghost use Rattle.std.specs.List.{list_any};
+ghost use Rattle.wpds_base.specs.Lists.{IsIn, IsOnce};
+ghost use Rattle.wpds_port.specs.declared.Word.{Word};
+ghost use Rattle.document_forms.specs.Above.{declared, names_on};
+ghost use Rattle.document_forms.specs.Documents.{Document, read_as, reads_as};
+ghost use Rattle.document_forms.specs.FirstRefusal.{Counted, kind_below, IsLowest, refusal_of, FirstRefusal};
+ghost use Rattle.document_forms.specs.Forms.{Class, LineForm};
+ghost use Rattle.document_forms.specs.Lines.{pieces, IsCut};
+ghost use Rattle.document_forms.specs.Names.{is_among, has_twice};
+ghost use Rattle.document_forms.specs.Patterns.{ItemForm, items_of, AreItems};
+ghost use Rattle.document_forms.specs.Refusals.{Kind, Refusal};
+
+/// Bytes have a document or a first refusal, never both, and one at most of each.
+pub fn one_document_or_one_refusal()
+    ensures one { (bytes : List ℕ)
+        → ((d : Document) × reads_as bytes d) ⊎ ((r : Refusal) × FirstRefusal bytes r) }
+    ensures never_both { (bytes : List ℕ) (d : Document) (r : Refusal)
+        → reads_as bytes d → FirstRefusal bytes r → ⊥ }
+    ensures one_document { (bytes : List ℕ) (d e : Document) → reads_as bytes d → reads_as bytes e → d ≡ e }
+    ensures one_refusal { (bytes : List ℕ) (r q : Refusal) → FirstRefusal bytes r → FirstRefusal bytes q → r ≡ q }
+{}
+
+/// The document and the first refusal are what is found line by line.
+pub fn found_line_by_line()
+    ensures document { (bytes : List ℕ) (d : Document) → (read_as bytes ≡ Ok d) ↔ reads_as bytes d }
+    ensures err { (bytes : List ℕ) (r : Refusal) → (read_as bytes ≡ Err r) ↔ FirstRefusal bytes r }
+    ensures refusal { (bytes : List ℕ) (r : Refusal) → (refusal_of bytes ≡ Some r) ↔ FirstRefusal bytes r }
+{}
+
+/// Of the kinds that a line has the lowest counts.
+pub fn lowest_kind_counts()
+    ensures { (all : ℕ) (above : List Counted) (l : Counted) (k : Kind)
+        → (kind_below all above l ≡ Some k) ↔ IsLowest all above l k }
+{}
+
+/// Bytes are cut into one list of pieces: none holds a line feed, and each but perhaps the last is
+/// ended by one.
+pub fn one_cutting_into_lines()
+    ensures { (bytes : List ℕ) (ps : List (List ℕ)) → (pieces bytes ≡ ps) ↔ IsCut bytes ps }
+{}
+
+/// Words are read as items of a pattern exactly where the items write these words. So they are one
+/// list of items at most.
+pub fn one_list_of_items()
+    ensures { (ws : List Word) (is : List ItemForm) → (items_of ws ≡ Some is) ↔ AreItems ws is }
+{}
+
+/// What the tests of names say.
+pub fn tests_of_names()
+    ensures among { (xs : List (List ℕ)) (x : List ℕ) → (is_among xs x ≡ true) ↔ IsIn x xs }
+    ensures once { (xs : List (List ℕ)) → (has_twice xs ≡ false) ↔ IsOnce xs }
+{}
+
+/// The names of a class are those that lines declare, each once. Behind a line with new names they are
+/// the names before, and then the new ones: so a name's number stays.
+pub fn names_of_a_class()
+    ensures once { (c : Class) (ls : List LineForm) → IsOnce (declared c ls) }
+    ensures new { (c : Class) (ls : List LineForm) (l : LineForm)
+        → list_any (is_among (declared c ls)) (names_on c l) ≡ false
+        → has_twice (names_on c l) ≡ false
+        → declared c (ls ++ l ∷ []) ≡ declared c ls ++ names_on c l }
+{}

@@ -1,0 +1,74 @@
+use crate::{
+    Action, Document, Expression, ItemText, MapText, Move, PatternText, QueryLine, RuleLine,
+    SetText, ValueText, WeightText, WeightsLine,
+};
+use std::alloc::Global;
+use truth_tables::{Expr, eval};
+use wpds_base::{OutOfMemory, Sequence};
+use wpds_port::Text;
+
+type Names = Sequence<Text>;
+
+fn names(alloc: Global, name: &[u8]) -> Result<Names, OutOfMemory> {
+    Ok(Sequence::from_vec(vec![in alloc; Text::of(alloc, name)?]?))
+}
+
+// `wpds 1 / weights relation / controls p / symbols a / variables x / rule p a -> p a a : assume ! x
+// return move x=x / query p: => p: .*`
+fn small(alloc: Global) -> Result<Document<Names>, OutOfMemory> {
+    let inverse = Expr::Not(Box::new(alloc, Expr::Var(0))?);
+    let assume = Action::Assume(Expression::from_expr(inverse));
+    let rule = RuleLine {
+        control: 0,
+        symbol: 0,
+        to: 0,
+        right: Sequence::from_vec(vec![in alloc; 0u32, 0]?),
+        weight: WeightText::Actions(Sequence::from_vec(vec![in alloc; assume]?)),
+        map: Some(MapText {
+            restore: Sequence::from_vec(Vec::new(alloc)),
+            moves: Sequence::from_vec(vec![in alloc; Move { to: 0, from: 0 }]?),
+        }),
+    };
+    let all = ItemText {
+        set: SetText::All,
+        star: true,
+    };
+    let query = QueryLine {
+        from: PatternText {
+            control: 0,
+            items: Sequence::from_vec(Vec::new(alloc)),
+        },
+        to: PatternText {
+            control: 0,
+            items: Sequence::from_vec(vec![in alloc; all]?),
+        },
+    };
+    Ok(Document {
+        weights: WeightsLine::Relation,
+        controls: names(alloc, b"p")?,
+        symbols: names(alloc, b"a")?,
+        items: names(alloc, b"x")?,
+        rules: Sequence::from_vec(vec![in alloc; rule]?),
+        queries: Sequence::from_vec(vec![in alloc; query]?),
+    })
+}
+
+#[test]
+fn a_document_is_made(rt: HostRuntime) -> Result<(), OutOfMemory> {
+    let document = small(rt.alloc())?;
+    assert_eq!(rt; document.weights, WeightsLine::Relation);
+    assert_eq!(rt; document.controls.len(), 1);
+    assert_eq!(rt; document.rules.len(), 1);
+    assert_eq!(rt; document.queries.len(), 1);
+    Ok(())
+}
+
+#[test]
+fn an_expression_is_given_back(rt: HostRuntime) -> Result<(), OutOfMemory> {
+    let value = ValueText::Is(Expression::from_expr(Expr::Const(true)));
+    if let ValueText::Is(expression) = value {
+        assert_eq!(rt; eval(expression.as_expr(), [].as_slice()), true);
+        assert_eq!(rt; eval(&expression.into_expr(), [].as_slice()), true);
+    }
+    Ok(())
+}
