@@ -1,6 +1,7 @@
 mod LineLemmas
 mod ItemLemmas
 mod NameLemmas
+mod CutLemmas
 mod KindLemmas
 mod RefusalLemmas
 mod RefusalExamples

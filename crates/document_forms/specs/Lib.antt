@@ -6,6 +6,7 @@ pub mod Patterns
 pub mod Returns
 pub mod Weights
 pub mod Forms
+pub mod FormWords
 pub mod Refusals
 pub mod Above
 pub mod Kinds
