@@ -128,17 +128,17 @@ names_have_no_colon (x ∷ xs) = names_have_no_colon xs
 
 -- ---- pairs
 
-abbrev concat : List (List Word) → List Word
-concat ps = flat_map (λ p. p) ps
+abbrev pub all_pieces : List (List Word) → List Word
+all_pieces ps = flat_map (λ p. p) ps
 
-in_front_concat : (w : Word) (ps : List (List Word)) → concat (in_front w ps) ≡ w ∷ concat ps
-in_front_concat w [] = refl
-in_front_concat w (p ∷ ps) = refl
+in_front_joined : (w : Word) (ps : List (List Word)) → all_pieces (in_front w ps) ≡ w ∷ all_pieces ps
+in_front_joined w [] = refl
+in_front_joined w (p ∷ ps) = refl
 
-pub pairs_concat : (ws : List Word) → concat (pairs ws) ≡ ws
-pairs_concat [] = refl
-pairs_concat (w ∷ ws) = go (begins_pair (w ∷ ws)) (pairs_concat ws)
+pub pairs_joined : (ws : List Word) → all_pieces (pairs ws) ≡ ws
+pairs_joined [] = refl
+pairs_joined (w ∷ ws) = go (begins_pair (w ∷ ws)) (pairs_joined ws)
   where
-    go : (t : Bool) → concat (pairs ws) ≡ ws → concat (cond t ([] ∷ in_front w (pairs ws)) (in_front w (pairs ws))) ≡ w ∷ ws
-    go true e = in_front_concat w (pairs ws) ∙ ap (λ v. w ∷ v) e
-    go false e = in_front_concat w (pairs ws) ∙ ap (λ v. w ∷ v) e
+    go : (t : Bool) → all_pieces (pairs ws) ≡ ws → all_pieces (cond t ([] ∷ in_front w (pairs ws)) (in_front w (pairs ws))) ≡ w ∷ ws
+    go true e = in_front_joined w (pairs ws) ∙ ap (λ v. w ∷ v) e
+    go false e = in_front_joined w (pairs ws) ∙ ap (λ v. w ∷ v) e

@@ -2,6 +2,8 @@ mod LineLemmas
 mod ItemLemmas
 mod NameLemmas
 mod CutLemmas
+mod FormLemmas
+mod AboveLemmas
 mod KindLemmas
 mod RefusalLemmas
 mod RefusalExamples

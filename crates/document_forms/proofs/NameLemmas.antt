@@ -77,7 +77,7 @@ once_more (x ∷ xs) ys n t =
     ap (λ l. x ∷ filter (other x) l) (once_more xs ys (fewer_among x (once xs) ys n) t)
     ∙ ap (λ l. x ∷ l) (filter_append x (once xs) ys ∙ ap (λ l. filter (other x) (once xs) ++ l) (filter_none x ys (first_not_among x (filter (other x) (once xs)) ys n)))
 
-flat_map_append : (c : Class) (ls : List LineForm) (l : LineForm) → flat_map (names_on c) (ls ++ l ∷ []) ≡ flat_map (names_on c) ls ++ names_on c l
+pub flat_map_append : (c : Class) (ls : List LineForm) (l : LineForm) → flat_map (names_on c) (ls ++ l ∷ []) ≡ flat_map (names_on c) ls ++ names_on c l
 flat_map_append c [] l = append-nil (names_on c l)
 flat_map_append c (k ∷ ls) l = ap (λ x. names_on c k ++ x) (flat_map_append c ls l) ∙ sym (append_assoc (names_on c k) (flat_map (names_on c) ls) (names_on c l))
 

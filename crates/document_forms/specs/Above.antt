@@ -1,5 +1,5 @@
 -- What the lines above say: the weights, the names that are declared, how many rules and queries.
-use Rattle.std.specs.Prelude.{ℕ, Bool, true, false, if◌then◌else◌, List, [], ◌∷◌, flat_map, count_by}
+use Rattle.std.specs.Prelude.{ℕ, ◌+◌, Bool, true, false, if◌then◌else◌, List, [], ◌∷◌, ◌++◌, flat_map, count_by}
 use Rattle.wpds_base.specs.Limits.{most_controls, most_symbols, most_facts, most_copied, most_related}
 use Rattle.truth_tables.specs.Grammar.{number_of}
 use Rattle.document_forms.specs.declared.weight.WeightsLine.{WeightsLine}
@@ -94,3 +94,12 @@ abbrev pub class_names : Above → Class → List (List ℕ)
 class_names a Controls = a.controls
 class_names a Symbols = a.symbols
 class_names a _ = a.items
+
+-- what is said with an accepted line more
+abbrev pub with_line : Above → LineForm → Above
+with_line a (OfWeights w) = a
+with_line a (OfNames Controls xs) = record a { controls = a.controls ++ xs }
+with_line a (OfNames Symbols xs) = record a { symbols = a.symbols ++ xs }
+with_line a (OfNames _ xs) = record a { items = a.items ++ xs }
+with_line a (OfRule r) = record a { rules = a.rules + 1 }
+with_line a (OfQuery p q) = record a { queries = a.queries + 1 }

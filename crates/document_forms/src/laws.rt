@@ -1,13 +1,16 @@
 //! What the definitions say, as laws.
 
-ghost use Rattle.std.specs.Prelude.{◌≡◌, ◌↔◌, ◌⊎◌, ℕ, Bool, true, false, List, [], ◌∷◌, ◌++◌, Option, Some, Ok, Err};
+ghost use Rattle.std.specs.Prelude.{◌≡◌, ◌↔◌, ◌⊎◌, ℕ, Bool, true, false, List, [], ◌∷◌, ◌++◌, Option, Some, None, Ok, Err};
 ghost use Rattle.std.specs.List.{list_any};
+ghost use Rattle.wpds_base.specs.Faults.{first_fault};
 ghost use Rattle.wpds_base.specs.Lists.{IsIn, IsOnce};
 ghost use Rattle.wpds_port.specs.declared.Word.{Word};
-ghost use Rattle.document_forms.specs.Above.{declared, names_on};
+ghost use Rattle.document_forms.specs.Above.{declared, names_on, above_of, with_line};
 ghost use Rattle.document_forms.specs.Documents.{Document, read_as, reads_as};
 ghost use Rattle.document_forms.specs.FirstRefusal.{Counted, kind_below, IsLowest, refusal_of, FirstRefusal};
-ghost use Rattle.document_forms.specs.Forms.{Class, LineForm};
+ghost use Rattle.document_forms.specs.Forms.{Class, LineForm, WeightsForm, OfWeights, form_of};
+ghost use Rattle.document_forms.specs.FormWords.{IsForm};
+ghost use Rattle.document_forms.specs.Kinds.{conditions};
 ghost use Rattle.document_forms.specs.Lines.{pieces, IsCut};
 ghost use Rattle.document_forms.specs.Names.{is_among, has_twice};
 ghost use Rattle.document_forms.specs.Patterns.{ItemForm, items_of, AreItems};
@@ -48,6 +51,12 @@ pub fn one_list_of_items()
     ensures { (ws : List Word) (is : List ItemForm) → (items_of ws ≡ Some is) ↔ AreItems ws is }
 {}
 
+/// Words have a form exactly where it writes them and keeps to its limits. So a line has one form at
+/// most, and a form is that of one list of words.
+pub fn one_form_a_line()
+    ensures { (ws : List Word) (f : LineForm) → (form_of ws ≡ Some f) ↔ IsForm ws f }
+{}
+
 /// What the tests of names say.
 pub fn tests_of_names()
     ensures among { (xs : List (List ℕ)) (x : List ℕ) → (is_among xs x ≡ true) ↔ IsIn x xs }
@@ -62,4 +71,11 @@ pub fn names_of_a_class()
         → list_any (is_among (declared c ls)) (names_on c l) ≡ false
         → has_twice (names_on c l) ≡ false
         → declared c (ls ++ l ∷ []) ≡ declared c ls ++ names_on c l }
+{}
+
+/// What is said above a line that is accepted, and with it.
+pub fn above_with_a_line()
+    ensures { (all : ℕ) (w : WeightsForm) (ls : List LineForm) (f : LineForm)
+        → first_fault (conditions all (above_of (OfWeights w ∷ ls)) f) ≡ None
+        → above_of ((OfWeights w ∷ ls) ++ f ∷ []) ≡ with_line (above_of (OfWeights w ∷ ls)) f }
 {}
