@@ -169,7 +169,8 @@ queries_on a (OfQuery p q) = query_value a p q ∷ []
 queries_on a _ = []
 
 -- what each line gives below the lines above it
-abbrev pub gathered : {A : Type 0} → (Above → LineForm → List A) → (above ls : List LineForm) → List A
+abbrev pub gathered :
+    {A : Type 0} → (Above → LineForm → List A) → (above ls : List LineForm) → List A
 gathered f above [] = []
 gathered f above (l ∷ ls) = f (above_of above) l ++ gathered f (above ++ l ∷ []) ls
 

@@ -27,7 +27,8 @@ IsEnded bytes p Rest = (rest : List ℕ) × (bytes ≡ p ++ 10 ∷ rest) × Rest
 abbrev pub IsLast : List ℕ → List ℕ → List (List ℕ) → Type 0
 IsLast bytes p ps = (bytes ≡ p) × (p ≢ []) × (ps ≡ [])
 
--- The bytes are these pieces: none holds a line feed, and each but perhaps the last is ended by one.
+-- The bytes are these pieces: none holds a line feed, and each but perhaps the last is ended by
+-- one.
 abbrev pub IsCut : List ℕ → List (List ℕ) → Type 0
 IsCut bytes [] = bytes ≡ []
 IsCut bytes (p ∷ ps) =

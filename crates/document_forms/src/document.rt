@@ -42,8 +42,8 @@ pub struct QueryLine {
 /// The queries of a document, in the order of their lines.
 pub type QueryLines = Sequence<QueryLine>;
 
-/// A document, with numbers in place of names. `N` keeps the names of a class, in the order in which they are declared: a
-/// name's number is its place, from 0.
+/// A document, with numbers in place of names. `N` keeps the names of a class, in the order in
+/// which they are declared: a name's number is its place, from 0.
 #[derive(Debug, Drop)]
 pub struct Document<N: Drop> {
     pub weights: WeightsLine,

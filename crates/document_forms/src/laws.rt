@@ -22,15 +22,18 @@ pub fn one_document_or_one_refusal()
         → ((d : Document) × reads_as bytes d) ⊎ ((r : Refusal) × FirstRefusal bytes r) }
     ensures never_both { (bytes : List ℕ) (d : Document) (r : Refusal)
         → reads_as bytes d → FirstRefusal bytes r → ⊥ }
-    ensures one_document { (bytes : List ℕ) (d e : Document) → reads_as bytes d → reads_as bytes e → d ≡ e }
-    ensures one_refusal { (bytes : List ℕ) (r q : Refusal) → FirstRefusal bytes r → FirstRefusal bytes q → r ≡ q }
+    ensures one_document { (bytes : List ℕ) (d e : Document)
+        → reads_as bytes d → reads_as bytes e → d ≡ e }
+    ensures one_refusal { (bytes : List ℕ) (r q : Refusal)
+        → FirstRefusal bytes r → FirstRefusal bytes q → r ≡ q }
 {}
 
 /// The document and the first refusal are what is found line by line.
 pub fn found_line_by_line()
     ensures document { (bytes : List ℕ) (d : Document) → (read_as bytes ≡ Ok d) ↔ reads_as bytes d }
     ensures err { (bytes : List ℕ) (r : Refusal) → (read_as bytes ≡ Err r) ↔ FirstRefusal bytes r }
-    ensures refusal { (bytes : List ℕ) (r : Refusal) → (refusal_of bytes ≡ Some r) ↔ FirstRefusal bytes r }
+    ensures refusal { (bytes : List ℕ) (r : Refusal)
+        → (refusal_of bytes ≡ Some r) ↔ FirstRefusal bytes r }
 {}
 
 /// Of the kinds that a line has the lowest counts.
@@ -51,8 +54,8 @@ pub fn one_list_of_items()
     ensures { (ws : List Word) (is : List ItemForm) → (items_of ws ≡ Some is) ↔ AreItems ws is }
 {}
 
-/// Words have a form exactly where it writes them and keeps to its limits. So a line has one form at
-/// most, and a form is that of one list of words.
+/// Words have a form exactly where it writes them and keeps to its limits. So a line has one form
+/// at most, and a form is that of one list of words.
 pub fn one_form_a_line()
     ensures { (ws : List Word) (f : LineForm) → (form_of ws ≡ Some f) ↔ IsForm ws f }
 {}
@@ -63,8 +66,8 @@ pub fn tests_of_names()
     ensures once { (xs : List (List ℕ)) → (has_twice xs ≡ false) ↔ IsOnce xs }
 {}
 
-/// The names of a class are those that lines declare, each once. Behind a line with new names they are
-/// the names before, and then the new ones: so a name's number stays.
+/// The names of a class are those that lines declare, each once. Behind a line with new names they
+/// are the names before, and then the new ones: so a name's number stays.
 pub fn names_of_a_class()
     ensures once { (c : Class) (ls : List LineForm) → IsOnce (declared c ls) }
     ensures new { (c : Class) (ls : List LineForm) (l : LineForm)

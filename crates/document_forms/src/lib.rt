@@ -1,4 +1,5 @@
-//! The text of pushdown systems, version 1: which bytes are which document, and which line of the others is refused first.
+//! The text of pushdown systems, version 1: which bytes are which document, and which line of the
+//! others is refused first.
 #![tactic(auto)]
 
 mod document;

@@ -21,7 +21,8 @@ pub struct ItemText {
 
 pub type ItemTexts = Sequence<ItemText>;
 
-/// A set of configurations as it is written: a control, and items that the stack is read by from its top.
+/// A set of configurations as it is written: a control, and items by which the stack is read from
+/// its top.
 #[derive(Debug, Drop)]
 pub struct PatternText {
     pub control: u32,

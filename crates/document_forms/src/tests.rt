@@ -13,8 +13,8 @@ fn names(alloc: Global, name: &[u8]) -> Result<Names, OutOfMemory> {
     Ok(Sequence::from_vec(vec![in alloc; Text::of(alloc, name)?]?))
 }
 
-// `wpds 1 / weights relation / controls p / symbols a / variables x / rule p a -> p a a : assume ! x
-// return move x=x / query p: => p: .*`
+// `wpds 1 / weights relation / controls p / symbols a / variables x /
+// rule p a -> p a a : assume ! x return move x=x / query p: => p: .*`
 fn small(alloc: Global) -> Result<Document<Names>, OutOfMemory> {
     let inverse = Expr::Not(Box::new(alloc, Expr::Var(0))?);
     let assume = Action::Assume(Expression::from_expr(inverse));

@@ -29,13 +29,14 @@ pub struct FactSign {
 
 pub type FactSigns = Sequence<FactSign>;
 
-/// What a variable is after a copy: varying, or the meet of a constant and the old values of variables.
+/// What a variable is after a copy: varying, or the meet of a constant and the old values of
+/// variables.
 #[derive(Clone, Copy, Debug, PartialEq, Eq)]
 pub enum FormText {
     /// `?`, or two different numbers.
     Varying,
-    /// The number that is written, if one is, and the variables: bit `v` stands for variable `v`. `undef` has
-    /// neither.
+    /// The number that is written, if one is, and the variables: bit `v` stands for variable `v`.
+    /// `undef` has neither.
     Meet { constant: Option<i64>, from: u64 },
 }
 
