@@ -4,6 +4,9 @@ mod NameLemmas
 mod CutLemmas
 mod FormLemmas
 mod AboveLemmas
+mod LawfulLemmas
+mod RuleLemmas
+mod PatternLemmas
 mod KindLemmas
 mod RefusalLemmas
 mod RefusalExamples

@@ -12,5 +12,6 @@ pub mod Above
 pub mod Kinds
 pub mod FirstRefusal
 pub mod Documents
+pub mod Lawful
 pub mod Languages
 pub mod Writing

@@ -1,0 +1,93 @@
+-- What every document keeps to: its numbers are those of its names, its counts are within the
+-- limits, and what may stand once stands once.
+use Rattle.std.specs.Prelude.{◌≡◌, IsTrue, ℕ, ◌<◌, ◌≤◌, ◌^◌, ◌⊎◌, List, [], length, map, All, Option, Some, None}
+use Rattle.wpds_base.specs.Limits.{most_controls, most_symbols, most_pushed, most_items}
+use Rattle.wpds_base.specs.Lists.{IsOnce}
+use Rattle.truth_tables.specs.Formulas.{is_over}
+use Rattle.document_forms.specs.declared.weight.WeightsLine.{WeightsLine}
+use Rattle.document_forms.specs.declared.weight.WeightsLine.TheVariants.{Cost, GenKill, Copy, Relation}
+use Rattle.document_forms.specs.declared.weight.FormText.{FormText}
+use Rattle.document_forms.specs.declared.weight.FormText.TheVariants.{Varying, Meet}
+use Rattle.document_forms.specs.declared.weight.ValueText.{ValueText}
+use Rattle.document_forms.specs.declared.weight.ValueText.TheVariants.{Free, Is}
+use Rattle.document_forms.specs.declared.weight.Assignment.{Assignment}
+use Rattle.document_forms.specs.declared.weight.Action.{Action}
+use Rattle.document_forms.specs.declared.weight.Action.TheVariants.{Assume, Choose, Assign}
+use Rattle.document_forms.specs.declared.weight.WeightText.{WeightText}
+use Rattle.document_forms.specs.declared.weight.WeightText.TheVariants.{One, Zero, Number, Facts, Forms, Actions}
+use Rattle.document_forms.specs.declared.pattern.SetText.{SetText}
+use Rattle.document_forms.specs.declared.pattern.SetText.TheVariants.{All as AllSymbols, Listed}
+use Rattle.document_forms.specs.declared.pattern.PatternText.{PatternText}
+use Rattle.document_forms.specs.declared.document.MapText.{MapText}
+use Rattle.document_forms.specs.declared.document.RuleLine.{RuleLine}
+use Rattle.document_forms.specs.declared.document.QueryLine.{QueryLine}
+use Rattle.document_forms.specs.Kinds.{allows_restore, allows_moves}
+use Rattle.document_forms.specs.Documents.{Document}
+
+abbrev pub AreBelow : ℕ → List ℕ → Type 0
+AreBelow n ks = All (λ k. k < n) ks
+
+-- ---- weights over so many facts or variables
+
+abbrev pub IsFormText : ℕ → FormText → Type 0
+IsFormText items Varying = Unit {0}
+IsFormText items (Meet c bits) = bits < 2 ^ items
+
+abbrev pub IsValueText : ℕ → ValueText → Type 0
+IsValueText items Free = Unit {0}
+IsValueText items (Is f) = IsTrue (is_over items f)
+
+abbrev pub IsAction : ℕ → Action → Type 0
+IsAction items (Assume f) = IsTrue (is_over items f)
+IsAction items (Choose ks) = AreBelow items ks
+IsAction items (Assign ps) =
+    AreBelow items (map (λ p. p.variable) ps) × All (λ p. IsValueText items p.value) ps
+
+-- a weight of a document with these weights
+abbrev pub IsWeightText : WeightsLine → ℕ → WeightText → Type 0
+IsWeightText weights items One = Unit {0}
+IsWeightText weights items Zero = Unit {0}
+IsWeightText (Cost cap) items (Number n) = n < 2 ^ 64
+IsWeightText GenKill items (Facts ss) = AreBelow items (map (λ s. s.fact) ss)
+IsWeightText Copy items (Forms ps) =
+    AreBelow items (map (λ p. p.variable) ps) × All (λ p. IsFormText items p.form) ps
+IsWeightText Relation items (Actions acts) = All (IsAction items) acts
+IsWeightText _ _ _ = ⊥
+
+-- ---- return maps, rules and patterns
+
+-- A map that is not plain stands on a push, and has what the weights allow alone.
+pub record IsPushMap (weights : WeightsLine) (items : ℕ) (right : List ℕ) (m : MapText) : Type 0 where
+  pub push : length right ≡ most_pushed
+  pub restore : AreBelow items m.restore
+  pub to : AreBelow items (map (λ v. v.to) m.moves)
+  pub from : AreBelow items (map (λ v. v.from) m.moves)
+  pub restores : IsTrue (allows_restore weights) ⊎ (m.restore ≡ [])
+  pub moves : IsTrue (allows_moves weights) ⊎ (m.moves ≡ [])
+
+abbrev pub IsMapText : WeightsLine → ℕ → (right : List ℕ) → Option MapText → Type 0
+IsMapText weights items right None = Unit {0}
+IsMapText weights items right (Some m) = IsPushMap weights items right m
+
+-- A rule over so many controls, symbols, and facts or variables.
+pub record IsRuleLine (weights : WeightsLine) (controls symbols items : ℕ) (r : RuleLine) : Type 0 where
+  pub control : r.control < controls
+  pub symbol : r.symbol < symbols
+  pub to : r.to < controls
+  pub right : AreBelow symbols r.right
+  pub short : length r.right ≤ most_pushed
+  pub weight : IsWeightText weights items r.weight
+  pub map : IsMapText weights items r.right r.map
+
+abbrev pub IsSetText : ℕ → SetText → Type 0
+IsSetText symbols AllSymbols = Unit {0}
+IsSetText symbols (Listed gs) = AreBelow symbols gs × IsOnce gs
+
+pub record IsPatternText (controls symbols : ℕ) (p : PatternText) : Type 0 where
+  pub control : p.control < controls
+  pub items : All (λ i. IsSetText symbols i.set) p.items
+  pub few : length p.items ≤ most_items
+
+pub record IsQueryLine (controls symbols : ℕ) (q : QueryLine) : Type 0 where
+  pub from : IsPatternText controls symbols q.from
+  pub to : IsPatternText controls symbols q.to
