@@ -7,6 +7,8 @@ mod AboveLemmas
 mod LawfulLemmas
 mod RuleLemmas
 mod PatternLemmas
+mod GrowthLemmas
+mod DocumentLemmas
 mod KindLemmas
 mod RefusalLemmas
 mod RefusalExamples

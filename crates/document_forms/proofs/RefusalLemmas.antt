@@ -9,7 +9,7 @@ use Rattle.document_forms.proofs.KindLemmas.{lowest_kind, no_kind}
 
 -- ---- lines behind others
 
-abbrev AcceptedFrom : ℕ → (pre ls : List Counted) → Type 0
+abbrev pub AcceptedFrom : ℕ → (pre ls : List Counted) → Type 0
 AcceptedFrom all pre ls =
     (above : List Counted) (l : Counted) (below : List Counted) → ls ≡ above ++ l ∷ below
     → (k : Kind) → HasKind all (pre ++ above) l k → ⊥
@@ -19,13 +19,13 @@ none_split [] l below e = cc
 none_split (x ∷ above) l below e = cc
 
 -- the first line has no kind
-first_accepted :
+pub first_accepted :
     (all : ℕ) (pre ls : List Counted) (x : Counted)
     → AcceptedFrom all pre (x ∷ ls) → kind_below all pre x ≡ None
 first_accepted all pre ls x h =
     (no_kind all pre x).1 (λ k has. h [] x ls refl k (subst (λ p. HasKind all p x k) (sym (append-nil pre)) has))
 
-further_accepted :
+pub further_accepted :
     (all : ℕ) (pre ls : List Counted) (x : Counted)
     → AcceptedFrom all pre (x ∷ ls) → AcceptedFrom all (pre ++ x ∷ []) ls
 further_accepted all pre ls x h above l below e k has =

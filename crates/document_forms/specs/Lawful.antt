@@ -91,3 +91,11 @@ pub record IsPatternText (controls symbols : ℕ) (p : PatternText) : Type 0 whe
 pub record IsQueryLine (controls symbols : ℕ) (q : QueryLine) : Type 0 where
   pub from : IsPatternText controls symbols q.from
   pub to : IsPatternText controls symbols q.to
+
+-- A document over its own names.
+pub record IsDocument (d : Document) : Type 0 where
+  pub controls : IsOnce d.controls
+  pub symbols : IsOnce d.symbols
+  pub items : IsOnce d.items
+  pub rules : All (IsRuleLine d.weights (length d.controls) (length d.symbols) (length d.items)) d.rules
+  pub queries : All (IsQueryLine (length d.controls) (length d.symbols)) d.queries

@@ -1,0 +1,189 @@
+-- A document that is read keeps to what every document keeps to.
+use Rattle.std.proofs.Common.{◌≡◌, ◌≢◌, inl, inr, ℕ, ◌+◌, ◌<◌, ◌≤◌, Bool, true, false, not, cond, ◌&&◌, List, [], ◌∷◌, ◌++◌, map, length, Option, Some, None, refl, sym, ap, ◌∙◌, subst, arith, le_refl, le_trans, append_assoc, append-nil, length-append}
+use Rattle.std.specs.Prelude.{All, filter_map, option_map, option_and_then, nat_le, IsTrue, if◌then◌else◌, filter}
+use Rattle.std.specs.List.{list_any, list_all, cons_option}
+use Rattle.std.proofs.lemmas.Bool.{and_parts, leb-true}
+use Rattle.std.proofs.lemmas.List.Elements.{All-nil, All-cons, All-append, filter_map-append}
+use Rattle.wpds_base.specs.Faults.{first_fault}
+use Rattle.wpds_base.specs.Limits.{most_pushed}
+use Rattle.wpds_port.specs.declared.Word.{Word}
+use Rattle.document_forms.specs.declared.document.RuleLine.{RuleLine}
+use Rattle.document_forms.specs.declared.document.QueryLine.{QueryLine}
+use Rattle.document_forms.specs.Lines.{Line, numbered, counts, lines}
+use Rattle.document_forms.specs.Forms.{WeightsForm, Class, Controls, Symbols, Facts, Variables, RuleForm, LineForm, OfWeights, OfNames, OfRule, OfQuery, form_of, line_words}
+use Rattle.document_forms.specs.FormWords.{is_form, has_none, is_back, right_words}
+use Rattle.document_forms.specs.Words.{is_return}
+use Rattle.document_forms.specs.Patterns.{PatternForm}
+use Rattle.document_forms.specs.Refusals.{Kind, NotText, Form, Count}
+use Rattle.document_forms.specs.Above.{weights_line, item_class, Above, above_of, with_line, is_query}
+use Rattle.document_forms.specs.Kinds.{Conditions, weights_conditions, conditions}
+use Rattle.document_forms.specs.FirstRefusal.{Counted, counted, counted_lines, forms, all_symbols, by_form, kind_below, missing, AreAccepted}
+use Rattle.document_forms.specs.Documents.{Document, rules_on, queries_on, rule_value, query_value, gathered, body, document_of, reads_as}
+use Rattle.document_forms.specs.Lawful.{IsRuleLine, IsQueryLine, IsDocument}
+use Rattle.document_forms.proofs.NameLemmas.{declared_once}
+use Rattle.document_forms.proofs.FormLemmas.{one_form}
+use Rattle.document_forms.proofs.AboveLemmas.{line_more}
+use Rattle.document_forms.proofs.RuleLemmas.{first_false, rule_lawful}
+use Rattle.document_forms.proofs.PatternLemmas.{query_lawful}
+use Rattle.document_forms.proofs.GrowthLemmas.{rule_with_more, query_with_more}
+use Rattle.document_forms.proofs.RefusalLemmas.{AcceptedFrom, first_accepted, further_accepted}
+
+-- ---- more is said with each line
+
+pub record Grows (a b : Above) : Type 0 where
+  pub controls : length a.controls ≤ length b.controls
+  pub symbols : length a.symbols ≤ length b.symbols
+  pub items : length a.items ≤ length b.items
+
+grows_same : (a : Above) → Grows a a
+grows_same a = record { controls = le_refl (length a.controls); symbols = le_refl (length a.symbols); items = le_refl (length a.items) }
+
+grows_on : (a b c : Above) → Grows a b → Grows b c → Grows a c
+grows_on a b c g h = record { controls = le_trans g.controls h.controls; symbols = le_trans g.symbols h.symbols; items = le_trans g.items h.items }
+
+longer : (xs ys : List (List ℕ)) → length xs ≤ length (xs ++ ys)
+longer xs ys = let e = length-append xs ys in omega arith
+
+grows_with : (a : Above) (f : LineForm) → Grows a (with_line a f)
+grows_with a (OfWeights w) = grows_same a
+grows_with a (OfNames Controls xs) = record { controls = longer a.controls xs; symbols = le_refl (length a.symbols); items = le_refl (length a.items) }
+grows_with a (OfNames Symbols xs) = record { controls = le_refl (length a.controls); symbols = longer a.symbols xs; items = le_refl (length a.items) }
+grows_with a (OfNames Facts xs) = record { controls = le_refl (length a.controls); symbols = le_refl (length a.symbols); items = longer a.items xs }
+grows_with a (OfNames Variables xs) = record { controls = le_refl (length a.controls); symbols = le_refl (length a.symbols); items = longer a.items xs }
+grows_with a (OfRule r) = record { controls = le_refl (length a.controls); symbols = le_refl (length a.symbols); items = le_refl (length a.items) }
+grows_with a (OfQuery p q) = record { controls = le_refl (length a.controls); symbols = le_refl (length a.symbols); items = le_refl (length a.items) }
+
+-- ---- accepted forms
+
+-- each has none of its kinds below those above it
+abbrev AcceptedForms : ℕ → (pre fs : List LineForm) → Type 0
+AcceptedForms all pre [] = Unit {0}
+AcceptedForms all pre (f ∷ fs) = (is_form f ≡ true) × (first_fault (conditions all (above_of pre) f) ≡ None) × AcceptedForms all (pre ++ f ∷ []) fs
+
+module _ (all : ℕ) (w : WeightsForm) where
+  joined : (ls : List LineForm) (f : LineForm) (fs : List LineForm) → (OfWeights w ∷ (ls ++ f ∷ [])) ++ fs ≡ (OfWeights w ∷ ls) ++ f ∷ fs
+  joined ls f fs = ap (λ l. OfWeights w ∷ l) (append_assoc ls (f ∷ []) fs)
+
+  grows_to : (ls fs : List LineForm) → AcceptedForms all (OfWeights w ∷ ls) fs → Grows (above_of (OfWeights w ∷ ls)) (above_of ((OfWeights w ∷ ls) ++ fs))
+  grows_to ls [] h = subst (λ l. Grows (above_of (OfWeights w ∷ ls)) (above_of (OfWeights w ∷ l))) (sym (append-nil ls)) (grows_same (above_of (OfWeights w ∷ ls)))
+  grows_to ls (f ∷ fs) h =
+      let a = above_of (OfWeights w ∷ ls) in
+      let b = above_of (OfWeights w ∷ (ls ++ f ∷ [])) in
+      let one : Grows a b = subst (Grows a) (sym (line_more all w ls f h.1)) (grows_with a f) in
+      let more = grows_to (ls ++ f ∷ []) fs h.2 in
+      subst (λ l. Grows a (above_of l)) (joined ls f fs) (grows_on a b (above_of ((OfWeights w ∷ (ls ++ f ∷ [])) ++ fs)) one more)
+
+  abbrev RuleAt : Above → RuleLine → Type 0
+  RuleAt a r = IsRuleLine (weights_line w) (length a.controls) (length a.symbols) (length a.items) r
+
+  abbrev QueryAt : Above → QueryLine → Type 0
+  QueryAt a q = IsQueryLine (length a.controls) (length a.symbols) q
+
+  rules_here : (ls : List LineForm) (b : Above) (f : LineForm) → Grows (above_of (OfWeights w ∷ ls)) b → is_form f ≡ true → first_fault (conditions all (above_of (OfWeights w ∷ ls)) f) ≡ None → All (RuleAt b) (rules_on (above_of (OfWeights w ∷ ls)) f)
+  rules_here ls b (OfWeights v) g o h = All-nil (RuleAt b)
+  rules_here ls b (OfNames c xs) g o h = All-nil (RuleAt b)
+  rules_here ls b (OfRule r) g o h =
+      let a = above_of (OfWeights w ∷ ls) in
+      let short = leb-true (length r.right) most_pushed (and_parts (nat_le (length r.right) most_pushed) (has_none is_return (right_words r) && is_back r.back) o).0 in
+      All-cons (RuleAt b) (rule_value a r) []
+          (rule_with_more (weights_line w) (length a.controls) (length a.symbols) (length a.items) (length b.controls) (length b.symbols) (length b.items) g.controls g.symbols g.items (rule_value a r) (rule_lawful a r short h))
+          (All-nil (RuleAt b))
+  rules_here ls b (OfQuery p q) g o h = All-nil (RuleAt b)
+
+  queries_here : (ls : List LineForm) (b : Above) (f : LineForm) → Grows (above_of (OfWeights w ∷ ls)) b → first_fault (conditions all (above_of (OfWeights w ∷ ls)) f) ≡ None → All (QueryAt b) (queries_on (above_of (OfWeights w ∷ ls)) f)
+  queries_here ls b (OfWeights v) g h = All-nil (QueryAt b)
+  queries_here ls b (OfNames c xs) g h = All-nil (QueryAt b)
+  queries_here ls b (OfRule r) g h = All-nil (QueryAt b)
+  queries_here ls b (OfQuery p q) g h =
+      let a = above_of (OfWeights w ∷ ls) in
+      All-cons (QueryAt b) (query_value a p q) []
+          (query_with_more (length a.controls) (length a.symbols) (length b.controls) (length b.symbols) g.controls g.symbols (query_value a p q) (query_lawful all a p q h))
+          (All-nil (QueryAt b))
+
+  rules_all : (ls fs : List LineForm) → AcceptedForms all (OfWeights w ∷ ls) fs → All (RuleAt (above_of ((OfWeights w ∷ ls) ++ fs))) (gathered rules_on (OfWeights w ∷ ls) fs)
+  rules_all ls [] h = All-nil (RuleAt (above_of ((OfWeights w ∷ ls) ++ [])))
+  rules_all ls (f ∷ fs) h =
+      let b = above_of ((OfWeights w ∷ ls) ++ f ∷ fs) in
+      All-append (RuleAt b) (rules_on (above_of (OfWeights w ∷ ls)) f) (gathered rules_on (OfWeights w ∷ (ls ++ f ∷ [])) fs)
+          (rules_here ls b f (grows_to ls (f ∷ fs) h) h.0 h.1)
+          (subst (λ l. All (RuleAt (above_of l)) (gathered rules_on (OfWeights w ∷ (ls ++ f ∷ [])) fs)) (joined ls f fs) (rules_all (ls ++ f ∷ []) fs h.2))
+
+  queries_all : (ls fs : List LineForm) → AcceptedForms all (OfWeights w ∷ ls) fs → All (QueryAt (above_of ((OfWeights w ∷ ls) ++ fs))) (gathered queries_on (OfWeights w ∷ ls) fs)
+  queries_all ls [] h = All-nil (QueryAt (above_of ((OfWeights w ∷ ls) ++ [])))
+  queries_all ls (f ∷ fs) h =
+      let b = above_of ((OfWeights w ∷ ls) ++ f ∷ fs) in
+      All-append (QueryAt b) (queries_on (above_of (OfWeights w ∷ ls)) f) (gathered queries_on (OfWeights w ∷ (ls ++ f ∷ [])) fs)
+          (queries_here ls b f (grows_to ls (f ∷ fs) h) h.1)
+          (subst (λ l. All (QueryAt (above_of l)) (gathered queries_on (OfWeights w ∷ (ls ++ f ∷ [])) fs)) (joined ls f fs) (queries_all (ls ++ f ∷ []) fs h.2))
+
+  lawful_body : (fs : List LineForm) → AcceptedForms all (OfWeights w ∷ []) fs → IsDocument (document_of (OfWeights w ∷ fs))
+  lawful_body fs h = record {
+    controls = declared_once Controls (OfWeights w ∷ fs);
+    symbols = declared_once Symbols (OfWeights w ∷ fs);
+    items = declared_once (item_class (weights_line w)) (OfWeights w ∷ fs);
+    rules = rules_all [] fs h;
+    queries = queries_all [] fs h;
+  }
+
+-- ---- accepted lines have accepted forms
+
+-- a form of a line is one
+abbrev HasForm : Counted → Type 0
+HasForm l = (f : LineForm) → l.form ≡ Some f → is_form f ≡ true
+
+abbrev HaveForms : List Counted → Type 0
+HaveForms [] = Unit {0}
+HaveForms (l ∷ ls) = HasForm l × HaveForms ls
+
+words_form : (o : Option (List Word)) (f : LineForm) → option_and_then form_of o ≡ Some f → is_form f ≡ true
+words_form None f h = cc
+words_form (Some ws) f h = ((one_form ws f).0 h).1
+
+counted_forms : (ls : List Line) → HaveForms (map counted ls)
+counted_forms [] = tt
+counted_forms (l ∷ ls) = ((λ f e. words_form (line_words l.bytes) f e), counted_forms ls)
+
+forms_first : (l : Counted) (f : LineForm) (ls : List Counted) → l.form ≡ Some f → forms (l ∷ ls) ≡ f ∷ forms ls
+forms_first l f ls e = ap (λ o. cons_option o (forms ls)) e
+
+forms_more : (ls : List Counted) (l : Counted) (f : LineForm) → l.form ≡ Some f → forms (ls ++ l ∷ []) ≡ forms ls ++ f ∷ []
+forms_more ls l f e = filter_map-append (λ k. k.form) ls (l ∷ []) ∙ ap (λ fs. forms ls ++ fs) (forms_first l f [] e)
+
+-- a line with no kind has a form that has none
+form_accepted : (test : LineForm → Conditions) (t : Bool) (o : Option LineForm) → first_fault ((t, NotText) ∷ by_form test o) ≡ None → (f : LineForm) × (o ≡ Some f) × (first_fault (test f) ≡ None)
+form_accepted test t None h = let k = first_false t NotText ((true, Form) ∷ []) h in let no : first_fault ((true, Form) ∷ []) ≡ None = k.1 in cc
+form_accepted test t (Some f) h = (f, refl, (first_false t NotText (test f) h).1)
+
+accepted_forms : (all : ℕ) (h w : Counted) (us rest : List Counted) → HaveForms rest → AcceptedFrom all (h ∷ w ∷ us) rest → AcceptedForms all (forms (w ∷ us)) (forms rest)
+accepted_forms all h w us [] m a = tt
+accepted_forms all h w us (l ∷ rest) m a =
+    let none = first_accepted all (h ∷ w ∷ us) rest l a in
+    let k = form_accepted (conditions all (above_of (forms (w ∷ us)))) (not l.text) l.form none in
+    let more = accepted_forms all h w (us ++ l ∷ []) rest m.1 (further_accepted all (h ∷ w ∷ us) rest l a) in
+    subst (λ fs. AcceptedForms all (forms (w ∷ us)) fs) (sym (forms_first l k.0 rest k.1))
+        (m.0 k.0 k.1, k.2, subst (λ pre. AcceptedForms all pre (forms rest)) (forms_more (w ∷ us) l k.0 k.1) more)
+
+-- the second line is a weights line
+second_is_weights : (f : LineForm) → first_fault (weights_conditions f) ≡ None → (w : WeightsForm) × (f ≡ OfWeights w)
+second_is_weights (OfWeights w) h = (w, refl)
+second_is_weights (OfNames c xs) h = cc
+second_is_weights (OfRule r) h = cc
+second_is_weights (OfQuery p q) h = cc
+
+lawful_lines : (all : ℕ) (ls : List Counted) → HaveForms ls → AreAccepted all ls → missing ls ≡ None → IsDocument (document_of (body ls))
+lawful_lines all [] m a e = cc
+lawful_lines all (h ∷ []) m a e = cc
+lawful_lines all (h ∷ w ∷ rest) m a e =
+    let behind = further_accepted all [] (w ∷ rest) h a in
+    let none = first_accepted all (h ∷ []) rest w behind in
+    let k = form_accepted weights_conditions (not w.text) w.form none in
+    let x = second_is_weights k.0 k.2 in
+    let form : w.form ≡ Some (OfWeights x.0) = k.1 ∙ ap Some x.1 in
+    let more = accepted_forms all h w [] rest m.1.1 (further_accepted all (h ∷ []) rest w behind) in
+    let fs = subst (λ pre. AcceptedForms all pre (forms rest)) (forms_first w (OfWeights x.0) [] form) more in
+    subst (λ l. IsDocument (document_of l)) (sym (forms_first w (OfWeights x.0) rest form)) (lawful_body all x.0 (forms rest) fs)
+
+pub lawful_document : (bytes : List ℕ) (d : Document) → reads_as bytes d → IsDocument d
+lawful_document bytes d m =
+    subst IsDocument (sym m.document)
+        (lawful_lines (all_symbols (counted_lines bytes)) (counted_lines bytes) (counted_forms (filter (λ l. counts l.bytes) (numbered 1 (lines bytes)))) m.accepted m.whole)
