@@ -5,7 +5,7 @@ use Rattle.std.specs.List.{list_any, list_all, cons_option}
 use Rattle.std.proofs.lemmas.Bool.{and_parts, leb-true}
 use Rattle.std.proofs.lemmas.List.Elements.{All-nil, All-cons, All-append, filter_map-append}
 use Rattle.wpds_base.specs.Faults.{first_fault}
-use Rattle.wpds_base.specs.Limits.{most_pushed}
+use Rattle.wpds_base.specs.Limits.{most_pushed, most_rules, most_queries}
 use Rattle.wpds_port.specs.declared.Word.{Word}
 use Rattle.document_forms.specs.declared.document.RuleLine.{RuleLine}
 use Rattle.document_forms.specs.declared.document.QueryLine.{QueryLine}
@@ -16,7 +16,7 @@ use Rattle.document_forms.specs.Words.{is_return}
 use Rattle.document_forms.specs.Patterns.{PatternForm}
 use Rattle.document_forms.specs.Refusals.{Kind, NotText, Form, Count}
 use Rattle.document_forms.specs.Above.{weights_line, item_class, Above, above_of, with_line, is_query}
-use Rattle.document_forms.specs.Kinds.{Conditions, weights_conditions, conditions}
+use Rattle.document_forms.specs.Kinds.{Conditions, has_unlawful_cap, weights_conditions, conditions}
 use Rattle.document_forms.specs.FirstRefusal.{Counted, counted, counted_lines, forms, all_symbols, by_form, kind_below, missing, AreAccepted}
 use Rattle.document_forms.specs.Documents.{Document, rules_on, queries_on, rule_value, query_value, gathered, body, document_of, reads_as}
 use Rattle.document_forms.specs.Lawful.{IsRuleLine, IsQueryLine, IsDocument}
@@ -25,6 +25,7 @@ use Rattle.document_forms.proofs.FormLemmas.{one_form}
 use Rattle.document_forms.proofs.AboveLemmas.{line_more}
 use Rattle.document_forms.proofs.RuleLemmas.{first_false, rule_lawful}
 use Rattle.document_forms.proofs.PatternLemmas.{query_lawful}
+use Rattle.document_forms.proofs.LimitLemmas.{cap_lawful, Within, within_more, within_none, count_rules, count_queries}
 use Rattle.document_forms.proofs.GrowthLemmas.{rule_with_more, query_with_more}
 use Rattle.document_forms.proofs.RefusalLemmas.{AcceptedFrom, first_accepted, further_accepted}
 
@@ -86,8 +87,8 @@ module _ (all : ℕ) (w : WeightsForm) where
       let a = above_of (OfWeights w ∷ ls) in
       let short = leb-true (length r.right) most_pushed (and_parts (nat_le (length r.right) most_pushed) (has_none is_return (right_words r) && is_back r.back) o).0 in
       All-cons (RuleAt b) (rule_value a r) []
-          (rule_with_more (weights_line w) (length a.controls) (length a.symbols) (length a.items) (length b.controls) (length b.symbols) (length b.items) g.controls g.symbols g.items (rule_value a r) (rule_lawful a r short h))
-          (All-nil (RuleAt b))
+      (rule_with_more (weights_line w) (length a.controls) (length a.symbols) (length a.items) (length b.controls) (length b.symbols) (length b.items) g.controls g.symbols g.items (rule_value a r) (rule_lawful a r short h))
+      (All-nil (RuleAt b))
   rules_here ls b (OfQuery p q) g o h = All-nil (RuleAt b)
 
   queries_here : (ls : List LineForm) (b : Above) (f : LineForm) → Grows (above_of (OfWeights w ∷ ls)) b → first_fault (conditions all (above_of (OfWeights w ∷ ls)) f) ≡ None → All (QueryAt b) (queries_on (above_of (OfWeights w ∷ ls)) f)
@@ -97,33 +98,44 @@ module _ (all : ℕ) (w : WeightsForm) where
   queries_here ls b (OfQuery p q) g h =
       let a = above_of (OfWeights w ∷ ls) in
       All-cons (QueryAt b) (query_value a p q) []
-          (query_with_more (length a.controls) (length a.symbols) (length b.controls) (length b.symbols) g.controls g.symbols (query_value a p q) (query_lawful all a p q h))
-          (All-nil (QueryAt b))
+      (query_with_more (length a.controls) (length a.symbols) (length b.controls) (length b.symbols) g.controls g.symbols (query_value a p q) (query_lawful all a p q h))
+      (All-nil (QueryAt b))
 
   rules_all : (ls fs : List LineForm) → AcceptedForms all (OfWeights w ∷ ls) fs → All (RuleAt (above_of ((OfWeights w ∷ ls) ++ fs))) (gathered rules_on (OfWeights w ∷ ls) fs)
   rules_all ls [] h = All-nil (RuleAt (above_of ((OfWeights w ∷ ls) ++ [])))
   rules_all ls (f ∷ fs) h =
       let b = above_of ((OfWeights w ∷ ls) ++ f ∷ fs) in
       All-append (RuleAt b) (rules_on (above_of (OfWeights w ∷ ls)) f) (gathered rules_on (OfWeights w ∷ (ls ++ f ∷ [])) fs)
-          (rules_here ls b f (grows_to ls (f ∷ fs) h) h.0 h.1)
-          (subst (λ l. All (RuleAt (above_of l)) (gathered rules_on (OfWeights w ∷ (ls ++ f ∷ [])) fs)) (joined ls f fs) (rules_all (ls ++ f ∷ []) fs h.2))
+      (rules_here ls b f (grows_to ls (f ∷ fs) h) h.0 h.1)
+      (subst (λ l. All (RuleAt (above_of l)) (gathered rules_on (OfWeights w ∷ (ls ++ f ∷ [])) fs)) (joined ls f fs) (rules_all (ls ++ f ∷ []) fs h.2))
 
   queries_all : (ls fs : List LineForm) → AcceptedForms all (OfWeights w ∷ ls) fs → All (QueryAt (above_of ((OfWeights w ∷ ls) ++ fs))) (gathered queries_on (OfWeights w ∷ ls) fs)
   queries_all ls [] h = All-nil (QueryAt (above_of ((OfWeights w ∷ ls) ++ [])))
   queries_all ls (f ∷ fs) h =
       let b = above_of ((OfWeights w ∷ ls) ++ f ∷ fs) in
       All-append (QueryAt b) (queries_on (above_of (OfWeights w ∷ ls)) f) (gathered queries_on (OfWeights w ∷ (ls ++ f ∷ [])) fs)
-          (queries_here ls b f (grows_to ls (f ∷ fs) h) h.1)
-          (subst (λ l. All (QueryAt (above_of l)) (gathered queries_on (OfWeights w ∷ (ls ++ f ∷ [])) fs)) (joined ls f fs) (queries_all (ls ++ f ∷ []) fs h.2))
+      (queries_here ls b f (grows_to ls (f ∷ fs) h) h.1)
+      (subst (λ l. All (QueryAt (above_of l)) (gathered queries_on (OfWeights w ∷ (ls ++ f ∷ [])) fs)) (joined ls f fs) (queries_all (ls ++ f ∷ []) fs h.2))
 
-  lawful_body : (fs : List LineForm) → AcceptedForms all (OfWeights w ∷ []) fs → IsDocument (document_of (OfWeights w ∷ fs))
-  lawful_body fs h = record {
-    controls = declared_once Controls (OfWeights w ∷ fs);
-    symbols = declared_once Symbols (OfWeights w ∷ fs);
-    items = declared_once (item_class (weights_line w)) (OfWeights w ∷ fs);
-    rules = rules_all [] fs h;
-    queries = queries_all [] fs h;
-  }
+  within_all : (ls fs : List LineForm) → AcceptedForms all (OfWeights w ∷ ls) fs → Within (weights_line w) (above_of (OfWeights w ∷ ls)) → Within (weights_line w) (above_of ((OfWeights w ∷ ls) ++ fs))
+  within_all ls [] h m = subst (λ l. Within (weights_line w) (above_of (OfWeights w ∷ l))) (sym (append-nil ls)) m
+  within_all ls (f ∷ fs) h m =
+      let more = subst (Within (weights_line w)) (sym (line_more all w ls f h.1)) (within_more all w ls f h.1 m) in
+      subst (λ l. Within (weights_line w) (above_of l)) (joined ls f fs) (within_all (ls ++ f ∷ []) fs h.2 more)
+
+  lawful_body : (fs : List LineForm) → has_unlawful_cap w ≡ false → AcceptedForms all (OfWeights w ∷ []) fs → IsDocument (document_of (OfWeights w ∷ fs))
+  lawful_body fs c h =
+      let within = within_all [] fs h (within_none w) in
+      record {
+        weights = cap_lawful w c;
+        controls = record { few = within.controls; once = declared_once Controls (OfWeights w ∷ fs) };
+        symbols = record { few = within.symbols; once = declared_once Symbols (OfWeights w ∷ fs) };
+        items = record { few = within.items; once = declared_once (item_class (weights_line w)) (OfWeights w ∷ fs) };
+        rules = rules_all [] fs h;
+        few_rules = subst (λ n. n ≤ most_rules) (sym (count_rules [] (OfWeights w ∷ fs))) within.rules;
+        queries = queries_all [] fs h;
+        few_queries = subst (λ n. n ≤ most_queries) (sym (count_queries [] (OfWeights w ∷ fs))) within.queries;
+      }
 
 -- ---- accepted lines have accepted forms
 
@@ -161,11 +173,11 @@ accepted_forms all h w us (l ∷ rest) m a =
     let k = form_accepted (conditions all (above_of (forms (w ∷ us)))) (not l.text) l.form none in
     let more = accepted_forms all h w (us ++ l ∷ []) rest m.1 (further_accepted all (h ∷ w ∷ us) rest l a) in
     subst (λ fs. AcceptedForms all (forms (w ∷ us)) fs) (sym (forms_first l k.0 rest k.1))
-        (m.0 k.0 k.1, k.2, subst (λ pre. AcceptedForms all pre (forms rest)) (forms_more (w ∷ us) l k.0 k.1) more)
+    (m.0 k.0 k.1, k.2, subst (λ pre. AcceptedForms all pre (forms rest)) (forms_more (w ∷ us) l k.0 k.1) more)
 
 -- the second line is a weights line
-second_is_weights : (f : LineForm) → first_fault (weights_conditions f) ≡ None → (w : WeightsForm) × (f ≡ OfWeights w)
-second_is_weights (OfWeights w) h = (w, refl)
+second_is_weights : (f : LineForm) → first_fault (weights_conditions f) ≡ None → (w : WeightsForm) × (f ≡ OfWeights w) × (has_unlawful_cap w ≡ false)
+second_is_weights (OfWeights w) h = (w, refl, (first_false (has_unlawful_cap w) Count [] h).0)
 second_is_weights (OfNames c xs) h = cc
 second_is_weights (OfRule r) h = cc
 second_is_weights (OfQuery p q) h = cc
@@ -181,9 +193,9 @@ lawful_lines all (h ∷ w ∷ rest) m a e =
     let form : w.form ≡ Some (OfWeights x.0) = k.1 ∙ ap Some x.1 in
     let more = accepted_forms all h w [] rest m.1.1 (further_accepted all (h ∷ []) rest w behind) in
     let fs = subst (λ pre. AcceptedForms all pre (forms rest)) (forms_first w (OfWeights x.0) [] form) more in
-    subst (λ l. IsDocument (document_of l)) (sym (forms_first w (OfWeights x.0) rest form)) (lawful_body all x.0 (forms rest) fs)
+    subst (λ l. IsDocument (document_of l)) (sym (forms_first w (OfWeights x.0) rest form)) (lawful_body all x.0 (forms rest) x.2 fs)
 
 pub lawful_document : (bytes : List ℕ) (d : Document) → reads_as bytes d → IsDocument d
 lawful_document bytes d m =
     subst IsDocument (sym m.document)
-        (lawful_lines (all_symbols (counted_lines bytes)) (counted_lines bytes) (counted_forms (filter (λ l. counts l.bytes) (numbered 1 (lines bytes)))) m.accepted m.whole)
+    (lawful_lines (all_symbols (counted_lines bytes)) (counted_lines bytes) (counted_forms (filter (λ l. counts l.bytes) (numbered 1 (lines bytes)))) m.accepted m.whole)

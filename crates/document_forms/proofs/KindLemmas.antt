@@ -101,7 +101,7 @@ lowest_in n (c ∷ cs) k h e =
     go true t s more = let same : c.1 ≡ k = cc in here t same
     go false f s more = further f (more parts.1 s)
 
-none_in : (cs : Conditions) → first_fault cs ≡ None → (k : Kind) → IsIn (true, k) cs → ⊥
+pub none_in : (cs : Conditions) → first_fault cs ≡ None → (k : Kind) → IsIn (true, k) cs → ⊥
 none_in [] e k i = i
 none_in (c ∷ cs) e k i = go c.0 refl e (none_in cs)
   where

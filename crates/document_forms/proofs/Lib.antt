@@ -8,6 +8,7 @@ mod LawfulLemmas
 mod RuleLemmas
 mod PatternLemmas
 mod GrowthLemmas
+mod LimitLemmas
 mod DocumentLemmas
 mod KindLemmas
 mod RefusalLemmas

@@ -159,3 +159,9 @@ once_is_once (x ∷ xs) = (λ i. (in_filtered x x (once xs) i).1 refl, once_filt
 
 pub declared_once : (c : Class) (ls : List LineForm) → IsOnce (declared c ls)
 declared_once c ls = once_is_once (flat_map (names_on c) ls)
+
+-- new names are told among all once
+pub once_joined : (known xs : List (List ℕ)) → IsOnce known → list_any (is_among known) xs ≡ false → has_twice xs ≡ false → once (known ++ xs) ≡ known ++ xs
+once_joined known xs o n t =
+    let alone = once_alone known (once_twice known o) in
+    once_more known xs (subst (λ ks. NoneAmong ks xs) (sym alone) (none_among known xs n)) t ∙ ap (λ ks. ks ++ xs) alone

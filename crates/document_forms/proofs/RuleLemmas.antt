@@ -96,7 +96,7 @@ module _ (names : List (List ℕ)) where
   bits_below [] b h l = l
   bits_below (k ∷ ks) b h l =
       bits_below ks (bit_or b (2 ^ k)) (All-tail (λ n. n < length names) k ks h)
-          (or_lt (length names) b (2 ^ k) l (pow-lt (All-head (λ n. n < length names) k ks h)))
+      (or_lt (length names) b (2 ^ k) l (pow-lt (All-head (λ n. n < length names) k ks h)))
 
   form_lawful : (p : PartsForm) → has_unknown names (parts_names p) ≡ false → IsFormText (length names) (parts_value names p)
   form_lawful VaryingParts h = tt
@@ -182,8 +182,7 @@ module _ (names : List (List ℕ)) where
   moves_to (m ∷ ms) h =
       let k = or_parts (not (is_among names m.to)) (not (is_among names m.from) || has_unknown names (flat_map (λ p. p.to ∷ p.from ∷ []) ms)) h in
       let l = or_parts (not (is_among names m.from)) (has_unknown names (flat_map (λ p. p.to ∷ p.from ∷ []) ms)) k.1 in
-      let more = moves_to ms l.1 in
-      (
+      let more = moves_to ms l.1 in (
         All-cons (λ n. n < length names) (number_in names m.to) (map (λ v. v.to) (map (move_value names) ms)) (number_below names m.to (is_known (is_among names m.to) k.0)) more.0,
         All-cons (λ n. n < length names) (number_in names m.from) (map (λ v. v.from) (map (move_value names) ms)) (number_below names m.from (is_known (is_among names m.from) l.0)) more.1,
       )

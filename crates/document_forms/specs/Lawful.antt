@@ -1,7 +1,7 @@
 -- What every document keeps to: its numbers are those of its names, its counts are within the
 -- limits, and what may stand once stands once.
 use Rattle.std.specs.Prelude.{◌≡◌, IsTrue, ℕ, ◌<◌, ◌≤◌, ◌^◌, ◌⊎◌, List, [], length, map, All, Option, Some, None}
-use Rattle.wpds_base.specs.Limits.{most_controls, most_symbols, most_pushed, most_items}
+use Rattle.wpds_base.specs.Limits.{most_controls, most_symbols, most_rules, most_queries, most_cost, most_pushed, most_items}
 use Rattle.wpds_base.specs.Lists.{IsOnce}
 use Rattle.truth_tables.specs.Formulas.{is_over}
 use Rattle.document_forms.specs.declared.weight.WeightsLine.{WeightsLine}
@@ -21,6 +21,7 @@ use Rattle.document_forms.specs.declared.pattern.PatternText.{PatternText}
 use Rattle.document_forms.specs.declared.document.MapText.{MapText}
 use Rattle.document_forms.specs.declared.document.RuleLine.{RuleLine}
 use Rattle.document_forms.specs.declared.document.QueryLine.{QueryLine}
+use Rattle.document_forms.specs.Above.{item_class, most_names}
 use Rattle.document_forms.specs.Kinds.{allows_restore, allows_moves}
 use Rattle.document_forms.specs.Documents.{Document}
 
@@ -92,10 +93,24 @@ pub record IsQueryLine (controls symbols : ℕ) (q : QueryLine) : Type 0 where
   pub from : IsPatternText controls symbols q.from
   pub to : IsPatternText controls symbols q.to
 
--- A document over its own names.
+-- ---- documents
+
+abbrev pub IsWeightsLine : WeightsLine → Type 0
+IsWeightsLine (Cost cap) = (1 ≤ cap) × (cap ≤ most_cost)
+IsWeightsLine _ = Unit {0}
+
+-- Names of a class, at most so many, and none twice.
+pub record AreNames (most : ℕ) (names : List (List ℕ)) : Type 0 where
+  pub few : length names ≤ most
+  pub once : IsOnce names
+
+-- A document over its own names, within the limits.
 pub record IsDocument (d : Document) : Type 0 where
-  pub controls : IsOnce d.controls
-  pub symbols : IsOnce d.symbols
-  pub items : IsOnce d.items
+  pub weights : IsWeightsLine d.weights
+  pub controls : AreNames most_controls d.controls
+  pub symbols : AreNames most_symbols d.symbols
+  pub items : AreNames (most_names d.weights (item_class d.weights)) d.items
   pub rules : All (IsRuleLine d.weights (length d.controls) (length d.symbols) (length d.items)) d.rules
+  pub few_rules : length d.rules ≤ most_rules
   pub queries : All (IsQueryLine (length d.controls) (length d.symbols)) d.queries
+  pub few_queries : length d.queries ≤ most_queries

@@ -1,19 +1,21 @@
 //! What the definitions say, as laws.
 
-ghost use Rattle.std.specs.Prelude.{◌≡◌, ◌↔◌, ◌⊎◌, ℕ, Bool, true, false, List, [], ◌∷◌, ◌++◌, Option, Some, None, Ok, Err};
+ghost use Rattle.std.specs.Prelude.{◌≡◌, ◌↔◌, ◌⊎◌, ℕ, Bool, true, false, List, [], ◌∷◌, ◌++◌, ◌≤◌, length, Option, Some, None, Ok, Err};
 ghost use Rattle.std.specs.List.{list_any};
 ghost use Rattle.wpds_base.specs.Faults.{first_fault};
+ghost use Rattle.wpds_base.specs.Limits.{most_pushed};
 ghost use Rattle.wpds_base.specs.Lists.{IsIn, IsOnce};
 ghost use Rattle.wpds_port.specs.declared.Word.{Word};
-ghost use Rattle.document_forms.specs.Above.{declared, names_on, above_of, with_line};
-ghost use Rattle.document_forms.specs.Documents.{Document, read_as, reads_as};
+ghost use Rattle.document_forms.specs.Above.{declared, names_on, Above, above_of, with_line};
+ghost use Rattle.document_forms.specs.Documents.{Document, read_as, reads_as, rule_value, query_value};
 ghost use Rattle.document_forms.specs.FirstRefusal.{Counted, kind_below, IsLowest, refusal_of, FirstRefusal};
-ghost use Rattle.document_forms.specs.Forms.{Class, LineForm, WeightsForm, OfWeights, form_of};
+ghost use Rattle.document_forms.specs.Forms.{Class, LineForm, RuleForm, WeightsForm, OfWeights, form_of};
 ghost use Rattle.document_forms.specs.FormWords.{IsForm};
-ghost use Rattle.document_forms.specs.Kinds.{conditions};
+ghost use Rattle.document_forms.specs.Kinds.{conditions, rule_conditions, query_conditions};
+ghost use Rattle.document_forms.specs.Lawful.{IsDocument, IsRuleLine, IsQueryLine};
 ghost use Rattle.document_forms.specs.Lines.{pieces, IsCut};
 ghost use Rattle.document_forms.specs.Names.{is_among, has_twice};
-ghost use Rattle.document_forms.specs.Patterns.{ItemForm, items_of, AreItems};
+ghost use Rattle.document_forms.specs.Patterns.{ItemForm, PatternForm, items_of, AreItems};
 ghost use Rattle.document_forms.specs.Refusals.{Kind, Refusal};
 
 /// Bytes have a document or a first refusal, never both, and one at most of each.
@@ -58,6 +60,21 @@ pub fn one_list_of_items()
 /// at most, and a form is that of one list of words.
 pub fn one_form_a_line()
     ensures { (ws : List Word) (f : LineForm) → (form_of ws ≡ Some f) ↔ IsForm ws f }
+{}
+
+/// A document that is read is over its own names and within the limits.
+pub fn documents_are_lawful()
+    ensures { (bytes : List ℕ) (d : Document) → reads_as bytes d → IsDocument d }
+{}
+
+/// An accepted rule or query is over the names above it.
+pub fn accepted_lines_are_lawful()
+    ensures rule { (a : Above) (r : RuleForm)
+        → length r.right ≤ most_pushed → first_fault (rule_conditions a r) ≡ None
+        → IsRuleLine a.weights (length a.controls) (length a.symbols) (length a.items) (rule_value a r) }
+    ensures query { (all : ℕ) (a : Above) (p q : PatternForm)
+        → first_fault (query_conditions all a p q) ≡ None
+        → IsQueryLine (length a.controls) (length a.symbols) (query_value a p q) }
 {}
 
 /// What the tests of names say.
