@@ -15,7 +15,7 @@ use Rattle.document_forms.specs.FormWords.{is_form, has_none, is_back, right_wor
 use Rattle.document_forms.specs.Words.{is_return}
 use Rattle.document_forms.specs.Patterns.{PatternForm}
 use Rattle.document_forms.specs.Refusals.{Kind, NotText, Form, Count}
-use Rattle.document_forms.specs.Above.{weights_line, item_class, Above, above_of, with_line, is_query}
+use Rattle.document_forms.specs.Above.{weights_line, item_class, declared, Above, above_of, with_line, is_query}
 use Rattle.document_forms.specs.Kinds.{Conditions, has_unlawful_cap, weights_conditions, conditions}
 use Rattle.document_forms.specs.FirstRefusal.{Counted, counted, counted_lines, forms, all_symbols, by_form, kind_below, missing, AreAccepted}
 use Rattle.document_forms.specs.Documents.{Document, rules_on, queries_on, rule_value, query_value, gathered, body, document_of, reads_as}
@@ -78,7 +78,7 @@ module _ (all : ℕ) (w : WeightsForm) where
   RuleAt a r = IsRuleLine (weights_line w) (length a.controls) (length a.symbols) (length a.items) r
 
   abbrev QueryAt : Above → QueryLine → Type 0
-  QueryAt a q = IsQueryLine (length a.controls) (length a.symbols) q
+  QueryAt a q = IsQueryLine all (length a.controls) (length a.symbols) q
 
   rules_here : (ls : List LineForm) (b : Above) (f : LineForm) → Grows (above_of (OfWeights w ∷ ls)) b → is_form f ≡ true → first_fault (conditions all (above_of (OfWeights w ∷ ls)) f) ≡ None → All (RuleAt b) (rules_on (above_of (OfWeights w ∷ ls)) f)
   rules_here ls b (OfWeights v) g o h = All-nil (RuleAt b)
@@ -98,7 +98,7 @@ module _ (all : ℕ) (w : WeightsForm) where
   queries_here ls b (OfQuery p q) g h =
       let a = above_of (OfWeights w ∷ ls) in
       All-cons (QueryAt b) (query_value a p q) []
-      (query_with_more (length a.controls) (length a.symbols) (length b.controls) (length b.symbols) g.controls g.symbols (query_value a p q) (query_lawful all a p q h))
+      (query_with_more all (length a.controls) (length a.symbols) (length b.controls) (length b.symbols) g.controls g.symbols (query_value a p q) (query_lawful all a p q h))
       (All-nil (QueryAt b))
 
   rules_all : (ls fs : List LineForm) → AcceptedForms all (OfWeights w ∷ ls) fs → All (RuleAt (above_of ((OfWeights w ∷ ls) ++ fs))) (gathered rules_on (OfWeights w ∷ ls) fs)
@@ -123,8 +123,8 @@ module _ (all : ℕ) (w : WeightsForm) where
       let more = subst (Within (weights_line w)) (sym (line_more all w ls f h.1)) (within_more all w ls f h.1 m) in
       subst (λ l. Within (weights_line w) (above_of l)) (joined ls f fs) (within_all (ls ++ f ∷ []) fs h.2 more)
 
-  lawful_body : (fs : List LineForm) → has_unlawful_cap w ≡ false → AcceptedForms all (OfWeights w ∷ []) fs → IsDocument (document_of (OfWeights w ∷ fs))
-  lawful_body fs c h =
+  lawful_body : (fs : List LineForm) → has_unlawful_cap w ≡ false → all ≡ length (declared Symbols fs) → AcceptedForms all (OfWeights w ∷ []) fs → IsDocument (document_of (OfWeights w ∷ fs))
+  lawful_body fs c s h =
       let within = within_all [] fs h (within_none w) in
       record {
         weights = cap_lawful w c;
@@ -133,7 +133,7 @@ module _ (all : ℕ) (w : WeightsForm) where
         items = record { few = within.items; once = declared_once (item_class (weights_line w)) (OfWeights w ∷ fs) };
         rules = rules_all [] fs h;
         few_rules = subst (λ n. n ≤ most_rules) (sym (count_rules [] (OfWeights w ∷ fs))) within.rules;
-        queries = queries_all [] fs h;
+        queries = subst (λ n. All (IsQueryLine n (length (declared Controls fs)) (length (declared Symbols fs))) (gathered queries_on (OfWeights w ∷ []) fs)) s (queries_all [] fs h);
         few_queries = subst (λ n. n ≤ most_queries) (sym (count_queries [] (OfWeights w ∷ fs))) within.queries;
       }
 
@@ -182,10 +182,10 @@ second_is_weights (OfNames c xs) h = cc
 second_is_weights (OfRule r) h = cc
 second_is_weights (OfQuery p q) h = cc
 
-lawful_lines : (all : ℕ) (ls : List Counted) → HaveForms ls → AreAccepted all ls → missing ls ≡ None → IsDocument (document_of (body ls))
-lawful_lines all [] m a e = cc
-lawful_lines all (h ∷ []) m a e = cc
-lawful_lines all (h ∷ w ∷ rest) m a e =
+lawful_lines : (all : ℕ) (ls : List Counted) → HaveForms ls → all ≡ all_symbols ls → AreAccepted all ls → missing ls ≡ None → IsDocument (document_of (body ls))
+lawful_lines all [] m s a e = cc
+lawful_lines all (h ∷ []) m s a e = cc
+lawful_lines all (h ∷ w ∷ rest) m s a e =
     let behind = further_accepted all [] (w ∷ rest) h a in
     let none = first_accepted all (h ∷ []) rest w behind in
     let k = form_accepted weights_conditions (not w.text) w.form none in
@@ -193,9 +193,9 @@ lawful_lines all (h ∷ w ∷ rest) m a e =
     let form : w.form ≡ Some (OfWeights x.0) = k.1 ∙ ap Some x.1 in
     let more = accepted_forms all h w [] rest m.1.1 (further_accepted all (h ∷ []) rest w behind) in
     let fs = subst (λ pre. AcceptedForms all pre (forms rest)) (forms_first w (OfWeights x.0) [] form) more in
-    subst (λ l. IsDocument (document_of l)) (sym (forms_first w (OfWeights x.0) rest form)) (lawful_body all x.0 (forms rest) x.2 fs)
+    subst (λ l. IsDocument (document_of l)) (sym (forms_first w (OfWeights x.0) rest form)) (lawful_body all x.0 (forms rest) x.2 s fs)
 
 pub lawful_document : (bytes : List ℕ) (d : Document) → reads_as bytes d → IsDocument d
 lawful_document bytes d m =
     subst IsDocument (sym m.document)
-    (lawful_lines (all_symbols (counted_lines bytes)) (counted_lines bytes) (counted_forms (filter (λ l. counts l.bytes) (numbered 1 (lines bytes)))) m.accepted m.whole)
+    (lawful_lines (all_symbols (counted_lines bytes)) (counted_lines bytes) (counted_forms (filter (λ l. counts l.bytes) (numbered 1 (lines bytes)))) refl m.accepted m.whole)

@@ -93,15 +93,16 @@ rule_with_more u c s i d t j e f g r h = record {
   map = map_more i j g u r.right r.map h.map;
 }
 
-pattern_with_more : (c s d t : ℕ) → c ≤ d → s ≤ t → (p : PatternText) → IsPatternText c s p → IsPatternText d t p
-pattern_with_more c s d t e f p h = record {
+pattern_with_more : (all c s d t : ℕ) → c ≤ d → s ≤ t → (p : PatternText) → IsPatternText all c s p → IsPatternText all d t p
+pattern_with_more all c s d t e f p h = record {
   control = lt_of_lt_of_le h.control e;
   items = All-weaker (λ i. IsSetText s i.set) (λ i. IsSetText t i.set) (λ i. set_more s t f i.set) p.items h.items;
   few = h.few;
+  edges = h.edges;
 }
 
-pub query_with_more : (c s d t : ℕ) → c ≤ d → s ≤ t → (q : QueryLine) → IsQueryLine c s q → IsQueryLine d t q
-query_with_more c s d t e f q h = record {
-  from = pattern_with_more c s d t e f q.from h.from;
-  to = pattern_with_more c s d t e f q.to h.to;
+pub query_with_more : (all c s d t : ℕ) → c ≤ d → s ≤ t → (q : QueryLine) → IsQueryLine all c s q → IsQueryLine all d t q
+query_with_more all c s d t e f q h = record {
+  from = pattern_with_more all c s d t e f q.from h.from;
+  to = pattern_with_more all c s d t e f q.to h.to;
 }

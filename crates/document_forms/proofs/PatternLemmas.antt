@@ -13,12 +13,12 @@ use Rattle.document_forms.specs.Names.{is_among, has_unknown, has_twice, number_
 use Rattle.document_forms.specs.Patterns.{SetForm, Dotted, Bare, Braced, ItemForm, PatternForm}
 use Rattle.document_forms.specs.Refusals.{Kind, Twice, Unknown, Count}
 use Rattle.document_forms.specs.Above.{Above}
-use Rattle.document_forms.specs.Kinds.{Conditions, set_names, pattern_symbols, has_symbol_twice, edges, is_large, query_conditions}
+use Rattle.document_forms.specs.Kinds.{Conditions, set_names, pattern_symbols, has_symbol_twice, set_size, item_size, edges, is_large, query_conditions}
 use Rattle.document_forms.specs.Documents.{set_value, item_value, pattern_value, query_value}
-use Rattle.document_forms.specs.Lawful.{AreBelow, IsSetText, IsPatternText, IsQueryLine}
+use Rattle.document_forms.specs.Lawful.{AreBelow, IsSetText, set_count, item_count, IsPatternText, IsQueryLine}
 use Rattle.document_forms.proofs.NameLemmas.{among_is_in}
 use Rattle.document_forms.proofs.LawfulLemmas.{number_below, numbers_below, known_parts, is_known}
-use Rattle.document_forms.proofs.RuleLemmas.{first_false, first_known}
+use Rattle.document_forms.proofs.RuleLemmas.{first_false, first_known, length_numbers}
 
 -- ---- two names have two numbers
 
@@ -75,17 +75,32 @@ length_items : (symbols : List (List ℕ)) (is : List ItemForm) → length (map 
 length_items symbols [] = refl
 length_items symbols (i ∷ is) = let e = length_items symbols is in omega arith
 
-pattern_lawful : (all : ℕ) (controls symbols : List (List ℕ)) (p : PatternForm) → number_in controls p.control < length controls → has_unknown symbols (pattern_symbols p) ≡ false → has_symbol_twice p ≡ false → is_large all p ≡ false → IsPatternText (length controls) (length symbols) (pattern_value controls symbols p)
+same_counts : (all : ℕ) (symbols : List (List ℕ)) (is : List ItemForm) → map (item_count all) (map (item_value symbols) is) ≡ map (item_size all) is
+same_counts all symbols [] = refl
+same_counts all symbols (i ∷ is) = ap (λ n. (n, i.star) ∷ map (item_count all) (map (item_value symbols) is)) (one i.set) ∙ ap (λ l. item_size all i ∷ l) (same_counts all symbols is)
+  where
+    one : (s : SetForm) → set_count all (set_value symbols s) ≡ set_size all s
+    one Dotted = refl
+    one (Bare x) = refl
+    one (Braced xs) = length_numbers symbols xs
+
+pattern_lawful : (all : ℕ) (controls symbols : List (List ℕ)) (p : PatternForm) → number_in controls p.control < length controls → has_unknown symbols (pattern_symbols p) ≡ false → has_symbol_twice p ≡ false → is_large all p ≡ false → IsPatternText all (length controls) (length symbols) (pattern_value controls symbols p)
 pattern_lawful all controls symbols p c h t l =
-    let few = ltb-false most_items (length p.items) (or_parts (nat_lt most_items (length p.items)) (nat_lt most_edges (edges all 1 p.items)) l).0 in
+    let m = or_parts (nat_lt most_items (length p.items)) (nat_lt most_edges (edges 1 (map (item_size all) p.items))) l in
+    let few = ltb-false most_items (length p.items) m.0 in
     let same = length_items symbols p.items in
-    record { control = c; items = items_lawful symbols p.items h t; few = omega arith }
+    record {
+      control = c;
+      items = items_lawful symbols p.items h t;
+      few = omega arith;
+      edges = subst (λ is. edges 1 is ≤ most_edges) (sym (same_counts all symbols p.items)) (ltb-false most_edges (edges 1 (map (item_size all) p.items)) m.1);
+    }
 
 or3 : (a b c : Bool) → (a || b || c) ≡ false → (a ≡ false) × (b ≡ false) × (c ≡ false)
 or3 false false false h = (refl, refl, refl)
 or3 _ _ _ h = cc
 
-pub query_lawful : (all : ℕ) (a : Above) (p q : PatternForm) → first_fault (query_conditions all a p q) ≡ None → IsQueryLine (length a.controls) (length a.symbols) (query_value a p q)
+pub query_lawful : (all : ℕ) (a : Above) (p q : PatternForm) → first_fault (query_conditions all a p q) ≡ None → IsQueryLine all (length a.controls) (length a.symbols) (query_value a p q)
 query_lawful all a p q h =
     let twice = has_symbol_twice p || has_symbol_twice q in
     let unknown = has_unknown a.controls (p.control ∷ q.control ∷ []) || has_unknown a.symbols (pattern_symbols p ++ pattern_symbols q) in

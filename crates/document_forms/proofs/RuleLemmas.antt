@@ -231,7 +231,7 @@ first_known names x xs h =
     let k = or_parts (not (is_among names x)) (has_unknown names xs) h in
     (number_below names x (is_known (is_among names x) k.0), k.1)
 
-length_numbers : (names xs : List (List ℕ)) → length (map (number_in names) xs) ≡ length xs
+pub length_numbers : (names xs : List (List ℕ)) → length (map (number_in names) xs) ≡ length xs
 length_numbers names [] = refl
 length_numbers names (x ∷ xs) = let e = length_numbers names xs in omega arith
 

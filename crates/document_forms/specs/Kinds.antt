@@ -159,19 +159,23 @@ set_size all Dotted = all
 set_size all (Bare x) = 1
 set_size all (Braced xs) = length xs
 
--- how many states before an item have an edge to it, where so many have one to the item before
-abbrev pub sources : ℕ → ItemForm → ℕ
-sources from i = if i.star then from + 1 else from
+-- how many symbols an item has, and whether it has a star
+abbrev pub item_size : ℕ → ItemForm → ℕ × Bool
+item_size all i = (set_size all i.set, i.star)
 
--- The edges of the automaton of a pattern: to each item from the state before it, from those that
--- stars between pass over, and from itself where it has a star.
-abbrev pub edges : ℕ → ℕ → List ItemForm → ℕ
-edges all from [] = 0
-edges all from (i ∷ is) =
-    set_size all i.set * sources from i + edges all (if i.star then from + 1 else 1) is
+-- how many states have an edge to an item, where so many before it have one
+abbrev pub sources : ℕ → (star : Bool) → ℕ
+sources from star = if star then from + 1 else from
+
+-- The edges of the automaton of items of these sizes: to each item from the state before it, from
+-- those that stars between pass over, and from itself where it has a star.
+abbrev pub edges : ℕ → List (ℕ × Bool) → ℕ
+edges from [] = 0
+edges from (i ∷ is) = i.0 * sources from i.1 + edges (if i.1 then from + 1 else 1) is
 
 abbrev pub is_large : ℕ → PatternForm → Bool
-is_large all p = nat_lt most_items (length p.items) || nat_lt most_edges (edges all 1 p.items)
+is_large all p =
+    nat_lt most_items (length p.items) || nat_lt most_edges (edges 1 (map (item_size all) p.items))
 
 -- ---- the conditions of each form
 

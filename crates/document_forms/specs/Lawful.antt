@@ -1,7 +1,7 @@
 -- What every document keeps to: its numbers are those of its names, its counts are within the
 -- limits, and what may stand once stands once.
-use Rattle.std.specs.Prelude.{◌≡◌, IsTrue, ℕ, ◌<◌, ◌≤◌, ◌^◌, ◌⊎◌, List, [], length, map, All, Option, Some, None}
-use Rattle.wpds_base.specs.Limits.{most_controls, most_symbols, most_rules, most_queries, most_cost, most_pushed, most_items}
+use Rattle.std.specs.Prelude.{◌≡◌, IsTrue, ℕ, ◌<◌, ◌≤◌, ◌^◌, ◌⊎◌, Bool, List, [], length, map, All, Option, Some, None}
+use Rattle.wpds_base.specs.Limits.{most_controls, most_symbols, most_rules, most_queries, most_cost, most_pushed, most_items, most_edges}
 use Rattle.wpds_base.specs.Lists.{IsOnce}
 use Rattle.truth_tables.specs.Formulas.{is_over}
 use Rattle.document_forms.specs.declared.weight.WeightsLine.{WeightsLine}
@@ -17,12 +17,13 @@ use Rattle.document_forms.specs.declared.weight.WeightText.{WeightText}
 use Rattle.document_forms.specs.declared.weight.WeightText.TheVariants.{One, Zero, Number, Facts, Forms, Actions}
 use Rattle.document_forms.specs.declared.pattern.SetText.{SetText}
 use Rattle.document_forms.specs.declared.pattern.SetText.TheVariants.{All as AllSymbols, Listed}
+use Rattle.document_forms.specs.declared.pattern.ItemText.{ItemText}
 use Rattle.document_forms.specs.declared.pattern.PatternText.{PatternText}
 use Rattle.document_forms.specs.declared.document.MapText.{MapText}
 use Rattle.document_forms.specs.declared.document.RuleLine.{RuleLine}
 use Rattle.document_forms.specs.declared.document.QueryLine.{QueryLine}
 use Rattle.document_forms.specs.Above.{item_class, most_names}
-use Rattle.document_forms.specs.Kinds.{allows_restore, allows_moves}
+use Rattle.document_forms.specs.Kinds.{allows_restore, allows_moves, edges}
 use Rattle.document_forms.specs.Documents.{Document}
 
 abbrev pub AreBelow : ℕ → List ℕ → Type 0
@@ -84,14 +85,24 @@ abbrev pub IsSetText : ℕ → SetText → Type 0
 IsSetText symbols AllSymbols = Unit {0}
 IsSetText symbols (Listed gs) = AreBelow symbols gs × IsOnce gs
 
-pub record IsPatternText (controls symbols : ℕ) (p : PatternText) : Type 0 where
+-- how many symbols a set has, where `.` has so many
+abbrev pub set_count : ℕ → SetText → ℕ
+set_count all AllSymbols = all
+set_count all (Listed gs) = length gs
+
+abbrev pub item_count : ℕ → ItemText → ℕ × Bool
+item_count all i = (set_count all i.set, i.star)
+
+-- A pattern over so many controls and symbols, in a document that declares so many symbols in all.
+pub record IsPatternText (all controls symbols : ℕ) (p : PatternText) : Type 0 where
   pub control : p.control < controls
   pub items : All (λ i. IsSetText symbols i.set) p.items
   pub few : length p.items ≤ most_items
+  pub edges : edges 1 (map (item_count all) p.items) ≤ most_edges
 
-pub record IsQueryLine (controls symbols : ℕ) (q : QueryLine) : Type 0 where
-  pub from : IsPatternText controls symbols q.from
-  pub to : IsPatternText controls symbols q.to
+pub record IsQueryLine (all controls symbols : ℕ) (q : QueryLine) : Type 0 where
+  pub from : IsPatternText all controls symbols q.from
+  pub to : IsPatternText all controls symbols q.to
 
 -- ---- documents
 
@@ -112,5 +123,5 @@ pub record IsDocument (d : Document) : Type 0 where
   pub items : AreNames (most_names d.weights (item_class d.weights)) d.items
   pub rules : All (IsRuleLine d.weights (length d.controls) (length d.symbols) (length d.items)) d.rules
   pub few_rules : length d.rules ≤ most_rules
-  pub queries : All (IsQueryLine (length d.controls) (length d.symbols)) d.queries
+  pub queries : All (IsQueryLine (length d.symbols) (length d.controls) (length d.symbols)) d.queries
   pub few_queries : length d.queries ≤ most_queries

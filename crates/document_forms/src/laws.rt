@@ -74,7 +74,7 @@ pub fn accepted_lines_are_lawful()
         → IsRuleLine a.weights (length a.controls) (length a.symbols) (length a.items) (rule_value a r) }
     ensures query { (all : ℕ) (a : Above) (p q : PatternForm)
         → first_fault (query_conditions all a p q) ≡ None
-        → IsQueryLine (length a.controls) (length a.symbols) (query_value a p q) }
+        → IsQueryLine all (length a.controls) (length a.symbols) (query_value a p q) }
 {}
 
 /// What the tests of names say.
