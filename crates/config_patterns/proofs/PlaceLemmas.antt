@@ -4,7 +4,7 @@ use Rattle.std.specs.Prelude.{◌||◌, ◌&&◌, not, replicate}
 use Rattle.std.proofs.lemmas.List.{at_drop_more, set_split, drop_all}
 use Rattle.config_patterns.specs.declared.item.Item.{Item}
 use Rattle.config_patterns.specs.Membership.{has_symbol, takes_any, takes_one, items_match, is_bare}
-use Rattle.config_patterns.specs.Places.{place_matches, advanced}
+use Rattle.config_patterns.specs.private.Places.{place_matches, advanced}
 use Rattle.config_patterns.proofs.SetTestLemmas.{or_false, last_place, place_step, end_step}
 
 -- the places after a symbol match what those before it match with the symbol

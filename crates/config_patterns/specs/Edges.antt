@@ -30,7 +30,7 @@ edges_of items = edges_on 0 1 items ++ edges_from 1 items
 abbrev pub is_starred : Item → Bool
 is_starred x = x.star
 
--- a state is final where all items above it are starred
+-- a state is final if all items above it are starred
 abbrev pub is_final_of : List Item → ℕ → Bool
 is_final_of items i = nat_le i (length items) && list_all is_starred (drop i items)
 

@@ -3,4 +3,4 @@ pub mod Edges
 pub mod Paths
 pub mod Validity
 pub mod Fault
-pub mod Places
+pub mod private

@@ -1,5 +1,5 @@
 -- Which configurations a pattern has.
-use Rattle.std.specs.Prelude.{ℕ, Bool, true, false, ◌||◌, ◌&&◌, nat_eq, List, [], ◌∷◌, if◌then◌else◌}
+use Rattle.std.specs.Prelude.{ℕ, Bool, true, false, ◌||◌, ◌&&◌, nat_eq, List, [], ◌∷◌, ◌++◌, if◌then◌else◌}
 use Rattle.std.specs.List.{list_any}
 use Rattle.pushdown_rules.specs.Configuration.{Configuration}
 use Rattle.config_patterns.specs.declared.item.Item.{Item}
@@ -9,6 +9,10 @@ pub record PatternValue : Type 0 where
   pub control : ℕ
   pub symbols : ℕ
   pub items : List Item
+
+-- the pattern with one item more
+abbrev pub with_item : PatternValue → List ℕ → Bool → PatternValue
+with_item p set star = record p { items = p.items ++ record { set = set; star = star } ∷ [] }
 
 -- the symbol is in the set
 abbrev pub has_symbol : ℕ → List ℕ → Bool

@@ -1,5 +1,6 @@
 -- What holds of each pattern.
 use Rattle.std.specs.Prelude.{◌≡◌, ℕ, ◌<◌, ◌≤◌, Bool, true, ◌&&◌, not, List, [], ◌∷◌, length, All, IsTrue, Option, None, Some}
+use Rattle.wpds_base.specs.Limits.{most_items, most_edges}
 use Rattle.config_patterns.specs.declared.item.Item.{Item}
 use Rattle.config_patterns.specs.Membership.{PatternValue, has_symbol}
 use Rattle.config_patterns.specs.Edges.{edges_of, finals_of}
@@ -16,8 +17,8 @@ pub record IsItem (symbols : ℕ) (x : Item) : Type 0 where
 
 -- A pattern within the limits.
 pub record IsPattern (p : PatternValue) : Type 0 where
-  pub few_items : length p.items ≤ 1000
-  pub few_edges : length (edges_of p.items) ≤ 1000000
+  pub few_items : length p.items ≤ most_items
+  pub few_edges : length (edges_of p.items) ≤ most_edges
   pub items : All (IsItem p.symbols) p.items
 
 -- the counts that are kept of the items
@@ -25,7 +26,7 @@ pub record AreCounts (items : List Item) (edge_count final_count : ℕ) : Type 0
   pub edges : edge_count ≡ length (edges_of items)
   pub finals : final_count ≡ finals_of items
 
--- the number, where it is not over the limit of edges
+-- the number, if it is not over the limit of edges
 abbrev pub IsWithin : Option ℕ → ℕ → Type 0
-IsWithin None n = 1000000 < n
-IsWithin (Some k) n = (k ≡ n) × (k ≤ 1000000)
+IsWithin None n = most_edges < n
+IsWithin (Some k) n = (k ≡ n) × (k ≤ most_edges)

@@ -1,4 +1,5 @@
 ghost use Rattle.std.specs.Prelude.{◌≡◌, ◌≤◌, ◌<◌, ◌++◌, suc, drop, length, OnOk, IfOk};
+ghost use Rattle.wpds_base.specs.Limits.{most_items};
 ghost use Rattle.config_patterns.specs.Edges.{edges_into, edges_on, edges_back, edges_from, edges_of};
 
 use crate::{Edge, Item};
@@ -21,9 +22,10 @@ fn push_into(edges: &mut Vec<Edge>, from: u32, to: u32, set: &[u32]) -> Result<(
 
 // Adds the edges from a state to the items above it, up to the first without star.
 fn push_on(edges: &mut Vec<Edge>, from: usize, items: &[Item]) -> Result<(), OutOfMemory>
-    requires few { length items.now ≤ 1000 }
+    requires few { length items.now ≤ most_items }
     requires state { from ≤ length items.now }
-    ensures { OnOk result (edges.new.items ≡ edges.old.items ++ edges_on from (suc from) (drop from items.now)) }
+    ensures { OnOk result (
+        edges.new.items ≡ edges.old.items ++ edges_on from (suc from) (drop from items.now)) }
 {
     for i in from..items.len() {
         push_into(edges, from as u32, i as u32 + 1, items[i].set.as_slice())?;
@@ -50,7 +52,7 @@ pub(crate) fn list_edges(
     items: &[Item],
     count: u64,
 ) -> Result<Vec<Edge>, OutOfMemory>
-    requires { length items.now ≤ 1000 }
+    requires { length items.now ≤ most_items }
     ensures { IfOk result (λ edges. edges.items ≡ edges_of items.now) }
 {
     let mut edges = Vec::with_capacity(alloc, count as usize)?;

@@ -9,7 +9,7 @@ use wpds_base::{OutOfMemory, Sequence};
 pub type SymbolSet = Sequence<u32>;
 
 /// Whether a symbol is in a set.
-pub fn has_symbol(set: &[u32], symbol: u32) -> bool
+pub(crate) fn has_symbol(set: &[u32], symbol: u32) -> bool
     ensures { result ≡ has_symbol symbol set.now }
 {
     set.contains(&symbol)
@@ -33,4 +33,11 @@ pub fn is_set(symbols: &[u32]) -> bool
 pub struct Item {
     pub set: SymbolSet,
     pub star: bool,
+}
+
+/// A copy of these symbols, as a set.
+pub(crate) fn copy_set(alloc: Global, symbols: &[u32]) -> Result<SymbolSet, OutOfMemory>
+    ensures { IfOk result (λ set. set ≡ symbols.now) }
+{
+    Ok(SymbolSet::from_vec(symbols.to_vec(alloc)?))
 }

@@ -1,8 +1,10 @@
 ghost use Rattle.std.specs.Prelude.{◌≡◌, ◌≤◌, ◌<◌, true, false, [], length, slice_set};
+ghost use Rattle.wpds_base.specs.Limits.{most_items};
 ghost use Rattle.config_patterns.specs.Membership.{items_match};
-ghost use Rattle.config_patterns.specs.Places.{place_matches, advanced};
+ghost use Rattle.config_patterns.specs.private.Places.{place_matches, advanced};
 
 use crate::Item;
+use crate::item::has_symbol;
 use pushdown_rules::Config;
 
 /// How many places a walk over the items may have: before each of 1,000 items, and after the last.
@@ -48,7 +50,7 @@ fn may_end(items: &[Item], places: &[bool]) -> bool
 /// Whether the items match the stack of a configuration. It takes no memory; for each symbol it goes over the items
 /// once.
 pub(crate) fn match_stack(items: &[Item], config: &Config) -> bool
-    requires { length items.now ≤ 1000 }
+    requires { length items.now ≤ most_items }
     ensures { result ≡ items_match items.now config.now.stack }
 {
     let mut places = [false; MAX_PLACES];

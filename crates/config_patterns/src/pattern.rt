@@ -1,14 +1,16 @@
 ghost use Rattle.std.specs.Prelude.{◌≡◌, ◌<◌, ◌≤◌, ◌++◌, ◌∷◌, [], length, ◌+◌, ◌*◌, if◌then◌else◌, IsTrue, IfOk, OnOk, OnErr, All, nat_le, false};
 ghost use Rattle.std.specs.List.{list_any, list_all};
+ghost use Rattle.wpds_base.specs.Limits.{most_items};
 ghost use Rattle.config_patterns.specs.declared.pattern.PatternFault.TheVariants.{Memory};
-ghost use Rattle.config_patterns.specs.Membership.{has_member};
+ghost use Rattle.config_patterns.specs.Membership.{has_member, with_item};
 ghost use Rattle.config_patterns.specs.Edges.{edges_of, is_final_of, is_starred};
 ghost use Rattle.config_patterns.specs.Validity.{is_set, IsPattern, IsWithin};
 ghost use Rattle.config_patterns.specs.Fault.{item_fault, refusal_of, IsAccepted};
 
 use crate::edge_list::list_edges;
+use crate::item::copy_set;
 use crate::matching::match_stack;
-use crate::{EdgeList, Item, SymbolSet};
+use crate::{EdgeList, Item};
 use pushdown_rules::Config;
 use std::alloc::{AllocFailed, Global};
 use std::marker::Model;
@@ -19,7 +21,7 @@ const MAX_ITEMS: usize = 1_000;
 
 const MAX_EDGES: u64 = 1_000_000;
 
-/// Why an item was not added. Of several causes the first in this order is answered.
+/// Why an item was not added. Of several causes the first in this order is returned.
 #[derive(Clone, Copy, Debug, PartialEq, Eq, Error)]
 pub enum PatternFault {
     /// One of its symbols is not below the count.
@@ -70,9 +72,15 @@ impl Model for Pattern {
 
     ghost Value = { PatternValue };
 
-    ghost view = { λ p. record { control = p.control; symbols = p.symbols; items = p.items.items } };
+    ghost view = { λ p. record {
+      control = p.control;
+      symbols = p.symbols;
+      items = p.items.items;
+    } };
 
-    ghost invariant = { λ p. IsPattern (record { control = p.control; symbols = p.symbols; items = p.items.items }) × AreCounts p.items.items p.edges p.finals };
+    ghost invariant = { λ p.
+        IsPattern (record { control = p.control; symbols = p.symbols; items = p.items.items })
+        × AreCounts p.items.items p.edges p.finals };
 }
 
 impl Pattern {
@@ -108,7 +116,7 @@ impl Pattern {
     /// How many items it has.
     pub fn items(&self) -> u32
         ensures value { result ≡ length self.now.items }
-        ensures limit { result ≤ 1000 }
+        ensures limit { result ≤ most_items }
     {
         self.items.len() as u32
     }
@@ -141,12 +149,12 @@ impl Pattern {
     /// Adds an item. After a refusal the pattern is as it was.
     pub fn add_item(&mut self, alloc: Global, set: &[u32], star: bool) -> Result<(), PatternFault>
         requires { IsTrue (is_set set.now) }
-        ensures added { OnOk result (self.new ≡ record self.old { items = self.old.items ++ record { set = set.now; star = star } ∷ [] }) }
+        ensures added { OnOk result (self.new ≡ with_item self.old set.now star) }
         ensures refusal { refusal_of result ≡ item_fault self.old set.now star }
         ensures err { OnErr result (self.new ≡ self.old) }
     {
         let edges = self.admit(set, star)?;
-        let set = SymbolSet::from_vec(set.to_vec(alloc)?);
+        let set = copy_set(alloc, set)?;
         self.items.push(Item { set, star })?;
         self.edges = edges;
         self.finals = if star { self.finals + 1 } else { 1 };
@@ -157,7 +165,8 @@ impl Pattern {
     fn admit(&self, set: &[u32], star: bool) -> Result<u64, PatternFault>
         ensures refusal { refusal_of result ≡ item_fault self.now set.now star }
         ensures accepted { OnOk result (IsAccepted self.now set.now star) }
-        ensures count { IfOk result (λ n. n ≡ length (edges_of (self.now.items ++ record { set = set.now; star = star } ∷ []))) }
+        ensures count { IfOk result (λ n.
+            n ≡ length (edges_of (with_item self.now set.now star).items)) }
     {
         if has_from(self.symbols, set) {
             return Err(PatternFault::NoSymbol);
@@ -172,7 +181,7 @@ impl Pattern {
     }
 }
 
-// How many edges there are with an item of so many symbols, where they are not too many. Each of its symbols has an edge
+// How many edges there are with an item of so many symbols, if they are not too many. Each of its symbols has an edge
 // from each state that was final, and with a star one from the item itself.
 fn edges_with(edges: u64, finals: u64, symbols: u64, star: bool) -> Option<u64>
     requires { finals ≤ 1001 }

@@ -1,4 +1,8 @@
-use crate::{Edge, EdgeList, Pattern, PatternFault, SymbolSet, is_set};
+use crate::item::has_symbol;
+use crate::{
+    Edge, EdgeList, Pattern, PatternFault, SymbolSet, edges_skip_starred_items, edges_stand_once,
+    is_set, members_are_read,
+};
 use pushdown_rules::Config;
 use std::alloc::Global;
 use std::test::Fail;
@@ -201,4 +205,11 @@ fn a_thousand_stars_over_a_long_stack(rt: HostRuntime) -> Result<(), Fail> {
     // one edge into each item from each state below, and one back
     assert_eq!(rt; pattern.edges(alloc)?.as_slice().len(), 501_500);
     Ok(())
+}
+
+#[test]
+fn laws() {
+    edges_skip_starred_items();
+    edges_stand_once();
+    members_are_read();
 }

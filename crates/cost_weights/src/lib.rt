@@ -2,6 +2,7 @@
 #![tactic(auto)]
 
 ghost use Rattle.std.specs.Prelude.{◌≡◌, ◌<◌, ◌↔◌, IsErrOf, IfOk, min, Some};
+ghost use Rattle.wpds_base.specs.Limits.{most_cost};
 ghost use Rattle.semiring_laws.specs.Semiring.{Fits};
 ghost use Rattle.cost_weights.specs.Cost.{cost_operations};
 ghost use Rattle.cost_weights.specs.CostLaws.{cost_laws};
@@ -37,12 +38,13 @@ pub struct Cost {
 
 impl Model for Cost {
     ghost use Rattle.std.specs.Prelude.{ℕ, ◌<◌, ◌≤◌};
+    ghost use Rattle.wpds_base.specs.Limits.{most_cost};
 
     ghost Value = { ℕ };
 
     ghost view = { λ c. c.cap };
 
-    ghost invariant = { λ c. (0 < c.cap) × (c.cap ≤ 1000000000000000000) };
+    ghost invariant = { λ c. (0 < c.cap) × (c.cap ≤ most_cost) };
 
     ghost inverse = { λ n. record { cap = n } };
 }
@@ -52,7 +54,7 @@ impl Cost {
     pub fn new(cap: u64) -> Result<Cost, CostFault>
         ensures ok { IfOk result (λ c. c ≡ cap) }
         ensures zero { IsErrOf result CostFault.CapZero ↔ (cap ≡ 0) }
-        ensures too_large { IsErrOf result CostFault.CapTooLarge ↔ (1000000000000000000 < cap) }
+        ensures too_large { IsErrOf result CostFault.CapTooLarge ↔ (most_cost < cap) }
     {
         if cap == 0 {
             return Err(CostFault::CapZero);

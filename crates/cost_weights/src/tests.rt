@@ -1,6 +1,6 @@
 ghost use Rattle.semiring_laws.specs.Semiring.{Fits};
 
-use crate::{Cost, CostFault};
+use crate::{Cost, CostFault, below_is_no_dearer};
 use semiring_laws::{NoMap, Semiring};
 use std::alloc::Global;
 use std::test::Fail;
@@ -21,8 +21,8 @@ fn caps(rt: HostRuntime) -> Result<(), Fail> {
 
 // What a semiring makes of two weights: their combine, their extend, whether they are equal, whether the first is zero.
 fn answers_for<S: Semiring>(
-    semiring: &S,
     alloc: Global,
+    semiring: &S,
     a: &S::W,
     b: &S::W,
 ) -> Result<(S::W, S::W, bool, bool), OutOfMemory>
@@ -41,7 +41,7 @@ fn answers_for<S: Semiring>(
     ))
 }
 
-fn neutral<S: Semiring>(semiring: &S, alloc: Global) -> Result<(S::W, S::W), OutOfMemory> {
+fn neutral<S: Semiring>(alloc: Global, semiring: &S) -> Result<(S::W, S::W), OutOfMemory> {
     Ok((semiring.zero(alloc)?, semiring.one(alloc)?))
 }
 
@@ -61,7 +61,7 @@ fn costs(rt: HostRuntime) -> Result<(), Fail> {
     ];
     for (cap, a, b, sum) in rows {
         let cost = Cost::new(cap)?;
-        let answer = answers_for(&cost, alloc, &cost.number(a), &cost.number(b))?;
+        let answer = answers_for(alloc, &cost, &cost.number(a), &cost.number(b))?;
         assert_eq!(rt;
             answer,
             (Some(a.min(b)), Some(sum), a == b, false),
@@ -77,18 +77,19 @@ fn no_run(rt: HostRuntime) -> Result<(), Fail> {
     let cost = Cost::new(100)?;
     let seven = cost.number(7);
     assert_eq!(rt;
-        answers_for(&cost, alloc, &None, &seven)?,
+        answers_for(alloc, &cost, &None, &seven)?,
         (seven, None, false, true)
     );
     assert_eq!(rt;
-        answers_for(&cost, alloc, &seven, &None)?,
+        answers_for(alloc, &cost, &seven, &None)?,
         (seven, None, false, false)
     );
     assert_eq!(rt;
-        answers_for(&cost, alloc, &None, &None)?,
+        answers_for(alloc, &cost, &None, &None)?,
         (None, None, true, true)
     );
-    assert_eq!(rt; neutral(&cost, alloc)?, (None, Some(0)));
+    assert_eq!(rt; neutral(alloc, &cost)?, (None, Some(0)));
+    below_is_no_dearer();
     assert!(rt; cost.same_map(&NoMap::Plain, &cost.plain()));
     assert!(rt; cost.same_kind(&Cost::new(100)?) && !cost.same_kind(&Cost::new(101)?));
     Ok(())

@@ -1,18 +1,20 @@
-//! Worked rows that take several crates, as tests: values of runs, backward saturations by one seat and by two, and the
-//! sums over them.
+//! Worked rows that take several crates, as tests: values of runs, backward saturations by one seat and by two, and
+//! answers to queries.
 #![tactic(auto)]
 
+#[cfg(test)]
+mod answers;
 #[cfg(test)]
 mod openings;
 #[cfg(test)]
 mod patterns;
+#[cfg(test)]
+mod return_maps;
 #[cfg(test)]
 mod run_values;
 #[cfg(test)]
 mod saturations;
 #[cfg(test)]
 mod seats;
-#[cfg(test)]
-mod sums;
 #[cfg(test)]
 mod systems;

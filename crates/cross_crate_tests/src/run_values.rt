@@ -8,7 +8,7 @@ use std::alloc::Global;
 use std::test::Fail;
 use wpds_base::OutOfMemory;
 
-fn are_below(count: u32, run: &[u32]) -> bool
+pub(crate) fn are_below(count: u32, run: &[u32]) -> bool
     ensures { result ≡ true → All (λ k. k < count) run.now }
 {
     run.iter().all(|k| *k < count)

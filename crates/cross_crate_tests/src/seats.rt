@@ -1,7 +1,5 @@
-ghost use Rattle.std.specs.Prelude.{IfOk, IfSome};
-ghost use Rattle.saturation_core.specs.Settled.{IsWorkedBy};
-
-use saturation_core::{Book, Direction, Done, Taken};
+use saturation_core::{Book, Done, Taken};
+use saturation_laws::Direction;
 use semiring_laws::Semiring;
 use std::alloc::Global;
 use wpds_base::OutOfMemory;
@@ -11,9 +9,7 @@ fn work<'s, S: Semiring, D: Direction<S>>(
     alloc: Global,
     book: &mut Book<'s, S, D>,
     seat: u32,
-) -> Result<Option<Done<'s, S>>, OutOfMemory>
-    ensures { IfOk result (λ done. IfSome done (λ w. (d : D) × IsWorkedBy D.way d w)) }
-{
+) -> Result<Option<Done<'s, S, D>>, OutOfMemory> {
     if seat >= 64 || book.has_hand(seat) {
         return Ok(None);
     }
@@ -31,10 +27,8 @@ fn work<'s, S: Semiring, D: Direction<S>>(
 fn settle<S: Semiring, D: Direction<S>>(
     alloc: Global,
     book: &mut Book<'_, S, D>,
-    done: Option<Done<'_, S>>,
-) -> Result<bool, OutOfMemory>
-    requires { IfSome done (λ w. (d : D) × IsWorkedBy D.way d w) }
-{
+    done: Option<Done<'_, S, D>>,
+) -> Result<bool, OutOfMemory> {
     let Some(done) = done else {
         return Ok(false);
     };

@@ -25,3 +25,15 @@ pub(crate) fn steps(alloc: Global, cost: Cost) -> Result<System<Cost>, RuleFault
     system.add_rule(alloc, 0, 1, 0, &[2], cost.number(3), None)?;
     Ok(system)
 }
+
+/// Control p, symbols a and b, and no rule.
+pub(crate) fn ruleless(alloc: Global, cost: Cost) -> System<Cost> {
+    System::new(alloc, cost, 1, 2)
+}
+
+/// Control p, symbols a and b: p a -> p b at 3.
+pub(crate) fn one_step(alloc: Global, cost: Cost) -> Result<System<Cost>, RuleFault> {
+    let mut system = System::new(alloc, cost, 1, 2);
+    system.add_rule(alloc, 0, 0, 0, &[1], cost.number(3), None)?;
+    Ok(system)
+}

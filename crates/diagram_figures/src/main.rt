@@ -76,7 +76,7 @@ fn adder(alloc: Global, bits: u32) -> Result<Diagram, OutOfMemory>
 }
 
 // The relation over so many bits, composed with itself so many times.
-fn composed(alloc: Global, relation: &Diagram, bits: u32, times: u32) -> anyhow::Result<Diagram> {
+fn compose_times(alloc: Global, relation: &Diagram, bits: u32, times: u32) -> anyhow::Result<Diagram> {
     let mut made = relation.copy(alloc)?;
     for _ in 0..times {
         ensure!(
@@ -119,7 +119,7 @@ fn clause(alloc: Global, number: u64, width: u32) -> Result<Diagram, OutOfMemory
 // 'new is old plus one', composed with itself: each time what is added is doubled.
 fn print_successor(rt: &impl Print, alloc: Global) -> anyhow::Result<()> {
     let one = plus(alloc, BITS, 1)?;
-    let made = composed(alloc, &one, BITS, ROUNDS)?;
+    let made = compose_times(alloc, &one, BITS, ROUNDS)?;
     let direct = plus(alloc, BITS, 1 << ROUNDS)?;
     println!(rt;
         "successor of {BITS} bits: {} nodes; composed {ROUNDS} times: {} nodes; the same as plus {}: {}",

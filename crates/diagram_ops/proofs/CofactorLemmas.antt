@@ -7,9 +7,9 @@ use Rattle.std.proofs.lemmas.Option.{same_Some}
 use Rattle.diagram_store.specs.declared.branch.Branch.{Branch}
 use Rattle.diagram_store.specs.Nodes.{node_at, IsAbove, IsReduced}
 use Rattle.diagram_store.specs.Meaning.{value_at}
-use Rattle.diagram_store.proofs.CallerLemmas.{option_cases, one_node, value_at_node}
-use Rattle.diagram_ops.specs.Applying.{variable, place, lower, cofactor_of, cofactor_at, cofactor}
-use Rattle.diagram_ops.specs.Scratch.{IsPast}
+use Rattle.diagram_store.proofs.CallerLemmas.{option_cases, value_at_node}
+use Rattle.diagram_ops.specs.private.Applying.{variable, place, lower, cofactor_of, cofactor_at, cofactor}
+use Rattle.diagram_ops.specs.private.Scratch.{IsPast}
 
 pub variable_of : (nodes : List Branch) (r : ℕ) (n : Branch) → node_at nodes r ≡ Some n → variable nodes r ≡ Some n.var
 variable_of nodes r n e = ap (option_map (λ k. k.var)) e
@@ -90,7 +90,7 @@ module _ (order : ℕ → ℕ) (rises : (v w : ℕ) → v < w → order v < orde
           inl (
             ap (cofactor_of order p b r) n.1 ∙ cond-false (nat_eq (order n.0.var) p) (cond b n.0.high n.0.low) r apart,
             λ m e is.
-                let f : n.0 ≡ m = one_node nodes r n.0 m n.1 e in
+                let f : n.0 ≡ m = same_Some n.0 m (sym n.1 ∙ e) in
                 let g : true ≡ false = sym (eq-eqb (order n.0.var) p (ap (λ k. order k.var) f ∙ is)) ∙ apart in
                 cc,
           )

@@ -9,10 +9,10 @@ use Rattle.diagram_store.specs.Meaning.{value_at, set_bit}
 use Rattle.diagram_store.proofs.CallerLemmas.{constant_below, value_at_end, value_agrees, set_same, set_other}
 use Rattle.diagram_ops.specs.declared.composing.Operand.{Operand}
 use Rattle.diagram_ops.specs.declared.composing.Operand.TheVariants.{First, Second}
-use Rattle.diagram_ops.specs.Tables.{same_key}
-use Rattle.diagram_ops.specs.Scratch.{Keeps, Stands, IsPast, IsChoice}
-use Rattle.diagram_ops.specs.Applying.{AreApplied, Applies, lower, place, cofactor_at}
-use Rattle.diagram_ops.specs.Composing.{position, placed_value, IsTrueBetween, IsComposed, ComesBeforeBoth, IsComposition, AreComposed, Composes, IsJoined}
+use Rattle.diagram_ops.specs.private.Tables.{same_key}
+use Rattle.diagram_ops.specs.private.Scratch.{Keeps, Stands, IsPast, IsChoice}
+use Rattle.diagram_ops.specs.private.Applying.{AreApplied, Applies, lower, place, cofactor_at}
+use Rattle.diagram_ops.specs.private.Composing.{position, placed_value, IsTrueBetween, IsComposed, ComesBeforeBoth, IsComposition, AreComposed, Composes, IsJoined}
 use Rattle.diagram_ops.proofs.KeepingLemmas.{keeps_same, keeps_both, keeps_within, keeps_past, keeps_above, keeps_value}
 use Rattle.diagram_ops.proofs.PushLemmas.{key_parts}
 use Rattle.diagram_ops.proofs.CofactorLemmas.{Bounds, lower_is, lower_none, none_of_place, node_of_place, place_value, place_smaller, place_within, place_past}

@@ -1,32 +1,37 @@
 -- A copy in the order of a walk is canonical, and means the same.
-use Rattle.std.proofs.Common.{◌≡◌, ℕ, zero, suc, ◌+◌, ◌<◌, ◌≤◌, List, [], ◌∷◌, ◌++◌, length, refl, sym, ap, ◌∙◌, subst, inl, inr, arith}
-use Rattle.std.specs.Prelude.{Option, None, Some, nat_eq, cond, option_and_then}
-use Rattle.std.proofs.lemmas.Bool.{cases_lt, cases_Bool, cond-true, cond-false, eqb-true, eq-eqb, false_from_ne_true}
+use Rattle.std.proofs.Common.{◌≡◌, ℕ, zero, suc, ◌+◌, ◌<◌, List, [], ◌∷◌, ◌++◌, length, refl, sym, ap, ◌∙◌, subst, inl, inr, arith}
+use Rattle.std.specs.Prelude.{Option, None, Some, nat_eq, cond, slice_get}
+use Rattle.std.proofs.lemmas.Bool.{cases_Bool, cond-true, cond-false, eqb-true, eq-eqb, false_from_ne_true}
+use Rattle.std.proofs.lemmas.Grind.{merely}
 use Rattle.std.proofs.lemmas.Option.{same_Some}
-use Rattle.std.proofs.lemmas.List.{length_push}
+use Rattle.wpds_base.specs.Lists.{IsIn}
 use Rattle.diagram_store.specs.declared.branch.Branch.{Branch}
 use Rattle.diagram_store.specs.Nodes.{node_at, IsReduced}
-use Rattle.diagram_store.specs.Meaning.{value_at}
-use Rattle.diagram_store.specs.Canonical.{turn_after, in_turn, IsCanonical}
-use Rattle.diagram_store.proofs.CallerLemmas.{node_within, no_node, one_node, constant_below, value_at_node, value_at_end, same_cond, branches_apart, one_reference, turn_below, turn_by_branches, leaves, leaves_none, left_node, turn_stays, reduced_from_fitting}
-use Rattle.diagram_ops.specs.Scratch.{Keeps}
-use Rattle.diagram_ops.specs.Copying.{IsCopied, IsCopy, Copies}
-use Rattle.diagram_ops.proofs.KeepingLemmas.{keeps_same, keeps_both, keeps_within, keeps_above, keeps_value}
+use Rattle.diagram_store.specs.Meaning.{value_at, TellsReferences}
+use Rattle.diagram_store.specs.Canonical.{IsWalked, constant, again, leaves, IsCanonical}
+use Rattle.diagram_store.proofs.CallerLemmas.{node_within, node_there, no_node, constant_below, value_at_node, value_at_end}
+use Rattle.diagram_ops.specs.private.Scratch.{Keeps}
+use Rattle.diagram_ops.specs.private.Copying.{IsCopied, IsCopy, Copies}
+use Rattle.diagram_ops.proofs.KeepingLemmas.{same_cond, keeps_same, keeps_both, keeps_within, keeps_above, keeps_value}
 use Rattle.diagram_ops.proofs.PushLemmas.{node_push, node_last, keeps_push, reduced_push}
 
 -- a walk comes to the same among more nodes
-turn_kept : (a b : List Branch) → Keeps a b → (d turn r t : ℕ) → turn_after a d turn r ≡ Some t → turn_after b d turn r ≡ Some t
-turn_kept a b k zero turn r t e = elim (cases_lt r turn) [
-  | inl below ↦ turn_below b zero turn r below ∙ ap Some (sym (turn_stays a zero turn r t below e))
-  | inr above ↦ absurd (leaves_none a turn r t above e)
-]
-turn_kept a b k (suc d) turn r t e = elim (cases_lt r turn) [
-  | inl below ↦ turn_below b (suc d) turn r below ∙ ap Some (sym (turn_stays a (suc d) turn r t below e))
-  | inr above ↦
-      let l = leaves a d turn r t above e in
-      left_node b d turn r l.middle l.node (k.each r l.node l.there) above (turn_kept a b k d turn l.node.low l.middle l.low) (turn_kept a b k d l.middle l.node.high r l.high)
-      ∙ ap Some (sym l.ends)
-]
+walk_kept : (a b : List Branch) → Keeps a b → (left : List Branch) (r : ℕ) (after : List Branch) → IsWalked a left r after → IsWalked b left r after
+walk_kept a b k left r after (constant small) = constant small
+walk_kept a b k left r after (again {n = n} at is) = again (k.each r n at) is
+walk_kept a b k left r next (leaves {middle = middle} {after = after} {n = n} at low high) =
+    leaves (k.each r n at) (walk_kept a b k left n.low middle low) (walk_kept a b k middle n.high after high)
+
+stands_in : {X : Type 0} (xs : List X) (i : ℕ) (x : X) → slice_get xs i ≡ Some x → IsIn x xs
+stands_in [] i x e = cc
+stands_in (y ∷ ys) zero x e = inl (same_Some y x e)
+stands_in (y ∷ ys) (suc i) x e = inr (stands_in ys i x e)
+
+-- what was left is not walked again
+walk_stays : (nodes : List Branch) (r : ℕ) → r < length nodes + 2 → IsWalked nodes nodes r nodes
+walk_stays nodes zero w = constant (omega arith)
+walk_stays nodes (suc zero) w = constant (omega arith)
+walk_stays nodes (suc (suc i)) w = let n = node_there nodes (suc (suc i)) (omega arith) w in again n.1 (stands_in nodes i n.0 n.1)
 
 copied_kept : (s : List Branch) (r : ℕ) (a b : List Branch) (p : ℕ) → IsReduced a → IsReduced b → Keeps a b → IsCopied s r a p → IsCopied s r b p
 copied_kept s r a b p whole other k c = record {
@@ -43,7 +48,7 @@ copies_placed s places out r p c e = record {
   keeps = keeps_same out;
   others = λ k h. refl;
   copied = c.placed r p e;
-  turn = turn_below out p (length out + 2) p (c.placed r p e).to;
+  walk = walk_stays out p (c.placed r p e).to;
 }
 
 -- a constant
@@ -60,10 +65,10 @@ copies_constant s places out r c w none =
         means = λ bits. value_at_end out r bits (no_node out r small) ∙ sym (value_at_end s r bits none);
         above = λ v h n e. let f : None ≡ Some n = sym (no_node out r small) ∙ e in cc;
       };
-      turn = turn_below out r (length out + 2) r (omega arith);
+      walk = constant small;
     }
 
-module _ (s : List Branch) (whole : IsReduced s) (r : ℕ) (n : Branch) (at : node_at s r ≡ Some n)
+module _ (s : List Branch) (whole : IsReduced s) (tells : TellsReferences s) (r : ℕ) (n : Branch) (at : node_at s r ≡ Some n)
     (places0 : ℕ → Option ℕ) (out0 : List Branch) (places1 : ℕ → Option ℕ) (out1 : List Branch) (places2 : ℕ → Option ℕ) (out2 : List Branch) (l h : ℕ)
     (low : Copies s places0 out0 places1 out1 n.low l) (high : Copies s places1 out1 places2 out2 n.high h) (none : places0 r ≡ None) where
   abbrev m : Branch
@@ -85,7 +90,7 @@ module _ (s : List Branch) (whole : IsReduced s) (r : ℕ) (n : Branch) (at : no
   fresh q e =
       let other = high.copy.every q m e in
       let c = high.copy.placed other.0 q other.1 in
-      let is : other.0 ≡ r = one_reference s whole other.0 r c.from (node_within s r n at).1 (λ bits.
+      let is : other.0 ≡ r = tells other.0 r c.from (node_within s r n at).1 (λ bits.
       sym (c.means bits)
       ∙ value_at_node out2 high.copy.reduced q m bits e
       ∙ same_cond (bits n.var) (value_at out2 h bits) (value_at out2 l bits) (value_at s n.high bits) (value_at s n.low bits) (high.copied.means bits) (low_copied.means bits)
@@ -94,7 +99,7 @@ module _ (s : List Branch) (whole : IsReduced s) (r : ℕ) (n : Branch) (at : no
       cc
 
   differs : l ≡ h → ⊥
-  differs e = branches_apart s whole r n at (λ bits. sym (low_copied.means bits) ∙ ap (λ k. value_at out2 k bits) e ∙ high.copied.means bits)
+  differs e = whole.differs r n at (tells n.low n.high low.copied.from high.copied.from (λ bits. sym (low_copied.means bits) ∙ ap (λ k. value_at out2 k bits) e ∙ high.copied.means bits))
 
   reduced3 : IsReduced out3
   reduced3 =
@@ -117,7 +122,7 @@ module _ (s : List Branch) (whole : IsReduced s) (r : ℕ) (n : Branch) (at : no
         (keeps_value out2 high.copy.reduced out3 reduced3 keeps3 h high.copied.to bits ∙ high.copied.means bits)
         (keeps_value out2 high.copy.reduced out3 reduced3 keeps3 l low_copied.to bits ∙ low_copied.means bits)
         ∙ sym (value_at_node s whole r n bits at);
-    above = λ v b k e. let is : m ≡ k = one_node out3 p m k there e in subst (λ (x : Branch). v < x.var) is (b n at);
+    above = λ v b k e. let is : m ≡ k = same_Some m k (sym there ∙ e) in subst (λ (x : Branch). v < x.var) is (b n at);
   }
 
   module _ (places3 : ℕ → Option ℕ) (noted : (k : ℕ) → places3 k ≡ cond (nat_eq r k) (Some p) (places2 k)) where
@@ -146,17 +151,8 @@ module _ (s : List Branch) (whole : IsReduced s) (r : ℕ) (n : Branch) (at : no
       | inr new ↦ (r, at_itself ∙ ap Some (sym new.0))
     ]
 
-    turn3 : turn_after out3 p (length out0 + 2) p ≡ Some (length out3 + 2)
-    turn3 =
-        let k01 = keeps_within out0 out1 low.keeps in
-        let k12 = keeps_within out1 out2 high.keeps in
-        let grows : length out0 + 2 ≤ p = let a = k01 (length out0 + 1) (omega arith) in let b = k12 (length out0 + 1) a in omega (arith, a, b) in
-        let count : length out3 ≡ length out2 + 1 = length_push out2 m in
-        turn_by_branches out3 reduced3 (length out0 + 2) p m grows there
-        ∙ ap (λ o. option_and_then (in_turn p) (option_and_then (λ t. turn_after out3 h t h) o)) (turn_kept out1 out3 (keeps_both out1 out2 out3 high.keeps keeps3) l (length out0 + 2) l (length out1 + 2) low.turn)
-        ∙ ap (λ o. option_and_then (in_turn p) o) (turn_kept out2 out3 keeps3 h (length out1 + 2) h (length out2 + 2) high.turn)
-        ∙ cond-true (nat_eq p p) (Some (p + 1)) None (eq-eqb p p refl)
-        ∙ ap Some (omega arith)
+    walk3 : IsWalked out3 out0 p out3
+    walk3 = leaves there (walk_kept out1 out3 (keeps_both out1 out2 out3 high.keeps keeps3) out0 l out1 low.walk) (walk_kept out2 out3 keeps3 out1 h out2 high.walk)
 
     pub copies_node : Copies s places0 out0 places3 out3 r p
     copies_node = record {
@@ -166,21 +162,32 @@ module _ (s : List Branch) (whole : IsReduced s) (r : ℕ) (n : Branch) (at : no
           let before = whole.earlier r n at in
           at_other k (λ is. absurd (omega arith)) ∙ high.others k (omega (arith, before.1)) ∙ low.others k (omega (arith, before.0));
       copied = copied3;
-      turn = turn3;
+      walk = walk3;
     }
 
 -- a node after its branches, as the code adds it
-pub copies_made : (s : List Branch) → IsReduced s → (r : ℕ) (n : Branch) → node_at s r ≡ Some n
+pub copies_made : (s : List Branch) → IsReduced s → TellsReferences s → (r : ℕ) (n : Branch) → node_at s r ≡ Some n
     → (places0 : ℕ → Option ℕ) (out0 : List Branch) (places1 : ℕ → Option ℕ) (out1 : List Branch) (places2 : ℕ → Option ℕ) (out2 : List Branch) (l h : ℕ)
     → Copies s places0 out0 places1 out1 n.low l → Copies s places1 out1 places2 out2 n.high h → places0 r ≡ None
     → (places3 : ℕ → Option ℕ) (out3 : List Branch) (p : ℕ) → p ≡ length out2 + 2 → out3 ≡ out2 ++ record { var = n.var; low = l; high = h } ∷ []
     → ((k : ℕ) → places3 k ≡ cond (nat_eq r k) (Some p) (places2 k)) → Copies s places0 out0 places3 out3 r p
-copies_made s whole r n at places0 out0 places1 out1 places2 out2 l h low high none places3 out3 p count is noted =
+copies_made s whole tells r n at places0 out0 places1 out1 places2 out2 l h low high none places3 out3 p count is noted =
     let N : ℕ → Type 0 = λ q. (k : ℕ) → places3 k ≡ cond (nat_eq r k) (Some q) (places2 k) in
-    let made = copies_node s whole r n at places0 out0 places1 out1 places2 out2 l h low high none places3 (subst N count noted) in
+    let made = copies_node s whole tells r n at places0 out0 places1 out1 places2 out2 l h low high none places3 (subst N count noted) in
     let P : ℕ → Type 0 = λ q. Copies s places0 out0 places3 (out2 ++ record { var = n.var; low = l; high = h } ∷ []) r q in
     let Q : List Branch → Type 0 = λ o. Copies s places0 out0 places3 o r p in
     subst Q (sym is) (subst P (sym count) made)
+
+nowhere : (r : ℕ) (n : Branch) → node_at [] r ≡ Some n → ⊥
+nowhere r n e = let w = node_within [] r n e in absurd (omega (arith, w.0, w.1))
+
+none_reduced : IsReduced []
+none_reduced = record {
+  earlier = λ r n e. absurd (nowhere r n e);
+  rises = λ r n e. absurd (nowhere r n e);
+  differs = λ r n e same. nowhere r n e;
+  distinct = λ r s n e f. absurd (nowhere r n e);
+}
 
 -- nothing is copied yet
 pub copy_empty : (s : List Branch) (places : ℕ → Option ℕ) (out : List Branch) → ((k : ℕ) → places k ≡ None) → out ≡ [] → IsCopy s places out
@@ -188,13 +195,13 @@ copy_empty s places out none e =
     let P : List Branch → Type 0 = λ o. IsCopy s places o in
     subst P (sym e)
     (record {
-      reduced = reduced_from_fitting [] (λ k n f. cc);
+      reduced = none_reduced;
       placed = λ r p f. let g : None ≡ Some p = sym (none r) ∙ f in cc;
-      every = λ p m f. let w = node_within [] p m f in absurd (omega (arith, w.0, w.1));
+      every = λ p m f. absurd (nowhere p m f);
     })
 
 pub copy_canonical : (s : List Branch) (old new : ℕ → Option ℕ) (before after : List Branch) (r p : ℕ) → before ≡ [] → Copies s old before new after r p → IsCanonical p after
 copy_canonical s old new before after r p e c = record {
   reduced = c.copy.reduced;
-  post_order = ap (λ o. turn_after after p (length o + 2) p) (sym e) ∙ c.turn;
+  post_order = merely (subst (λ (o : List Branch). IsWalked after o p after) e c.walk);
 }

@@ -4,14 +4,16 @@ use Rattle.std.specs.Prelude.{Some, cond, slice_index_or}
 use Rattle.std.proofs.lemmas.Bool.{cases_eq, cond-true, cond-false}
 use Rattle.std.proofs.lemmas.List.{length_push}
 use Rattle.std.proofs.lemmas.Option.{slice_get-get_or}
+use Rattle.std.proofs.Math.Logic.{∥∥₁_elim}
+use Rattle.std.proofs.Props.{props}
 use Rattle.diagram_store.specs.declared.branch.Branch.{Branch}
 use Rattle.diagram_store.specs.Nodes.{node_at, IsAbove, IsReduced}
 use Rattle.diagram_store.specs.Meaning.{value_at, set_bit}
-use Rattle.diagram_store.specs.Canonical.{IsCanonical}
-use Rattle.diagram_store.proofs.CallerLemmas.{turn_past, value_at_node, value_at_end, same_cond, set_same, set_other}
-use Rattle.diagram_ops.specs.Scratch.{Keeps, Stands, IsChoice}
-use Rattle.diagram_ops.specs.Images.{IsImage, IsValue, IsRestricted}
-use Rattle.diagram_ops.proofs.KeepingLemmas.{keeps_same, stands_kept}
+use Rattle.diagram_store.specs.Canonical.{IsWalked, constant, again, leaves, IsCanonical}
+use Rattle.diagram_store.proofs.CallerLemmas.{node_within, value_at_node, value_at_end, set_same, set_other}
+use Rattle.diagram_ops.specs.private.Scratch.{Keeps, Stands, IsChoice}
+use Rattle.diagram_ops.specs.private.Images.{IsImage, IsValue, IsRestricted}
+use Rattle.diagram_ops.proofs.KeepingLemmas.{same_cond, keeps_same, stands_kept}
 
 get_old : (xs : List ℕ) (y k : ℕ) → k < length xs → get_or (xs ++ y ∷ []) k 0 ≡ get_or xs k 0
 get_old [] y k h = absurd (omega arith)
@@ -134,8 +136,14 @@ root_placed nodes root count w e = omega arith
 pub stands_at : (scratch : List Branch) (meaning : (ℕ → Bool) → Bool → Type 0) (before : ℕ → Type 0) (p q : ℕ) → p ≡ q → Stands scratch q meaning before → Stands scratch p meaning before
 stands_at scratch meaning before p q e s = let P : ℕ → Type 0 = λ j. Stands scratch j meaning before in subst P (sym e) s
 
+-- a walk goes from a reference to the nodes
+walk_within : (nodes left : List Branch) (r : ℕ) (after : List Branch) → IsWalked nodes left r after → r < length nodes + 2
+walk_within nodes left r after (constant small) = omega arith
+walk_within nodes left r after (again {n = n} at is) = (node_within nodes r n at).1
+walk_within nodes left r next (leaves {n = n} at low high) = (node_within nodes r n at).1
+
 pub root_within : (nodes : List Branch) (root : ℕ) → IsCanonical root nodes → root < length nodes + 2
-root_within nodes root c = (turn_past nodes root 2 root (length nodes + 2) c.post_order).1
+root_within nodes root c = ∥∥₁_elim c.post_order (hlevel props) (walk_within nodes [] root nodes)
 
 -- the image of the root, as the code reads it
 pub root_stands : (meaning : List Branch → ℕ → (ℕ → Bool) → Bool → Type 0) (view nodes : List Branch) (scratch : List Branch) (places list : List ℕ) (root p k : ℕ) → view ≡ nodes → IsCanonical root nodes

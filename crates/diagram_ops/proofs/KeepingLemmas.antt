@@ -1,12 +1,16 @@
 -- What stays as scratch nodes are added.
-use Rattle.std.proofs.Common.{◌≡◌, ℕ, zero, suc, ◌+◌, ◌<◌, ◌≤◌, Bool, List, length, sym, ◌∙◌, subst, inl, inr, arith}
-use Rattle.std.specs.Prelude.{None, Some}
+use Rattle.std.proofs.Common.{◌≡◌, ℕ, zero, suc, ◌+◌, ◌<◌, ◌≤◌, Bool, List, length, sym, ap₂, ◌∙◌, subst, inl, inr, arith}
+use Rattle.std.specs.Prelude.{None, Some, cond}
 use Rattle.std.proofs.lemmas.Bool.{cases_lt}
+use Rattle.std.proofs.lemmas.Option.{same_Some}
 use Rattle.diagram_store.specs.declared.branch.Branch.{Branch}
 use Rattle.diagram_store.specs.Nodes.{node_at, IsAbove, IsReduced}
 use Rattle.diagram_store.specs.Meaning.{value_at}
-use Rattle.diagram_store.proofs.CallerLemmas.{option_cases, node_within, node_there, no_node, constant_below, one_node, value_at_end, value_at_node, same_cond}
-use Rattle.diagram_ops.specs.Scratch.{Keeps, Stands, IsPast}
+use Rattle.diagram_store.proofs.CallerLemmas.{option_cases, node_within, node_there, no_node, constant_below, value_at_end, value_at_node}
+use Rattle.diagram_ops.specs.private.Scratch.{Keeps, Stands, IsPast}
+
+pub same_cond : (b : Bool) (x y x' y' : Bool) → x ≡ x' → y ≡ y' → cond b x y ≡ cond b x' y'
+same_cond b x y x' y' p q = ap₂ (λ s t. cond b s t) p q
 
 pub keeps_same : (nodes : List Branch) → Keeps nodes nodes
 keeps_same nodes = record { each = λ r n e. e }
@@ -25,7 +29,7 @@ keeps_past order old new k p r w past n e = elim (cases_lt r 2) [
   | inl small ↦ let f : None ≡ Some n = sym (no_node new r small) ∙ e in cc
   | inr node ↦
       let m = node_there old r node w in
-      let is : m.0 ≡ n = one_node new r m.0 n (k.each r m.0 m.1) e in
+      let is : m.0 ≡ n = same_Some m.0 n (sym (k.each r m.0 m.1) ∙ e) in
       subst (λ (x : Branch). p < order x.var) is (past m.0 m.1)
 ]
 

@@ -5,9 +5,9 @@ use Rattle.std.proofs.lemmas.Bool.{cases_Bool, cond-true, cond-false, and_parts,
 use Rattle.std.proofs.lemmas.Option.{same_Some}
 use Rattle.diagram_store.specs.declared.branch.Branch.{Branch}
 use Rattle.diagram_store.specs.Nodes.{node_at, IsAbove, IsReduced}
-use Rattle.diagram_store.proofs.CallerLemmas.{node_within, one_node, value_at_node, from_parts}
-use Rattle.diagram_ops.specs.Tables.{same_key}
-use Rattle.diagram_ops.specs.Scratch.{Keeps, FindsNodes, IsScratch, Stands, IsChoice}
+use Rattle.diagram_store.proofs.CallerLemmas.{node_within, value_at_node, from_parts}
+use Rattle.diagram_ops.specs.private.Tables.{same_key}
+use Rattle.diagram_ops.specs.private.Scratch.{Keeps, FindsNodes, IsScratch, Stands, IsChoice}
 use Rattle.diagram_ops.proofs.KeepingLemmas.{keeps_above}
 
 get_push : {X : Type 0} (xs : List X) (y x : X) (k : ℕ) → slice_get (xs ++ y ∷ []) k ≡ Some x → (slice_get xs k ≡ Some x) ⊎ ((k ≡ length xs) × (y ≡ x))
@@ -140,7 +140,7 @@ pub stands_node : (nodes : List Branch) → IsReduced nodes → (r : ℕ) (n : B
 stands_node nodes all r n at = record {
   within = (node_within nodes r n at).1;
   means = λ bits. value_at_node nodes all r n bits at;
-  above = λ v h m e. let is : n ≡ m = one_node nodes r n m at e in subst (λ (x : Branch). v < x.var) is h;
+  above = λ v h m e. let is : n ≡ m = same_Some n m (sym at ∙ e) in subst (λ (x : Branch). v < x.var) is h;
 }
 
 pub record Pushed (next : ℕ → ℕ → ℕ → Option ℕ) (nodes more : List Branch) (r v l h : ℕ) : Type 0 where

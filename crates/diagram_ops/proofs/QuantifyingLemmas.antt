@@ -6,10 +6,11 @@ use Rattle.truth_tables.specs.Tables.{value3_of}
 use Rattle.diagram_store.specs.declared.branch.Branch.{Branch}
 use Rattle.diagram_store.specs.Nodes.{node_at, IsAbove, IsReduced}
 use Rattle.diagram_store.specs.Meaning.{value_at, set_bit}
-use Rattle.diagram_store.proofs.CallerLemmas.{value_at_end, value_of_high, value_of_low, set_other, low_value, high_value}
-use Rattle.diagram_ops.specs.Scratch.{Stands}
-use Rattle.diagram_ops.specs.Applying.{Applies}
-use Rattle.diagram_ops.specs.Images.{IsImage, is_listed, IsQuantified}
+use Rattle.diagram_store.proofs.CallerLemmas.{value_at_end, value_at_node, set_other, low_value, high_value}
+use Rattle.diagram_ops.specs.private.Scratch.{Stands}
+use Rattle.diagram_ops.specs.private.Applying.{Applies}
+use Rattle.diagram_ops.specs.Quantifying.{is_listed, AgreeOutside}
+use Rattle.diagram_ops.specs.private.Images.{IsImage, IsQuantified}
 use Rattle.diagram_ops.proofs.KeepingLemmas.{keeps_above}
 use Rattle.diagram_ops.proofs.ApplyingLemmas.{value3_same}
 use Rattle.diagram_ops.proofs.ImageLemmas.{made_means, low_within, high_within, low_above, high_above}
@@ -28,9 +29,15 @@ or_table false true = refl
 or_table false false = refl
 
 module _ (nodes : List Branch) (whole : IsReduced nodes) (vars : List ℕ) (r : ℕ) (n : Branch) (at : node_at nodes r ≡ Some n) where
+  high_taken : (bits : ℕ → Bool) → bits n.var ≡ true → value_at nodes r bits ≡ value_at nodes n.high bits
+  high_taken bits e = value_at_node nodes whole r n bits at ∙ cond-true (bits n.var) (value_at nodes n.high bits) (value_at nodes n.low bits) e
+
+  low_taken : (bits : ℕ → Bool) → bits n.var ≡ false → value_at nodes r bits ≡ value_at nodes n.low bits
+  low_taken bits e = value_at_node nodes whole r n bits at ∙ cond-false (bits n.var) (value_at nodes n.high bits) (value_at nodes n.low bits) e
+
   -- a variable that is quantified
   module _ (listed : is_listed vars n.var ≡ true) where
-    off_still : (bits other : ℕ → Bool) (b : Bool) → ((k : ℕ) → is_listed vars k ≡ false → other k ≡ bits k) → (k : ℕ) → is_listed vars k ≡ false → set_bit other n.var b k ≡ bits k
+    off_still : (bits other : ℕ → Bool) (b : Bool) → AgreeOutside vars bits other → AgreeOutside vars bits (set_bit other n.var b)
     off_still bits other b off k not =
         set_other other n.var b k (λ e. let f : true ≡ false = sym listed ∙ ap (is_listed vars) (sym e) ∙ not in cc) ∙ off k not
 
@@ -41,8 +48,8 @@ module _ (nodes : List Branch) (whole : IsReduced nodes) (vars : List ℕ) (r : 
         | inr e ↦ let o = mh.0 e in (set_bit o.0 n.var true, off_still bits o.0 true o.1, sym (high_value nodes whole r n at o.0) ∙ o.2)
       ],
       λ o. is ∙ elim (cases_Bool (o.0 n.var)) [
-        | inl e ↦ or_right l h (mh.1 (o.0, o.1, sym (value_of_high nodes whole r n o.0 at e) ∙ o.2))
-        | inr e ↦ or_left l h (ml.1 (o.0, o.1, sym (value_of_low nodes whole r n o.0 at e) ∙ o.2))
+        | inl e ↦ or_right l h (mh.1 (o.0, o.1, sym (high_taken o.0 e) ∙ o.2))
+        | inr e ↦ or_left l h (ml.1 (o.0, o.1, sym (low_taken o.0 e) ∙ o.2))
       ],
     )
 
@@ -52,13 +59,13 @@ module _ (nodes : List Branch) (whole : IsReduced nodes) (vars : List ℕ) (r : 
   chosen_means stays bits b l h ml mh is = elim (cases_Bool (bits n.var)) [
     | inl e ↦
         let same : b ≡ h = is ∙ cond-true (bits n.var) h l e in (
-          λ yes. let o = mh.0 (sym same ∙ yes) in (o.0, o.1, value_of_high nodes whole r n o.0 at (o.1 n.var stays ∙ e) ∙ o.2),
-          λ o. same ∙ mh.1 (o.0, o.1, sym (value_of_high nodes whole r n o.0 at (o.1 n.var stays ∙ e)) ∙ o.2),
+          λ yes. let o = mh.0 (sym same ∙ yes) in (o.0, o.1, high_taken o.0 (o.1 n.var stays ∙ e) ∙ o.2),
+          λ o. same ∙ mh.1 (o.0, o.1, sym (high_taken o.0 (o.1 n.var stays ∙ e)) ∙ o.2),
         )
     | inr e ↦
         let same : b ≡ l = is ∙ cond-false (bits n.var) h l e in (
-          λ yes. let o = ml.0 (sym same ∙ yes) in (o.0, o.1, value_of_low nodes whole r n o.0 at (o.1 n.var stays ∙ e) ∙ o.2),
-          λ o. same ∙ ml.1 (o.0, o.1, sym (value_of_low nodes whole r n o.0 at (o.1 n.var stays ∙ e)) ∙ o.2),
+          λ yes. let o = ml.0 (sym same ∙ yes) in (o.0, o.1, low_taken o.0 (o.1 n.var stays ∙ e) ∙ o.2),
+          λ o. same ∙ ml.1 (o.0, o.1, sym (low_taken o.0 (o.1 n.var stays ∙ e)) ∙ o.2),
         )
   ]
 

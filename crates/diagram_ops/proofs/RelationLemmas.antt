@@ -4,11 +4,13 @@ use Rattle.std.specs.Prelude.{◌↔◌, IsTrue, nat_eq, cond}
 use Rattle.std.proofs.lemmas.Bool.{cond-true, cond-false, cases_eq, eq-eqb, eqb-true, false_from_ne_true}
 use Rattle.diagram_store.specs.declared.branch.Branch.{Branch}
 use Rattle.diagram_store.specs.Nodes.{IsReduced}
+use Rattle.diagram_store.specs.declared.diagram.Diagram.{Diagram}
+use Rattle.diagram_store.specs.Diagrams.{meaning}
 use Rattle.diagram_store.specs.Meaning.{value_at}
 use Rattle.diagram_store.proofs.CallerLemmas.{value_agrees}
 use Rattle.diagram_ops.specs.declared.composing.Operand.TheVariants.{First, Second}
-use Rattle.diagram_ops.specs.Relations.{of_states, relates}
-use Rattle.diagram_ops.specs.Composing.{position, IsComposed}
+use Rattle.diagram_ops.specs.Relations.{of_states, relates, RelatesThrough}
+use Rattle.diagram_ops.specs.private.Composing.{position, IsComposed}
 
 apart : (k m : ℕ) → (k ≡ m → ⊥) → nat_eq k m ≡ false
 apart k m h = false_from_ne_true (nat_eq k m) (λ e. h (eqb-true k m e))
@@ -62,11 +64,9 @@ spread_between old middle new i =
 
 -- the result, copied out of scratch nodes where both relations were loaded
 pub relates_composed : (nodes : List Branch) → IsReduced nodes → (x y r : ℕ) → ((bits : ℕ → Bool) → IsComposed nodes x y bits (value_at nodes r bits))
-    → (a : List Branch) (i : ℕ) → ((bits : ℕ → Bool) → value_at nodes x bits ≡ value_at a i bits)
-    → (b : List Branch) (j : ℕ) → ((bits : ℕ → Bool) → value_at nodes y bits ≡ value_at b j bits)
-    → (d : List Branch) (q : ℕ) → ((bits : ℕ → Bool) → value_at d q bits ≡ value_at nodes r bits)
-    → (old new : ℕ → Bool) → IsTrue (relates d q old new) ↔ ((middle : ℕ → Bool) × IsTrue (relates a i old middle) × IsTrue (relates b j middle new))
-relates_composed nodes whole x y r means a i ax b j by d q dr old new = (
+    → (a : Diagram) → ((bits : ℕ → Bool) → value_at nodes x bits ≡ meaning a bits) → (b : Diagram) → ((bits : ℕ → Bool) → value_at nodes y bits ≡ meaning b bits)
+    → (d : Diagram) → ((bits : ℕ → Bool) → meaning d bits ≡ value_at nodes r bits) → (old new : ℕ → Bool) → IsTrue (relates d old new) ↔ RelatesThrough a b old new
+relates_composed nodes whole x y r means a ax b by d dr old new = (
   λ yes.
       let o = (means (of_states old new)).0 (sym (dr (of_states old new)) ∙ yes) in
       let middle : ℕ → Bool = λ k. o.0 (4 * k + 1) in

@@ -1,14 +1,17 @@
 -- A diagram with other variables in the same order is canonical, and reads the bits of these.
-use Rattle.std.proofs.Common.{◌≡◌, ℕ, zero, suc, ◌+◌, ◌<◌, ◌≤◌, Bool, List, [], ◌∷◌, length, map, refl, sym, ap, ◌∙◌, subst, inl, inr, arith}
+use Rattle.std.proofs.Common.{◌≡◌, ℕ, zero, suc, ◌<◌, ◌≤◌, Bool, List, [], ◌∷◌, ◌++◌, length, map, refl, sym, ap, ◌∙◌, subst, inl, inr, arith}
 use Rattle.std.specs.Prelude.{None, Some, option_map, slice_index}
 use Rattle.std.proofs.lemmas.Bool.{cases_lt}
 use Rattle.std.proofs.lemmas.Option.{slice_get-map, same_Some}
+use Rattle.std.proofs.Math.Logic.{∥∥₁_map}
+use Rattle.wpds_base.specs.Lists.{IsIn}
 use Rattle.diagram_store.specs.declared.branch.Branch.{Branch}
 use Rattle.diagram_store.specs.Nodes.{node_at, IsAbove, IsReduced, HasVariablesBelow}
 use Rattle.diagram_store.specs.Meaning.{value_at}
-use Rattle.diagram_store.specs.Canonical.{turn_after, IsCanonical}
-use Rattle.diagram_store.proofs.CallerLemmas.{option_cases, no_node, value_at_node, value_at_end, same_cond, from_parts, turn_below, leaves, leaves_none, left_node, turn_stays}
-use Rattle.diagram_ops.specs.Renaming.{Rises, with_variable}
+use Rattle.diagram_store.specs.Canonical.{IsWalked, constant, again, leaves, IsCanonical}
+use Rattle.diagram_store.proofs.CallerLemmas.{option_cases, no_node, value_at_node, value_at_end, from_parts}
+use Rattle.diagram_ops.specs.Renaming.{AreBelow, Rises, with_variable}
+use Rattle.diagram_ops.proofs.KeepingLemmas.{same_cond}
 
 module _ (names : List ℕ) (nodes : List Branch) where
   abbrev new : List Branch
@@ -35,18 +38,21 @@ module _ (names : List ℕ) (nodes : List Branch) where
   by_old : (P : ℕ → Branch → Type 0) → ((r : ℕ) (n : Branch) → node_at nodes r ≡ Some n → P r (with_variable names n)) → (r : ℕ) (m : Branch) → node_at new r ≡ Some m → P r m
   by_old P old r m e = let o = old_node r m e in subst (λ (k : Branch). P r k) o.2 (old r o.0 o.1)
 
-  turn_named : (d turn r t : ℕ) → turn_after nodes d turn r ≡ Some t → turn_after new d turn r ≡ Some t
-  turn_named zero turn r t e = elim (cases_lt r turn) [
-    | inl below ↦ turn_below new zero turn r below ∙ ap Some (sym (turn_stays nodes zero turn r t below e))
-    | inr above ↦ absurd (leaves_none nodes turn r t above e)
-  ]
-  turn_named (suc d) turn r t e = elim (cases_lt r turn) [
-    | inl below ↦ turn_below new (suc d) turn r below ∙ ap Some (sym (turn_stays nodes (suc d) turn r t below e))
-    | inr above ↦
-        let l = leaves nodes d turn r t above e in
-        left_node new d turn r l.middle (with_variable names l.node) (named_node r l.node l.there) above (turn_named d turn l.node.low l.middle l.low) (turn_named d l.middle l.node.high r l.high)
-        ∙ ap Some (sym l.ends)
-  ]
+  named_in : (left : List Branch) (n : Branch) → IsIn n left → IsIn (with_variable names n) (map (with_variable names) left)
+  named_in [] n is = is
+  named_in (m ∷ ms) n (inl is) = inl (ap (with_variable names) is)
+  named_in (m ∷ ms) n (inr is) = inr (named_in ms n is)
+
+  named_last : (left : List Branch) (n : Branch) → map (with_variable names) left ++ with_variable names n ∷ [] ≡ map (with_variable names) (left ++ n ∷ [])
+  named_last [] n = refl
+  named_last (m ∷ ms) n = ap (λ l. with_variable names m ∷ l) (named_last ms n)
+
+  walk_named : (left : List Branch) (r : ℕ) (after : List Branch) → IsWalked nodes left r after → IsWalked new (map (with_variable names) left) r (map (with_variable names) after)
+  walk_named left r after (constant small) = constant small
+  walk_named left r after (again {n = n} at is) = again (named_node r n at) (named_in left n is)
+  walk_named left r next (leaves {middle = middle} {after = after} {n = n} at low high) =
+      subst (λ (l : List Branch). IsWalked new (map (with_variable names) left) r l) (named_last after n)
+      (leaves (named_node r n at) (walk_named left n.low middle low) (walk_named middle n.high after high))
 
   module _ (covers : HasVariablesBelow (length names) nodes) (rises : Rises names) where
     above_named : (v r : ℕ) → IsAbove nodes v r → IsAbove new (slice_index names v) r
@@ -94,20 +100,15 @@ module _ (names : List ℕ) (nodes : List Branch) where
             ∙ sym (value_at_node nodes all r n.0 other n.1)
       ]
 
-renamed_count : (names : List ℕ) (nodes : List Branch) → length (map (with_variable names) nodes) ≡ length nodes
-renamed_count names [] = refl
-renamed_count names (n ∷ ns) = ap suc (renamed_count names ns)
-
 -- as the code makes the nodes
 pub named_canonical : (names : List ℕ) (view nodes list : List Branch) (root : ℕ) → view ≡ nodes → IsCanonical root nodes → HasVariablesBelow (length names) nodes → Rises names → list ≡ map (with_variable names) view
     → IsCanonical root list
 named_canonical names view nodes list root e c covers rises is =
     let P : List Branch → Type 0 = λ l. IsCanonical root l in
-    let count : length (map (with_variable names) nodes) ≡ length nodes = renamed_count names nodes in
     subst P (sym (is ∙ ap (map (with_variable names)) e))
     (record {
       reduced = reduced_named names nodes covers rises c.reduced;
-      post_order = turn_named names nodes root 2 root (length nodes + 2) c.post_order ∙ ap (λ k. Some (k + 2)) (sym count);
+      post_order = ∥∥₁_map c.post_order (walk_named names nodes [] root nodes);
     })
 
 pub named_value : (names : List ℕ) (view nodes list : List Branch) (root : ℕ) → view ≡ nodes → IsCanonical root nodes → HasVariablesBelow (length names) nodes → Rises names → list ≡ map (with_variable names) view
@@ -117,7 +118,7 @@ named_value names view nodes list root e c covers rises is bits =
 
 -- each variable is one of the names
 pub named_below : (names : List ℕ) (view nodes list : List Branch) → view ≡ nodes → HasVariablesBelow (length names) nodes → list ≡ map (with_variable names) view
-    → (limit : ℕ) → ((k : ℕ) → k < length names → slice_index names k < limit) → HasVariablesBelow limit list
+    → (limit : ℕ) → AreBelow limit names → HasVariablesBelow limit list
 named_below names view nodes list e covers is limit below =
     let P : List Branch → Type 0 = λ l. HasVariablesBelow limit l in
     subst P (sym (is ∙ ap (map (with_variable names)) e)) (by_old names nodes (λ r k. k.var < limit) (λ r n at. below n.var (covers r n at)))

@@ -9,8 +9,8 @@ use Rattle.diagram_store.specs.declared.branch.Branch.{Branch}
 use Rattle.diagram_store.specs.Nodes.{IsAbove, IsReduced}
 use Rattle.diagram_store.specs.Meaning.{value_at}
 use Rattle.diagram_store.proofs.CallerLemmas.{no_node, value_at_end}
-use Rattle.diagram_ops.specs.Applying.{AreApplied, Applies}
-use Rattle.diagram_ops.specs.ShortCuts.{IsValuation, CanBe, IsPossibleRow, IsShortCut}
+use Rattle.diagram_ops.specs.private.Applying.{AreApplied, Applies}
+use Rattle.diagram_ops.specs.private.ShortCuts.{IsValuation, CanBe, IsPossibleRow, IsShortCut}
 use Rattle.diagram_ops.proofs.KeepingLemmas.{keeps_same}
 
 abbrev row : Bool → Bool → Bool → ℕ

@@ -1,9 +1,4 @@
-pub mod Tables
-pub mod Scratch
-pub mod Copying
-pub mod Applying
-pub mod Images
-pub mod Renaming
+pub mod Quantifying
 pub mod Relations
-pub mod Composing
-pub mod ShortCuts
+pub mod Renaming
+pub mod private

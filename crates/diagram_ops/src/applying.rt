@@ -1,8 +1,8 @@
 ghost use Rattle.std.specs.Prelude.{◌≡◌, ◌+◌, ◌<◌, ◌^◌, ℕ, Some, true, false, IfOk, length};
 ghost use Rattle.diagram_store.specs.Nodes.{IsReduced};
-ghost use Rattle.diagram_ops.specs.Applying.{AreApplied, Applies, variable, cofactor};
-ghost use Rattle.diagram_ops.specs.Applying as applying;
-ghost use Rattle.diagram_ops.specs.Tables.{known};
+ghost use Rattle.diagram_ops.specs.private.Applying.{AreApplied, Applies, variable, cofactor};
+ghost use Rattle.diagram_ops.specs.private.Applying as applying;
+ghost use Rattle.diagram_ops.specs.private.Tables.{known};
 
 use crate::scratch::Scratch;
 use crate::short_cuts::short_cut;
@@ -49,7 +49,9 @@ pub(crate) fn apply(
 
 // The lowest variable of three references, if one of them is a node.
 fn lowest(scratch: &Scratch, x: u64, y: u64, z: u64) -> Option<u32>
-    ensures lowest { result ≡ applying.lower (applying.lower (variable scratch.now x) (variable scratch.now y)) (variable scratch.now z) }
+    ensures lowest { result
+        ≡ applying.lower (applying.lower (variable scratch.now x) (variable scratch.now y))
+        (variable scratch.now z) }
     ensures reduced { IsReduced scratch.now }
 {
     let first = lower(variable(scratch, x), variable(scratch, y));

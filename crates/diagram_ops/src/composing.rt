@@ -1,20 +1,21 @@
 ghost use Rattle.std.specs.Prelude.{◌≡◌, ◌↔◌, ◌+◌, ◌*◌, ◌/◌, ◌<◌, ◌^◌, ℕ, Bool, true, false, IsTrue, IfOk, IfSome, length};
-ghost use Rattle.diagram_store.specs.Nodes.{IsReduced, IsAbove, HasVariablesBelow};
-ghost use Rattle.diagram_ops.specs.Applying.{AreApplied, lower, place, cofactor_at};
-ghost use Rattle.diagram_ops.specs.Composing.{AreComposed, Composes, IsJoined};
-ghost use Rattle.diagram_ops.specs.Composing as composing;
-ghost use Rattle.diagram_ops.specs.Relations.{relates};
-ghost use Rattle.diagram_ops.specs.Scratch.{Keeps, Stands};
-ghost use Rattle.diagram_ops.specs.Tables.{known};
+ghost use Rattle.diagram_store.specs.Diagrams.{IsOver};
+ghost use Rattle.diagram_store.specs.Nodes.{IsReduced, IsAbove};
+ghost use Rattle.diagram_ops.specs.private.Applying.{AreApplied, lower, place, cofactor_at};
+ghost use Rattle.diagram_ops.specs.private.Composing.{AreComposed, Composes, IsJoined};
+ghost use Rattle.diagram_ops.specs.private.Composing as composing;
+ghost use Rattle.diagram_ops.specs.Relations.{relates, RelatesThrough};
+ghost use Rattle.diagram_ops.specs.private.Scratch.{Keeps, Stands};
+ghost use Rattle.diagram_ops.specs.private.Tables.{known};
 ghost use Rattle.diagram_ops.specs.declared.composing.Operand.TheVariants.{First, Second};
 
 use crate::applying::{OR, apply};
-use crate::copying::copied_out;
+use crate::copying::copy_out;
 use crate::loading::load;
 use crate::scratch::Scratch;
 use crate::table::Table;
 use bumpalo::Bump;
-use diagram_store::Diagram;
+use diagram_store::{Diagram, independent_variables};
 use std::alloc::Global;
 use wpds_base::OutOfMemory;
 
@@ -29,12 +30,14 @@ pub fn compose_relations(
     a: &Diagram,
     b: &Diagram,
 ) -> Result<Diagram, OutOfMemory>
-    requires first { HasVariablesBelow (2 * n) a.now.nodes }
-    requires second { HasVariablesBelow (2 * n) b.now.nodes }
-    ensures relates { IfOk result (λ d. (old new : ℕ → Bool) → IsTrue (relates d.nodes d.root old new)
-        ↔ ((middle : ℕ → Bool) × IsTrue (relates a.now.nodes a.now.root old middle) × IsTrue (relates b.now.nodes b.now.root middle new))) }
-    ensures variables { IfOk result (λ d. HasVariablesBelow (2 * n) d.nodes) }
+    requires first { IsOver (2 * n) a.now }
+    requires second { IsOver (2 * n) b.now }
+    ensures relates { IfOk result (λ d. (old new : ℕ → Bool) → IsTrue (relates d old new)
+        ↔ RelatesThrough a.now b.now old new) }
+    ensures variables { IfOk result (λ d. IsOver (2 * n) d) }
 {
+    // the law that gives the variables of the result
+    independent_variables();
     let arena = Bump::new(alloc);
     let mut scratch = Scratch::new(alloc, &arena);
     let x = load(alloc, &mut scratch, a)?;
@@ -42,7 +45,7 @@ pub fn compose_relations(
     let mut results = Table::new(alloc);
     let mut joins = Table::new(alloc);
     let root = compose(&mut scratch, &mut results, &mut joins, x, y)?;
-    let made = copied_out(alloc, &scratch, root)?;
+    let made = copy_out(alloc, &scratch, root)?;
     Ok(made)
 }
 
@@ -66,7 +69,8 @@ fn compose(
     requires y { y < length scratch.old + 2 }
     requires results { AreComposed scratch.old (known results.old) }
     requires joins { AreApplied 252 scratch.old (known joins.old) }
-    ensures { IfOk result (λ r. Composes scratch.old scratch.new (known results.new) (known joins.new) x y r) }
+    ensures { IfOk result (λ r.
+        Composes scratch.old scratch.new (known results.new) (known joins.new) x y r) }
 {
     if x == 0 || y == 0 {
         return Ok(0);
@@ -104,7 +108,8 @@ fn join(
     ensures reduced { IfOk result (λ _. IsReduced scratch.new) }
     ensures keeps { IfOk result (λ _. Keeps scratch.old scratch.new) }
     ensures joins { IfOk result (λ _. AreApplied 252 scratch.new (known joins.new)) }
-    ensures stands { IfOk result (λ r. Stands scratch.new r (IsJoined scratch.new place low high) (λ v. 2 * v < place)) }
+    ensures stands { IfOk result (λ r.
+        Stands scratch.new r (IsJoined scratch.new place low high) (λ v. 2 * v < place)) }
 {
     if place % 2 == 1 {
         let joined = apply(scratch, joins, OR, low, high, 0)?;
@@ -116,7 +121,8 @@ fn join(
 
 // The lowest place of two references, if one of them is a node.
 fn lowest(scratch: &Scratch, x: u64, y: u64) -> Option<u64>
-    ensures lowest { result ≡ lower (place (composing.position First) scratch.now x) (place (composing.position Second) scratch.now y) }
+    ensures lowest { result ≡ lower (place (composing.position First) scratch.now x)
+        (place (composing.position Second) scratch.now y) }
     ensures of_variable { IfSome result (λ p. p / 2 < 2 ^ 32) }
     ensures reduced { IsReduced scratch.now }
 {
@@ -154,8 +160,10 @@ fn position(operand: Operand, var: u32) -> u64
 
 // Where the walk goes on from a reference where the bit at a place is false, and where it is true.
 fn branches(scratch: &Scratch, operand: Operand, place: u64, reference: u64) -> (u64, u64)
-    ensures low { result.0 ≡ cofactor_at (composing.position operand) scratch.now place false reference }
-    ensures high { result.1 ≡ cofactor_at (composing.position operand) scratch.now place true reference }
+    ensures low { result.0
+        ≡ cofactor_at (composing.position operand) scratch.now place false reference }
+    ensures high { result.1
+        ≡ cofactor_at (composing.position operand) scratch.now place true reference }
 {
     match scratch.node(reference) {
         Some(node) if position(operand, node.var) == place => (node.low, node.high),

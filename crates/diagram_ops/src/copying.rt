@@ -1,10 +1,11 @@
 ghost use Rattle.std.specs.Prelude.{◌≡◌, ◌+◌, ◌<◌, ◌++◌, [], ◌∷◌, ℕ, Bool, Some, IfOk, OnOk, length, cond, nat_eq};
 ghost use Rattle.std.specs.HashMap.{get};
+ghost use Rattle.diagram_store.specs.Diagrams.{meaning};
 ghost use Rattle.diagram_store.specs.Meaning.{value_at};
-ghost use Rattle.diagram_ops.specs.Copying.{IsCopy, Copies};
+ghost use Rattle.diagram_ops.specs.private.Copying.{IsCopy, Copies};
 
 use crate::scratch::Scratch;
-use diagram_store::{Branch, BranchList, Diagram};
+use diagram_store::{Branch, BranchList, Diagram, one_reference};
 use std::alloc::Global;
 use std::collections::HashMap;
 use wpds_base::OutOfMemory;
@@ -17,13 +18,10 @@ struct Copy {
 }
 
 /// The diagram with the meaning of a scratch reference.
-pub(crate) fn copied_out(
-    alloc: Global,
-    scratch: &Scratch,
-    root: u64,
-) -> Result<Diagram, OutOfMemory>
+pub(crate) fn copy_out(alloc: Global, scratch: &Scratch, root: u64) -> Result<Diagram, OutOfMemory>
     requires { root < length scratch.now + 2 }
-    ensures { IfOk result (λ d. (bits : ℕ → Bool) → value_at d.nodes d.root bits ≡ value_at scratch.now root bits) }
+    ensures { IfOk result (λ d. (bits : ℕ → Bool) → meaning d bits
+        ≡ value_at scratch.now root bits) }
 {
     let mut copy = Copy {
         nodes: Vec::new(alloc),
@@ -36,12 +34,16 @@ pub(crate) fn copied_out(
     })
 }
 
-// Copies what a reference reaches, low first, and answers its place.
+// Copies what a reference reaches, low first, and returns its place.
 fn copy_from(scratch: &Scratch, copy: &mut Copy, reference: u64) -> Result<u64, OutOfMemory>
     requires within { reference < length scratch.now + 2 }
     requires copy { IsCopy scratch.now (λ k. get nat_eq copy.old.places k) copy.old.nodes.items }
-    ensures { IfOk result (λ p. Copies scratch.now (λ k. get nat_eq copy.old.places k) copy.old.nodes.items (λ k. get nat_eq copy.new.places k) copy.new.nodes.items reference p) }
+    ensures { IfOk result (λ p. Copies scratch.now
+        (λ k. get nat_eq copy.old.places k) copy.old.nodes.items
+        (λ k. get nat_eq copy.new.places k) copy.new.nodes.items reference p) }
 {
+    // the law by which no node is copied twice
+    one_reference();
     if let Some(place) = copy.places.get(&reference) {
         return Ok(*place);
     }
@@ -57,11 +59,12 @@ fn copy_from(scratch: &Scratch, copy: &mut Copy, reference: u64) -> Result<u64, 
     }
 }
 
-// Adds the node of a reference, and answers its place.
+// Adds the node of a reference, and returns its place.
 fn place_node(copy: &mut Copy, reference: u64, node: Branch) -> Result<u64, OutOfMemory>
     ensures place { IfOk result (λ p. p ≡ length copy.old.nodes.items + 2) }
     ensures nodes { OnOk result (copy.new.nodes.items ≡ copy.old.nodes.items ++ node ∷ []) }
-    ensures places { IfOk result (λ p. (k : ℕ) → get nat_eq copy.new.places k ≡ cond (nat_eq reference k) (Some p) (get nat_eq copy.old.places k)) }
+    ensures places { IfOk result (λ p. (k : ℕ) → get nat_eq copy.new.places k
+        ≡ cond (nat_eq reference k) (Some p) (get nat_eq copy.old.places k)) }
 {
     let place = copy.nodes.len() as u64 + 2;
     copy.nodes.push(node)?;

@@ -1,7 +1,7 @@
 ghost use Rattle.std.specs.Prelude.{◌≡◌, ◌+◌, ◌<◌, [], ◌∷◌, ℕ, IfOk, length, slice_index_or};
-ghost use Rattle.diagram_store.specs.Nodes.{IsReduced, IsAbove};
-ghost use Rattle.diagram_ops.specs.Images.{IsImage, IsValue};
-ghost use Rattle.diagram_ops.specs.Scratch.{Keeps, Stands};
+ghost use Rattle.diagram_store.specs.Nodes.{IsReduced};
+ghost use Rattle.diagram_ops.specs.private.Images.{IsImage, IsPlaceOf, IsValue};
+ghost use Rattle.diagram_ops.specs.private.Scratch.{Keeps};
 
 use crate::scratch::Scratch;
 use diagram_store::{Branch, Diagram};
@@ -18,7 +18,7 @@ pub(crate) fn first_places(alloc: Global) -> Result<Vec<u64>, OutOfMemory>
     Ok(places)
 }
 
-/// Adds the nodes of a diagram, and answers the place of its root.
+/// Adds the nodes of a diagram, and returns the place of its root.
 pub(crate) fn load(
     alloc: Global,
     scratch: &mut Scratch,
@@ -27,7 +27,8 @@ pub(crate) fn load(
     requires { IsReduced scratch.old }
     ensures reduced { IfOk result (λ _. IsReduced scratch.new) }
     ensures keeps { IfOk result (λ _. Keeps scratch.old scratch.new) }
-    ensures stands { IfOk result (λ p. Stands scratch.new p (IsValue diagram.now.nodes diagram.now.root) (λ v. IsAbove diagram.now.nodes v diagram.now.root)) }
+    ensures stands { IfOk result (λ p.
+        IsPlaceOf scratch.new p (IsValue diagram.now.nodes) diagram.now.nodes diagram.now.root) }
 {
     let nodes = diagram.nodes();
     let mut places = first_places(alloc)?;
@@ -51,7 +52,8 @@ fn load_node(
     requires image { IsImage nodes.now (IsValue nodes.now) scratch.old places.now }
     ensures reduced { IfOk result (λ _. IsReduced scratch.new) }
     ensures keeps { IfOk result (λ _. Keeps scratch.old scratch.new) }
-    ensures stands { IfOk result (λ p. Stands scratch.new p (IsValue nodes.now (k + 2)) (λ v. IsAbove nodes.now v (k + 2))) }
+    ensures stands { IfOk result (λ p.
+        IsPlaceOf scratch.new p (IsValue nodes.now) nodes.now (k + 2)) }
 {
     let node = nodes[k];
     let low = place_at(places, node.low);

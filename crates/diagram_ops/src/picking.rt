@@ -1,8 +1,8 @@
 ghost use Rattle.std.specs.Prelude.{◌≡◌, ℕ, Bool, true, false, IfOk, MatchOption, length};
-ghost use Rattle.diagram_store.specs.Meaning.{value_at, bits_of};
-ghost use Rattle.diagram_store.specs.Nodes.{HasVariablesBelow};
+ghost use Rattle.diagram_store.specs.Diagrams.{IsOver, meaning};
+ghost use Rattle.diagram_store.specs.Meaning.{bits_of};
 
-use diagram_store::{Diagram, node};
+use diagram_store::{Diagram, node, value_by_branch};
 use std::alloc::Global;
 use wpds_base::{OutOfMemory, Sequence};
 
@@ -13,10 +13,12 @@ pub type Bits = Sequence<bool>;
 ///
 /// Which of several lists of bits it gives is not said.
 pub fn pick(alloc: Global, a: &Diagram, count: u32) -> Result<Option<Bits>, OutOfMemory>
-    requires { HasVariablesBelow count a.now.nodes }
-    ensures { IfOk result (λ o. MatchOption o ((bits : ℕ → Bool) → value_at a.now.nodes a.now.root bits ≡ false)
-        (λ list. (length list ≡ count) × (value_at a.now.nodes a.now.root (bits_of list) ≡ true))) }
+    requires { IsOver count a.now }
+    ensures { IfOk result (λ o. MatchOption o ((bits : ℕ → Bool) → meaning a.now bits ≡ false)
+        (λ list. (length list ≡ count) × (meaning a.now (bits_of list) ≡ true))) }
 {
+    // the law by which the walk keeps the value
+    value_by_branch();
     if a.root == 0 {
         return Ok(None);
     }

@@ -1,18 +1,19 @@
 ghost use Rattle.std.specs.Prelude.{◌≡◌, ◌↔◌, ◌+◌, ◌<◌, ℕ, Bool, IsTrue, IfOk, length};
-ghost use Rattle.diagram_store.specs.Meaning.{value_at};
-ghost use Rattle.diagram_store.specs.Nodes.{IsReduced, IsAbove, HasVariablesBelow};
-ghost use Rattle.diagram_ops.specs.Applying.{AreApplied};
-ghost use Rattle.diagram_ops.specs.Images.{IsImage, IsQuantified, IsTrueOnSome};
-ghost use Rattle.diagram_ops.specs.Scratch.{Keeps, Stands};
-ghost use Rattle.diagram_ops.specs.Tables.{known};
+ghost use Rattle.diagram_store.specs.Diagrams.{IsOver, meaning};
+ghost use Rattle.diagram_store.specs.Nodes.{IsReduced};
+ghost use Rattle.diagram_ops.specs.Quantifying.{IsTrueOnSome};
+ghost use Rattle.diagram_ops.specs.private.Applying.{AreApplied};
+ghost use Rattle.diagram_ops.specs.private.Images.{IsImage, IsPlaceOf, IsQuantified};
+ghost use Rattle.diagram_ops.specs.private.Scratch.{Keeps};
+ghost use Rattle.diagram_ops.specs.private.Tables.{known};
 
 use crate::applying::{OR, apply};
-use crate::copying::copied_out;
+use crate::copying::copy_out;
 use crate::loading::{first_places, place_at};
 use crate::scratch::Scratch;
 use crate::table::Table;
 use bumpalo::Bump;
-use diagram_store::{Branch, Diagram};
+use diagram_store::{Branch, Diagram, independent_variables};
 use std::alloc::Global;
 use wpds_base::OutOfMemory;
 
@@ -21,18 +22,21 @@ use wpds_base::OutOfMemory;
 ///
 /// It is one pass: a node of a variable of `vars` becomes the disjunction of its branches.
 pub fn exists(alloc: Global, a: &Diagram, vars: &[u32]) -> Result<Diagram, OutOfMemory>
-    ensures value { IfOk result (λ d. (bits : ℕ → Bool) → IsTrue (value_at d.nodes d.root bits) ↔ IsTrueOnSome a.now.nodes vars.now a.now.root bits) }
-    ensures variables { IfOk result (λ d. (limit : ℕ) → HasVariablesBelow limit a.now.nodes → HasVariablesBelow limit d.nodes) }
+    ensures value { IfOk result (λ d. (bits : ℕ → Bool) → IsTrue (meaning d bits)
+        ↔ IsTrueOnSome a.now vars.now bits) }
+    ensures variables { IfOk result (λ d. (limit : ℕ) → IsOver limit a.now → IsOver limit d) }
 {
+    // the law that gives the variables of the result
+    independent_variables();
     let arena = Bump::new(alloc);
     let mut scratch = Scratch::new(alloc, &arena);
-    let root = quantified(alloc, &mut scratch, a, vars)?;
-    let made = copied_out(alloc, &scratch, root)?;
+    let root = load_quantified(alloc, &mut scratch, a, vars)?;
+    let made = copy_out(alloc, &scratch, root)?;
     Ok(made)
 }
 
-// Adds the nodes of a diagram with the variables quantified, and answers the place of its root.
-fn quantified(
+// Adds the nodes of a diagram with the variables quantified, and returns the place of its root.
+fn load_quantified(
     alloc: Global,
     scratch: &mut Scratch,
     diagram: &Diagram,
@@ -41,7 +45,8 @@ fn quantified(
     requires { IsReduced scratch.old }
     ensures reduced { IfOk result (λ _. IsReduced scratch.new) }
     ensures keeps { IfOk result (λ _. Keeps scratch.old scratch.new) }
-    ensures stands { IfOk result (λ p. Stands scratch.new p (IsQuantified diagram.now.nodes vars.now diagram.now.root) (λ v. IsAbove diagram.now.nodes v diagram.now.root)) }
+    ensures stands { IfOk result (λ p. IsPlaceOf scratch.new p
+        (IsQuantified diagram.now.nodes vars.now) diagram.now.nodes diagram.now.root) }
 {
     let nodes = diagram.nodes();
     let mut places = first_places(alloc)?;
@@ -70,7 +75,8 @@ fn quantify_node(
     ensures results { IfOk result (λ _. AreApplied 252 scratch.new (known results.new)) }
     ensures reduced { IfOk result (λ _. IsReduced scratch.new) }
     ensures keeps { IfOk result (λ _. Keeps scratch.old scratch.new) }
-    ensures stands { IfOk result (λ p. Stands scratch.new p (IsQuantified nodes.now vars.now (k + 2)) (λ v. IsAbove nodes.now v (k + 2))) }
+    ensures stands { IfOk result (λ p.
+        IsPlaceOf scratch.new p (IsQuantified nodes.now vars.now) nodes.now (k + 2)) }
 {
     let node = nodes[k];
     let low = place_at(places, node.low);

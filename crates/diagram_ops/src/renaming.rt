@@ -1,7 +1,7 @@
 ghost use Rattle.std.specs.Prelude.{◌≡◌, ◌<◌, ℕ, Bool, IfOk, length, map, slice_index};
-ghost use Rattle.diagram_store.specs.Meaning.{value_at};
+ghost use Rattle.diagram_store.specs.Diagrams.{IsOver, meaning};
 ghost use Rattle.diagram_store.specs.Nodes.{HasVariablesBelow};
-ghost use Rattle.diagram_ops.specs.Renaming.{Rises, with_variable};
+ghost use Rattle.diagram_ops.specs.Renaming.{AreBelow, Rises, with_variable};
 
 use diagram_store::{Branch, BranchList, Diagram};
 use std::alloc::Global;
@@ -11,19 +11,20 @@ use wpds_base::OutOfMemory;
 ///
 /// The map rises strictly, so the nodes keep their order.
 pub fn rename(alloc: Global, a: &Diagram, map: &[u32]) -> Result<Diagram, OutOfMemory>
-    requires covers { HasVariablesBelow (length map.now) a.now.nodes }
+    requires covers { IsOver (length map.now) a.now }
     requires rises { Rises map.now }
-    ensures value { IfOk result (λ d. (bits : ℕ → Bool) → value_at d.nodes d.root bits ≡ value_at a.now.nodes a.now.root (λ v. bits (slice_index map.now v))) }
-    ensures variables { IfOk result (λ d. (limit : ℕ) → ((k : ℕ) → k < length map.now → slice_index map.now k < limit) → HasVariablesBelow limit d.nodes) }
+    ensures value { IfOk result (λ d. (bits : ℕ → Bool) → meaning d bits
+        ≡ meaning a.now (λ v. bits (slice_index map.now v))) }
+    ensures variables { IfOk result (λ d. (limit : ℕ) → AreBelow limit map.now → IsOver limit d) }
 {
-    let nodes = renamed(alloc, a.nodes(), map)?;
+    let nodes = rename_nodes(alloc, a.nodes(), map)?;
     Ok(Diagram {
         root: a.root,
         nodes: BranchList::from_vec(nodes),
     })
 }
 
-fn renamed(alloc: Global, nodes: &[Branch], names: &[u32]) -> Result<Vec<Branch>, OutOfMemory>
+fn rename_nodes(alloc: Global, nodes: &[Branch], names: &[u32]) -> Result<Vec<Branch>, OutOfMemory>
     requires { HasVariablesBelow (length names.now) nodes.now }
     ensures { IfOk result (λ v. v.items ≡ map (with_variable names.now) nodes.now) }
 {

@@ -1,6 +1,6 @@
 ghost use Rattle.std.specs.Prelude.{◌≡◌, ◌+◌, ◌<◌, ◌^◌, ℕ, [], Some, IfOk, length};
 ghost use Rattle.diagram_store.specs.Nodes.{node_at, IsAbove, IsReduced, HasVariablesBelow};
-ghost use Rattle.diagram_ops.specs.Scratch.{Keeps, Stands, IsChoice};
+ghost use Rattle.diagram_ops.specs.private.Scratch.{Keeps, Stands, IsChoice};
 
 use crate::table::Table;
 use bumpalo::Bump;
@@ -19,8 +19,8 @@ pub(crate) struct Scratch<'a> {
 impl<'a> Model for Scratch<'a> {
     ghost use Rattle.std.specs.Prelude.{List};
     ghost use Rattle.diagram_store.specs.declared.branch.Branch.{Branch as BranchValue};
-    ghost use Rattle.diagram_ops.specs.Scratch.{IsScratch};
-    ghost use Rattle.diagram_ops.specs.Tables.{known};
+    ghost use Rattle.diagram_ops.specs.private.Scratch.{IsScratch};
+    ghost use Rattle.diagram_ops.specs.private.Tables.{known};
 
     ghost Value = { List BranchValue };
 
@@ -57,7 +57,8 @@ impl<'a> Scratch<'a> {
         requires high_above { IsAbove self.old var high }
         ensures reduced { IsReduced self.new }
         ensures keeps { Keeps self.old self.new }
-        ensures stands { IfOk result (λ r. Stands self.new r (IsChoice self.new var low high) (λ v. v < var)) }
+        ensures stands { IfOk result (λ r.
+            Stands self.new r (IsChoice self.new var low high) (λ v. v < var)) }
     {
         let reference = self.nodes.len() as u64 + 2;
         if low == high {

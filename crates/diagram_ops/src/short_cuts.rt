@@ -1,6 +1,6 @@
 ghost use Rattle.std.specs.Prelude.{◌≡◌, ◌<◌, ◌↔◌, ℕ, Bool, true, false, IsTrue, IfSome, IfNone};
 ghost use Rattle.truth_tables.specs.Tables.{value_bit, value3_of};
-ghost use Rattle.diagram_ops.specs.ShortCuts.{CanBe, IsPossibleRow, IsShortCut};
+ghost use Rattle.diagram_ops.specs.private.ShortCuts.{CanBe, IsPossibleRow, IsShortCut};
 
 // The rows of a table of three places on which its first, its second and its third place is true.
 const FIRST: u8 = 240;
@@ -37,7 +37,8 @@ pub(crate) fn short_cut(table: u8, x: u64, y: u64, z: u64) -> Option<u64>
 
 // Whether two tables have the same value on each of these rows.
 fn are_same_on(rows: u8, table: u8, other: u8) -> bool
-    ensures { IsTrue result ↔ ((a b c : Bool) → value3_of rows a b c ≡ true → value3_of table a b c ≡ value3_of other a b c) }
+    ensures { IsTrue result ↔ ((a b c : Bool) → value3_of rows a b c ≡ true
+        → value3_of table a b c ≡ value3_of other a b c) }
 {
     (table ^ other) & rows == 0
 }
@@ -67,7 +68,8 @@ fn rows_of(place: u8, reference: u64) -> u8
 
 // The rows that two references leave where they are equal, by those on which their places are true.
 fn rows_of_both(first: u8, second: u8, x: u64, y: u64) -> u8
-    ensures { (k : ℕ) → k < 8 → (value_bit result k ≡ true) ↔ (x ≡ y → value_bit first k ≡ value_bit second k) }
+    ensures { (k : ℕ) → k < 8
+        → (value_bit result k ≡ true) ↔ (x ≡ y → value_bit first k ≡ value_bit second k) }
 {
     if x == y { first ^ second ^ ALL } else { ALL }
 }

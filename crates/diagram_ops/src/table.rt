@@ -1,5 +1,5 @@
 ghost use Rattle.std.specs.Prelude.{◌≡◌, ℕ, None, Some, OnOk, OnErr, cond};
-ghost use Rattle.diagram_ops.specs.Tables.{known, same_key};
+ghost use Rattle.diagram_ops.specs.private.Tables.{known, same_key};
 
 use std::alloc::Global;
 use std::collections::HashMap;
@@ -30,7 +30,8 @@ impl Table {
 
     /// Puts a number at three numbers, in place of the one that stands there.
     pub(crate) fn insert(&mut self, x: u64, y: u64, z: u64, value: u64) -> Result<(), OutOfMemory>
-        ensures ok { OnOk result ((a b c : ℕ) → known self.new a b c ≡ cond (same_key (x, y, z) (a, b, c)) (Some value) (known self.old a b c)) }
+        ensures ok { OnOk result ((a b c : ℕ) → known self.new a b c
+            ≡ cond (same_key (x, y, z) (a, b, c)) (Some value) (known self.old a b c)) }
         ensures err { OnErr result ((a b c : ℕ) → known self.new a b c ≡ known self.old a b c) }
     {
         self.entries.insert((x, y, z), value)?;

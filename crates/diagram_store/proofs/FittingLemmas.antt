@@ -4,7 +4,7 @@ use Rattle.std.specs.Prelude.{Some, slice_get}
 use Rattle.std.proofs.lemmas.Bool.{cases_lt}
 use Rattle.diagram_store.specs.declared.branch.Branch.{Branch}
 use Rattle.diagram_store.specs.Nodes.{node_at, IsAbove, IsReduced}
-use Rattle.diagram_store.specs.Fitting.{IsFitting}
+use Rattle.diagram_store.specs.private.Fitting.{IsFitting}
 
 abbrev pub AllFit : List Branch → Type 0
 AllFit nodes = (k : ℕ) (n : Branch) → slice_get nodes k ≡ Some n → IsFitting nodes k n

@@ -2,6 +2,7 @@ mod NodeLemmas
 mod ValueLemmas
 mod MeaningLemmas
 mod TurnLemmas
+mod WalkLemmas
 mod BitLemmas
 mod FittingLemmas
 mod SmallLemmas

@@ -1,16 +1,17 @@
 -- Constants and literals are canonical, and what equal parts say of values.
 use Rattle.std.proofs.Common.{◌≡◌, ℕ, zero, suc, ◌<◌, Bool, true, false, List, [], ◌∷◌, refl, sym, ap₂, ◌∙◌, subst, arith}
 use Rattle.std.specs.Prelude.{◌↔◌, IsTrue, nat_eq, cond}
+use Rattle.std.proofs.lemmas.Grind.{merely}
 use Rattle.std.proofs.lemmas.Option.{same_Some}
 use Rattle.diagram_store.specs.declared.branch.Branch.{Branch}
 use Rattle.diagram_store.specs.Nodes.{IsReduced, HasVariablesBelow}
 use Rattle.diagram_store.specs.Meaning.{value_at}
-use Rattle.diagram_store.specs.Canonical.{IsCanonical}
-use Rattle.diagram_store.specs.Fitting.{IsFitting}
+use Rattle.diagram_store.specs.Canonical.{IsCanonical, constant, leaves}
+use Rattle.diagram_store.specs.private.Fitting.{IsFitting}
 use Rattle.diagram_store.proofs.NodeLemmas.{no_node}
 use Rattle.diagram_store.proofs.ValueLemmas.{value_at_end, value_at_node}
 use Rattle.diagram_store.proofs.MeaningLemmas.{Same}
-use Rattle.diagram_store.proofs.TurnLemmas.{turn_below, left_node, canonical_is_one}
+use Rattle.diagram_store.proofs.WalkLemmas.{canonical_is_one}
 use Rattle.diagram_store.proofs.FittingLemmas.{AllFit, reduced_from_fitting}
 
 no_nodes_fit : AllFit []
@@ -19,7 +20,11 @@ no_nodes_fit k n e = cc
 pub constant_canonical : (nodes : List Branch) (r : ℕ) → nodes ≡ [] → r < 2 → IsCanonical r nodes
 constant_canonical nodes r e below =
     let P : List Branch → Type 0 = λ l. IsCanonical r l in
-    subst P (sym e) (record { reduced = reduced_from_fitting [] no_nodes_fit; post_order = turn_below [] r 2 r below })
+    subst P (sym e) (record { reduced = reduced_from_fitting [] no_nodes_fit; post_order = merely (constant below) })
+
+-- a canonical list whose root is a constant has no nodes
+pub none_from_constant : (nodes : List Branch) (r : ℕ) → r < 2 → IsCanonical r nodes → nodes ≡ []
+none_from_constant nodes r below c = (canonical_is_one nodes [] r r c (constant_canonical [] r refl below) (λ bits. value_at_end nodes r bits (no_node nodes r below) ∙ sym (value_at_end [] r bits (no_node [] r below)))).1
 
 pub constant_value : (nodes : List Branch) (r : ℕ) (b : Bool) (bits : ℕ → Bool) → r < 2 → nat_eq r 1 ≡ b → value_at nodes r bits ≡ b
 constant_value nodes r b bits below e = value_at_end nodes r bits (no_node nodes r below) ∙ e
@@ -47,8 +52,7 @@ literal_reduced v = reduced_from_fitting (literal_node v ∷ []) (literal_fits v
 pub literal_canonical : (v : ℕ) → IsCanonical 2 (literal_node v ∷ [])
 literal_canonical v = record {
   reduced = literal_reduced v;
-  post_order = left_node (literal_node v ∷ []) 1 2 2 2 (literal_node v) refl (omega arith)
-      (turn_below (literal_node v ∷ []) 1 2 0 (omega arith)) (turn_below (literal_node v ∷ []) 1 2 1 (omega arith));
+  post_order = merely (leaves refl (constant (omega arith)) (constant (omega arith)));
 }
 
 bit_again : (b : Bool) → cond b true false ≡ b

@@ -6,7 +6,7 @@ use Rattle.std.proofs.lemmas.Option.{same_Some}
 use Rattle.diagram_store.specs.declared.branch.Branch.{Branch}
 use Rattle.diagram_store.specs.Nodes.{node_at, IsReduced, HasVariablesBelow}
 use Rattle.diagram_store.specs.Meaning.{value_at, set_bit}
-use Rattle.diagram_store.specs.Canonical.{in_turn, leave, turn_after, IsCanonical}
+use Rattle.diagram_store.specs.private.Turns.{in_turn, leave, turn_after, IsTurned}
 use Rattle.diagram_store.proofs.NodeLemmas.{option_cases, node_within, node_there, no_node, one_node}
 use Rattle.diagram_store.proofs.ValueLemmas.{value_agrees, value_at_end, value_at_node, same_cond, set_other}
 use Rattle.diagram_store.proofs.MeaningLemmas.{Same, from_parts, branches_within, low_value, high_value, one_value, same_low, same_high, one_reference, branches_apart, same_is_node}
@@ -197,9 +197,9 @@ module _ (a : List Branch) (whole : IsReduced a) (b : List Branch) (other : IsRe
     ]
   ]
 
--- a canonical list is decided by its values
-pub canonical_is_one : (a b : List Branch) (r s : ℕ) → IsCanonical r a → IsCanonical s b → Same a r b s → (r ≡ s) × (a ≡ b)
-canonical_is_one a b r s p q same =
+-- a list whose references are left in turn is decided by its values
+pub turned_is_one : (a b : List Branch) (r s : ℕ) → IsTurned r a → IsTurned s b → Same a r b s → (r ≡ s) × (a ≡ b)
+turned_is_one a b r s p q same =
     let one = turn_past a r 2 r (length a + 2) p.post_order in
     let two = turn_past b s 2 s (length b + 2) q.post_order in
     let j = joined a p.reduced b q.reduced r s 2 r s (length a + 2) (length b + 2) p.post_order q.post_order same
@@ -257,8 +257,8 @@ module _ (limit : ℕ) (nodes : List Branch) (all : IsReduced nodes) where
         ]
   ]
 
-pub canonical_reads : (limit : ℕ) (nodes : List Branch) (root : ℕ) → IsCanonical root nodes → ReadsBelow limit nodes root → HasVariablesBelow limit nodes
-canonical_reads limit nodes root c reads r n at =
+pub turned_reads : (limit : ℕ) (nodes : List Branch) (root : ℕ) → IsTurned root nodes → ReadsBelow limit nodes root → HasVariablesBelow limit nodes
+turned_reads limit nodes root c reads r n at =
     let w = node_within nodes r n at in
     left_is_read limit nodes c.reduced root 2 root (length nodes + 2) c.post_order reads r n w.0 w.1 at
 

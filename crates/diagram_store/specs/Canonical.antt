@@ -1,26 +1,21 @@
 -- The canonical form of a diagram.
-use Rattle.std.specs.Prelude.{◌≡◌, ℕ, zero, suc, ◌+◌, List, length, Option, None, Some, nat_eq, nat_lt, option_and_then, if◌then◌else◌}
+use Rattle.std.specs.Prelude.{◌≡◌, ℕ, ◌<◌, List, [], ◌∷◌, ◌++◌, Some}
+use Rattle.wpds_base.specs.Lists.{IsIn}
 use Rattle.diagram_store.specs.declared.branch.Branch.{Branch}
 use Rattle.diagram_store.specs.Nodes.{node_at, IsReduced}
 
--- a reference that is left in its turn, and the one whose turn is next
-abbrev pub in_turn : ℕ → ℕ → Option ℕ
-in_turn r turn = if nat_eq r turn then Some (turn + 1) else None
+-- A walk from a reference in post-order, low first: the nodes that were left before it, and those that are
+-- left after it, each in the order in which it was left. A constant is passed over, and so is a node that
+-- was left before.
+pub data IsWalked (nodes : List Branch) : List Branch → ℕ → List Branch → Type 0 where
+  constant : {left : List Branch} {r : ℕ} → r < 2 → IsWalked nodes left r left
+  again : {left : List Branch} {r : ℕ} {n : Branch} → node_at nodes r ≡ Some n → IsIn n left → IsWalked nodes left r left
+  leaves : {left middle after : List Branch} {r : ℕ} {n : Branch} → node_at nodes r ≡ Some n
+      → IsWalked nodes left n.low middle → IsWalked nodes middle n.high after → IsWalked nodes left r (after ++ n ∷ [])
 
--- low is walked first, then high, and then the node is left
-abbrev pub leave : (ℕ → ℕ → Option ℕ) → ℕ → ℕ → Option Branch → Option ℕ
-leave rest turn r None = None
-leave rest turn r (Some n) = option_and_then (in_turn r) (option_and_then (λ t. rest t n.high) (rest turn n.low))
-
--- A walk from a reference, so many nodes deep, while the references below `turn` have been left. It gives
--- the turn after it, if each reference that it leaves is left in its turn.
-unfoldable pub turn_after : List Branch → ℕ → ℕ → ℕ → Option ℕ
-turn_after nodes zero turn r = if nat_lt r turn then Some turn else None
-turn_after nodes (suc depth) turn r = if nat_lt r turn then Some turn else leave (turn_after nodes depth) turn r (node_at nodes r)
-
--- The nodes stand in the post-order of a walk from the root that takes `low` first, and none is unreached.
+-- the walk from the root reaches all nodes, and leaves them in the order in which they stand
 abbrev pub IsPostOrder : ℕ → List Branch → Type 0
-IsPostOrder root nodes = turn_after nodes root 2 root ≡ Some (length nodes + 2)
+IsPostOrder root nodes = ∥ IsWalked nodes [] root nodes ∥₁
 
 pub record IsCanonical (root : ℕ) (nodes : List Branch) : Type 0 where
   pub reduced : IsReduced nodes

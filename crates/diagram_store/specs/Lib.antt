@@ -1,4 +1,5 @@
 pub mod Nodes
 pub mod Meaning
 pub mod Canonical
-pub mod Fitting
+pub mod Diagrams
+pub mod private

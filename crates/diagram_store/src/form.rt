@@ -1,9 +1,9 @@
 ghost use Rattle.std.specs.Prelude.{◌≡◌, ◌↔◌, ◌<◌, ◌+◌, ◌^◌, ℕ, IsTrue, Some, length, slice_get, option_and_then};
 ghost use Rattle.diagram_store.specs.declared.branch.Branch.{Branch as BranchValue};
 ghost use Rattle.diagram_store.specs.Canonical.{IsCanonical};
-ghost use Rattle.diagram_store.specs.Canonical as canonical_form;
 ghost use Rattle.diagram_store.specs.Nodes.{IsAbove, IsReduced};
-ghost use Rattle.diagram_store.specs.Fitting.{IsFitting};
+ghost use Rattle.diagram_store.specs.private.Fitting.{IsFitting};
+ghost use Rattle.diagram_store.specs.private.Turns as turns;
 
 use crate::Branch;
 use crate::branch::{is_same, node};
@@ -33,7 +33,8 @@ fn is_reduced(nodes: &[Branch]) -> bool
 // Whether a node fits those before it.
 fn is_fitting(nodes: &[Branch], k: usize) -> bool
     requires { k < length nodes.now }
-    ensures { IsTrue result ↔ ((n : BranchValue) → slice_get nodes.now k ≡ Some n → IsFitting nodes.now k n) }
+    ensures { IsTrue result
+        ↔ ((n : BranchValue) → slice_get nodes.now k ≡ Some n → IsFitting nodes.now k n) }
 {
     let node = nodes[k];
     let number = k as u64 + 2;
@@ -70,7 +71,7 @@ fn is_new(nodes: &[Branch], node: Branch) -> bool
 // The turn after the walk from a reference, while the references below `turn` have been left.
 fn turn_after(nodes: &[Branch], turn: u64, reference: u64) -> Option<u64>
     requires { IsReduced nodes.now }
-    ensures { result ≡ canonical_form.turn_after nodes.now reference turn reference }
+    ensures { result ≡ turns.turn_after nodes.now reference turn reference }
 {
     if reference < turn {
         return Some(turn);
@@ -87,7 +88,7 @@ fn turn_after(nodes: &[Branch], turn: u64, reference: u64) -> Option<u64>
 // The turn after a reference, if it is its turn.
 fn in_turn(reference: u64, turn: Option<u64>) -> Option<u64>
     requires { reference + 1 < 2 ^ 64 }
-    ensures { result ≡ option_and_then (canonical_form.in_turn reference) turn }
+    ensures { result ≡ option_and_then (turns.in_turn reference) turn }
 {
     match turn {
         Some(number) if number == reference => Some(number + 1),

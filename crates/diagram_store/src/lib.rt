@@ -5,11 +5,14 @@ mod branch;
 mod diagram;
 mod form;
 mod laws;
+mod methods;
 
 pub use branch::{Branch, BranchList, node};
 pub use diagram::Diagram;
 pub use form::canonical;
-pub use laws::{independent_variables, one_meaning};
+pub use laws::{
+    constants_are_canonical, independent_variables, one_meaning, one_reference, value_by_branch,
+};
 
 #[cfg(test)]
 mod tests;

@@ -1,4 +1,7 @@
-use crate::{Branch, BranchList, Diagram, canonical, independent_variables, node, one_meaning};
+use crate::{
+    Branch, BranchList, Diagram, canonical, constants_are_canonical, independent_variables, node,
+    one_meaning, one_reference, value_by_branch,
+};
 use std::process::Abort;
 use std::test::Fail;
 
@@ -115,6 +118,9 @@ fn constants_and_literals(rt: HostRuntime) -> Result<(), Fail> {
     assert!(rt; bit.value(&[false, false, true]));
     let list = BranchList::from_vec(Vec::new(alloc));
     assert_eq!(rt; list.as_slice(), always.nodes());
+    value_by_branch();
+    one_reference();
+    constants_are_canonical();
     one_meaning();
     independent_variables();
     Ok(())

@@ -71,7 +71,8 @@ pub fn documents_are_lawful()
 pub fn accepted_lines_are_lawful()
     ensures rule { (a : Above) (r : RuleForm)
         → length r.right ≤ most_pushed → first_fault (rule_conditions a r) ≡ None
-        → IsRuleLine a.weights (length a.controls) (length a.symbols) (length a.items) (rule_value a r) }
+        → IsRuleLine a.weights (length a.controls) (length a.symbols) (length a.items)
+        (rule_value a r) }
     ensures query { (all : ℕ) (a : Above) (p q : PatternForm)
         → first_fault (query_conditions all a p q) ≡ None
         → IsQueryLine all (length a.controls) (length a.symbols) (query_value a p q) }

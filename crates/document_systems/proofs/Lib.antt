@@ -1,4 +1,5 @@
 mod PatternLemmas
 mod LineLemmas
+mod RuleLemmas
 mod SymbolLemmas
 pub mod CallerLemmas

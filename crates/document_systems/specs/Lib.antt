@@ -1,3 +1,4 @@
-pub mod Weights
+pub mod Kinds
 pub mod Systems
 pub mod WeightLaws
+pub mod Weights

@@ -1,11 +1,10 @@
 -- The texts of values tell the values.
-use Rattle.std.specs.Prelude.{◌≡◌, ◌≢◌, ℕ, ◌<◌, ◌≤◌, ◌^◌, min, Bool, true, false, nat_eq, nat_le, IsTrue, List, [], ◌∷◌, ◌++◌, length, Option, None, Some, codes, decimal, refl, if◌then◌else◌}
-use Rattle.std.proofs.Common.{arith, ap, sym, subst, ◌∙◌, append-nil, inl, inr}
-use Rattle.std.proofs.lemmas.Bool.{cases_Bool, eqb-true, eq-eqb}
+use Rattle.std.specs.Prelude.{◌≡◌, ◌↔◌, ℕ, ◌<◌, ◌≤◌, ◌^◌, min, Bool, true, false, nat_eq, nat_le, IsTrue, List, [], ◌∷◌, ◌++◌, length, Option, None, Some, codes, decimal, refl, if◌then◌else◌}
+use Rattle.std.proofs.Common.{arith, ap, sym, ◌∙◌, append-nil}
+use Rattle.std.proofs.lemmas.Bool.{eqb-true}
 use Rattle.std.proofs.lemmas.Bool.Decides.{nat_tests}
 use Rattle.std.proofs.lemmas.Fmt.{decimal_injective, decimal_is_IsNumeral, decimal_nonempty}
 use Rattle.std.specs.Str.Parse.{AllDigits}
-use Rattle.std.specs.Char.{digit_value}
 use Rattle.std.proofs.lemmas.Str.Parse.{digit_from_value}
 use Rattle.semiring_laws.specs.Semiring.{Fits}
 use Rattle.semiring_laws.specs.Reach.{reach_operations}
@@ -23,8 +22,9 @@ reach_tells true false named fit fit' e = cc
 reach_tells false true named fit fit' e = cc
 reach_tells false false named fit fit' e = refl
 
-pub reach_zero : reach_text reach_operations.zero ≡ codes "unreachable"
-reach_zero = refl
+pub reach_zero : (v : Bool) → (reach_text v ≡ codes "unreachable") ↔ (v ≡ false)
+reach_zero true = (λ e. cc, λ e. cc)
+reach_zero false = (λ e. refl, λ e. refl)
 
 within : (n cap : ℕ) → IsTrue (nat_le n cap) → n ≤ cap
 within n cap fit = grind (arith, nat_tests)
@@ -75,5 +75,5 @@ cost_tells cap (Some m) (Some n) is fit fit' e =
     let low' = within n cap fit' in
     ap Some (numbers_tell cap m n (omega (arith, is.1)) low low' (nat_eq m cap) (nat_eq n cap) refl refl e)
 
-pub cost_zero : (cap : ℕ) → cost_text cap (cost_operations cap).zero ≡ codes "unreachable"
-cost_zero cap = refl
+pub cost_zero : (cap : ℕ) (v : Option ℕ) → IsCap cap → Fits (cost_operations cap) v → (cost_text cap v ≡ codes "unreachable") ↔ (v ≡ None)
+cost_zero cap v is fit = (λ e. cost_tells cap v None is fit refl e, λ e. ap (cost_text cap) e)

@@ -1,18 +1,29 @@
-ghost use Rattle.std.specs.Prelude.{◌≡◌, ◌↔◌, ℕ, IsTrue, codes};
+ghost use Rattle.std.specs.Prelude.{◌≡◌, ◌↔◌, ℕ, List, IsTrue, codes};
 ghost use Rattle.semiring_laws.specs.Semiring.{Fits};
 ghost use Rattle.pushdown_rules.specs.Configuration.{Configuration};
+ghost use Rattle.pushdown_rules.specs.Pushdown.{IsSystem};
 ghost use Rattle.config_patterns.specs.Membership.{has_member};
 ghost use Rattle.system_text.specs.declared.document.ConfigText.{ConfigText};
-ghost use Rattle.document_systems.specs.Systems.{configuration_of, pattern_of};
+ghost use Rattle.system_text.specs.declared.document.Document.{Document};
+ghost use Rattle.system_text.specs.Documents.{IsDocument};
+ghost use Rattle.document_systems.specs.Systems.{configuration_of, pattern_of, system_of};
 
 use crate::DocumentWeights;
 
 /// A side of a query that is written as one configuration has that configuration as its one member.
 pub fn configurations_are_their_own_members()
-    ensures { (symbols : ℕ) (c : ConfigText) (d : Configuration) → IsTrue (has_member (pattern_of symbols c) d) ↔ (d ≡ configuration_of c) }
+    ensures { (symbols : ℕ) (c : ConfigText) (d : Configuration)
+        → IsTrue (has_member (pattern_of symbols c) d) ↔ (d ≡ configuration_of c) }
 {}
 
 /// The text of zero is `unreachable`, and no other value's is.
 pub fn unreachable_is_zero<S: DocumentWeights>()
-    ensures { (s : S) (v : S.W) → S.named s → Fits (S.operations s) v → (S.written s v ≡ codes "unreachable") ↔ (v ≡ (S.operations s).zero) }
+    ensures { (s : S) (items : List (List ℕ)) (v : S.W) → S.kind.named s → Fits (S.operations s) v
+        → (S.kind.written s items v ≡ codes "unreachable") ↔ (v ≡ (S.operations s).zero) }
+{}
+
+/// What a document means is a system, over each semiring that a document can name.
+pub fn documents_are_systems<S: DocumentWeights>()
+    ensures { (s : S) (d : Document) → S.kind.named s → IsDocument d
+        → IsSystem S.operations (system_of S.kind s d) }
 {}

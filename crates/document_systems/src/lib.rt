@@ -5,7 +5,7 @@ mod laws;
 mod system;
 mod weights;
 
-pub use laws::{configurations_are_their_own_members, unreachable_is_zero};
+pub use laws::{configurations_are_their_own_members, documents_are_systems, unreachable_is_zero};
 pub use system::{pattern_from, system_from};
 pub use weights::DocumentWeights;
 

@@ -1,20 +1,25 @@
-ghost use Rattle.document_systems.specs.Systems.{HasSystem};
+ghost use Rattle.std.specs.Prelude.{◌<◌, length};
+ghost use Rattle.system_text.specs.Documents.{IsDocument};
 
 use crate::{DocumentWeights, pattern_from, system_from};
 use config_patterns::Pattern;
 use cost_weights::Cost;
 use pushdown_rules::Config;
-use semiring_laws::Reach;
+use semiring_laws::{NoMap, Reach};
 use std::alloc::Global;
 use std::test::Fail;
-use system_text::{Document, WeightText, read_first_form};
+use system_text::{Document, MapText, Names, Numbers, Renamings, WeightText, read_first_form};
 use wpds_base::OutOfMemory;
 
 #[test]
 fn values(rt: HostRuntime) -> Result<(), Fail> {
     let alloc = rt.alloc();
-    assert_eq!(rt; Reach.text_of(alloc, &true)?.as_str(), "reachable");
-    assert_eq!(rt; Reach.text_of(alloc, &false)?.as_str(), "unreachable");
+    let none = Names::new(alloc);
+    assert_eq!(rt; Reach.text_of(alloc, &none, &true)?.as_str(), "reachable");
+    assert_eq!(rt;
+        Reach.text_of(alloc, &none, &false)?.as_str(),
+        "unreachable"
+    );
     let cost = Cost::new(5)?;
     for (value, text) in [
         (None, "unreachable"),
@@ -22,7 +27,11 @@ fn values(rt: HostRuntime) -> Result<(), Fail> {
         (Some(4), "4"),
         (Some(5), "5 or more"),
     ] {
-        assert_eq!(rt; cost.text_of(alloc, &value)?.as_str(), text, "{value:?}");
+        assert_eq!(rt;
+            cost.text_of(alloc, &none, &value)?.as_str(),
+            text,
+            "{value:?}"
+        );
     }
     Ok(())
 }
@@ -31,7 +40,7 @@ fn values(rt: HostRuntime) -> Result<(), Fail> {
 fn worth<S: DocumentWeights>(
     semiring: &S,
     alloc: Global,
-    text: WeightText,
+    text: &WeightText,
 ) -> Result<S::W, OutOfMemory> {
     semiring.weight_of(alloc, text)
 }
@@ -40,7 +49,7 @@ fn worth<S: DocumentWeights>(
 fn weights_of_rules(rt: HostRuntime) -> Result<(), Fail> {
     let alloc = rt.alloc();
     let cost = Cost::new(5)?;
-    assert!(rt; worth(&Reach, alloc, WeightText::One)?);
+    assert!(rt; worth(&Reach, alloc, &WeightText::One)?);
     for (text, value) in [
         (WeightText::One, 0),
         (WeightText::Number(0), 0),
@@ -48,17 +57,39 @@ fn weights_of_rules(rt: HostRuntime) -> Result<(), Fail> {
         (WeightText::Number(6), 5),
         (WeightText::Number(u64::MAX), 5),
     ] {
-        assert_eq!(rt; worth(&cost, alloc, text)?, Some(value), "{text:?}");
+        assert_eq!(rt; worth(&cost, alloc, &text)?, Some(value), "{text:?}");
     }
     Ok(())
 }
 
-// The pattern of the second side of a document's query.
+// What a return map is worth, by the trait.
+fn map_worth<S: DocumentWeights>(
+    semiring: &S,
+    alloc: Global,
+    text: &MapText,
+) -> Result<S::Ret, OutOfMemory> {
+    semiring.map_of(alloc, text)
+}
+
+#[test]
+fn maps_of_rules(rt: HostRuntime) -> Result<(), Fail> {
+    let alloc = rt.alloc();
+    let text = MapText {
+        restore: Numbers::from_vec(Vec::new(alloc)),
+        moves: Renamings::from_vec(Vec::new(alloc)),
+    };
+    assert_eq!(rt; map_worth(&Reach, alloc, &text)?, NoMap::Plain);
+    assert_eq!(rt; map_worth(&Cost::new(5)?, alloc, &text)?, NoMap::Plain);
+    Ok(())
+}
+
+// The pattern of the second side of a document's first query.
 fn target_of(alloc: Global, document: &Document) -> Result<Pattern, OutOfMemory>
-    requires { HasSystem document.now }
+    requires { IsDocument document.now }
 {
     let symbols = document.symbols.len() as u32;
-    pattern_from(alloc, symbols, &document.query.to)
+    let query = &document.queries.as_slice()[0];
+    pattern_from(alloc, symbols, &query.to)
 }
 
 #[test]

@@ -1,90 +1,116 @@
-ghost use Rattle.std.specs.Prelude.{◌≡◌, ℕ, List, IfOk, codes};
+ghost use Rattle.std.specs.Prelude.{◌≡◌, ◌↔◌, ℕ, List, IfOk, codes, refl};
 ghost use Rattle.std.specs.String.{string_bytes};
-ghost use Rattle.semiring_laws.specs.Semiring.{Fits};
+ghost use Rattle.semiring_laws.specs.Semiring.{Fits, FitsMap};
 ghost use Rattle.system_text.specs.declared.document.WeightText.{WeightText as WeightTextValue};
-ghost use Rattle.document_systems.specs.Weights.{reach_weight, reach_text, cost_weight, cost_text, IsCap};
+ghost use Rattle.system_text.specs.declared.document.MapText.{MapText as MapTextValue};
+ghost use Rattle.document_systems.specs.Kinds.{Kind};
+ghost use Rattle.document_systems.specs.Weights.{reach_kind, cost_kind};
 ghost use Rattle.document_systems.specs.WeightLaws.{reach_tells, cost_tells, reach_weights_fit, cost_weights_fit, reach_zero, cost_zero};
 
 use cost_weights::Cost;
-use semiring_laws::{Reach, Semiring};
+use semiring_laws::{NoMap, Reach, Semiring};
 use std::alloc::Global;
-use system_text::WeightText;
+use system_text::{MapText, Names, WeightText};
 use wpds_base::OutOfMemory;
 
-/// A semiring that a document can name: what the texts of its weights are worth, and how a value is written.
+/// A semiring that a document can name: what its weights are worth, and how a value is written.
 pub trait DocumentWeights: Semiring {
-    /// What the weight of a rule is worth.
-    ghost weight: { Self → WeightTextValue → Self.W };
-
-    /// The text of a value.
-    ghost written: { Self → Self.W → List ℕ };
-
-    /// A document can name this semiring.
-    ghost named: { Self → Type 0 };
+    /// What this semiring means in a document.
+    ghost kind: { Kind Self Self.W Self.Ret };
 
     /// What the weight of a rule is worth.
-    fn weight_of(&self, alloc: Global, text: WeightText) -> Result<Self::W, OutOfMemory>
-        ensures value { IfOk result (λ w. w ≡ weight self.now text) }
+    fn weight_of(&self, alloc: Global, text: &WeightText) -> Result<Self::W, OutOfMemory>
+        ensures value { IfOk result (λ w. w ≡ kind.weight self.now text.now) }
         ensures fits { IfOk result (λ w. Fits (Self.operations self.now) w) };
 
-    /// The text of a value.
-    fn text_of(&self, alloc: Global, value: &Self::W) -> Result<String, OutOfMemory>
-        ensures { IfOk result (λ t. string_bytes t ≡ written self.now value.now) };
+    /// What the return map of a rule is worth.
+    fn map_of(&self, alloc: Global, text: &MapText) -> Result<Self::Ret, OutOfMemory>
+        ensures value { IfOk result (λ m. m ≡ kind.map self.now text.now) }
+        ensures fits { IfOk result (λ m. FitsMap (Self.operations self.now) m) };
+
+    /// The text of a value, by the names of the document's facts or variables.
+    fn text_of(&self, alloc: Global, items: &Names, value: &Self::W) -> Result<String, OutOfMemory>
+        ensures { IfOk result (λ t. string_bytes t ≡ kind.written self.now items.now value.now) };
+
+    /// The operations are those of the semiring.
+    ghost computes: { kind.operations ≡ Self.Semiring.operations };
 
     /// The weight of a rule fits.
-    ghost weights_fit: { (s : Self) (t : WeightTextValue) → named s → Fits (Self.Semiring.operations s) (weight s t) };
+    ghost weights_fit: { (s : Self) (t : WeightTextValue)
+        → kind.named s → Fits (kind.operations s) (kind.weight s t) };
+
+    /// The return map of a rule fits.
+    ghost maps_fit: { (s : Self) (t : MapTextValue)
+        → kind.named s → FitsMap (kind.operations s) (kind.map s t) };
 
     /// The text of a value tells the value.
-    ghost tells: { (s : Self) (v w : Self.W) → named s → Fits (Self.Semiring.operations s) v → Fits (Self.Semiring.operations s) w → written s v ≡ written s w → v ≡ w };
+    ghost tells: { (s : Self) (items : List (List ℕ)) (v w : Self.W)
+        → kind.named s → kind.told s items v → kind.told s items w
+        → kind.written s items v ≡ kind.written s items w → v ≡ w };
 
-    /// The text of zero.
-    ghost zero_text: { (s : Self) → written s (Self.Semiring.operations s).zero ≡ codes "unreachable" };
+    /// The text of zero is `unreachable`, and no other value's is.
+    ghost tells_zero: { (s : Self) (items : List (List ℕ)) (v : Self.W)
+        → kind.named s → Fits (kind.operations s) v
+        → (kind.written s items v ≡ codes "unreachable") ↔ (v ≡ (kind.operations s).zero) };
 }
 
 impl DocumentWeights for Reach {
-    ghost weight = { λ s. reach_weight };
+    ghost kind = { reach_kind };
 
-    ghost written = { λ s. reach_text };
-
-    ghost named = { λ s. Unit {0} };
+    ghost computes = { refl };
 
     ghost weights_fit = { λ s. reach_weights_fit };
 
-    ghost tells = { λ s. reach_tells };
+    ghost maps_fit = { λ s t named. refl };
 
-    ghost zero_text = { λ s. reach_zero };
+    ghost tells = { λ s items. reach_tells };
 
-    fn weight_of(&self, _alloc: Global, _text: WeightText) -> Result<bool, OutOfMemory> {
+    ghost tells_zero = { λ s items v named fit. reach_zero v };
+
+    fn weight_of(&self, _alloc: Global, _text: &WeightText) -> Result<bool, OutOfMemory> {
         Ok(true)
     }
 
-    fn text_of(&self, alloc: Global, value: &bool) -> Result<String, OutOfMemory> {
+    fn map_of(&self, _alloc: Global, _text: &MapText) -> Result<NoMap, OutOfMemory> {
+        Ok(NoMap::Plain)
+    }
+
+    fn text_of(&self, alloc: Global, _items: &Names, value: &bool) -> Result<String, OutOfMemory> {
         let text = if *value { "reachable" } else { "unreachable" };
         Ok(String::from_str(alloc, text)?)
     }
 }
 
 impl DocumentWeights for Cost {
-    ghost weight = { cost_weight };
+    ghost kind = { cost_kind };
 
-    ghost written = { cost_text };
-
-    ghost named = { IsCap };
+    ghost computes = { refl };
 
     ghost weights_fit = { cost_weights_fit };
 
-    ghost tells = { cost_tells };
+    ghost maps_fit = { λ s t named. refl };
 
-    ghost zero_text = { cost_zero };
+    ghost tells = { λ s items. cost_tells s };
 
-    fn weight_of(&self, _alloc: Global, text: WeightText) -> Result<Option<u64>, OutOfMemory> {
+    ghost tells_zero = { λ s items. cost_zero s };
+
+    fn weight_of(&self, _alloc: Global, text: &WeightText) -> Result<Option<u64>, OutOfMemory> {
         match text {
             WeightText::One => Ok(self.number(0)),
-            WeightText::Number(n) => Ok(self.number(n)),
+            WeightText::Number(n) => Ok(self.number(*n)),
         }
     }
 
-    fn text_of(&self, alloc: Global, value: &Option<u64>) -> Result<String, OutOfMemory> {
+    fn map_of(&self, _alloc: Global, _text: &MapText) -> Result<NoMap, OutOfMemory> {
+        Ok(NoMap::Plain)
+    }
+
+    fn text_of(
+        &self,
+        alloc: Global,
+        _items: &Names,
+        value: &Option<u64>,
+    ) -> Result<String, OutOfMemory> {
         let Some(cost) = *value else {
             return Ok(String::from_str(alloc, "unreachable")?);
         };

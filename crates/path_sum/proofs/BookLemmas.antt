@@ -8,17 +8,19 @@ use Rattle.pushdown_rules.specs.Pushdown.{Pushdown, IsSystem}
 use Rattle.pushdown_rules.specs.Values.{value_of}
 use Rattle.pushdown_rules.specs.Answers.{Answers}
 use Rattle.pushdown_rules.proofs.CallerLemmas.{value_fits}
-use Rattle.saturation_core.specs.declared.opening.Opening.{Opening}
-use Rattle.saturation_core.specs.Openings.{found_so_far}
-use Rattle.saturation_core.specs.States.{CoreState, weight_at}
-use Rattle.saturation_core.specs.Books.{BookValue, IsBook, IsClosed}
-use Rattle.saturation_core.specs.Paths.{IsSaturated}
-use Rattle.saturation_core.proofs.CallerLemmas.{entry_fits, closed_applies}
-use Rattle.path_sum.specs.Sums.{Ways, answer_place, IsGrown, IsSummed}
-use Rattle.path_sum.specs.Answers.{IsQuery, first_of, last_of, answer_runs}
+use Rattle.saturation_laws.specs.declared.opening.Opening.{Opening}
+use Rattle.saturation_laws.specs.Openings.{found_so_far}
+use Rattle.saturation_laws.specs.States.{CoreState, weight_at}
+use Rattle.saturation_laws.specs.Books.{BookValue, IsBook, IsClosed}
+use Rattle.saturation_laws.specs.Paths.{IsSaturated}
+use Rattle.saturation_laws.proofs.CallerLemmas.{entry_fits, closed_applies}
+use Rattle.path_sum.specs.Sums.{Ways, answer_place, IsGrown}
+use Rattle.path_sum.specs.private.Work.{IsSummed}
+use Rattle.path_sum.specs.private.Paths.{IsQuery, answer_runs}
+use Rattle.path_sum.specs.Answers.{first_of, last_of}
 use Rattle.path_sum.specs.Saturated.{IsSaturatedAutomaton}
 use Rattle.path_sum.proofs.SumLemmas.{sum_answers}
-use Rattle.saturation_core.specs.Ways.{Way, start_of, IsLawful, HasPathSums}
+use Rattle.saturation_laws.specs.Ways.{Way, start_of, IsLawful, HasPathSums}
 
 module _ {S W Map D : Type 0} (operations : S → Operations W Map) (laws : (x : S) → IsSemiring (operations x)) (way : Way S W Map D)
     (direction : IsLawful operations way) where

@@ -8,8 +8,8 @@ use Rattle.weighted_automata.specs.Entries.{entry_at}
 use Rattle.witness_graph.specs.declared.node.Node.TheVariants.{Lower}
 use Rattle.witness_graph.specs.Nodes.{IsNodeAt}
 use Rattle.witness_graph.proofs.CallerLemmas.{orderly_from}
-use Rattle.saturation_core.specs.Jobs.{node_of}
-use Rattle.saturation_core.specs.Openings.{AreKept}
+use Rattle.saturation_laws.specs.Jobs.{node_of}
+use Rattle.saturation_laws.specs.Openings.{AreKept}
 use Rattle.saturation_core.proofs.CallerLemmas.{present_at}
 
 module _ {S W Map : Type 0} {s : Operations W Map} (laws : IsSemiring s) where

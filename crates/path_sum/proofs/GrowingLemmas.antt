@@ -16,14 +16,15 @@ use Rattle.witness_graph.specs.declared.node.Side.TheVariants.{Pre, Post}
 use Rattle.witness_graph.specs.Runs.{runs_of, concatenations, part_runs, rule_runs, parts_runs}
 use Rattle.pushdown_rules.specs.Configuration.{Configuration}
 use Rattle.pushdown_rules.specs.Pushdown.{Pushdown}
-use Rattle.saturation_core.specs.declared.opening.Opening.{Opening}
+use Rattle.saturation_laws.specs.declared.opening.Opening.{Opening}
 use Rattle.wpds_base.specs.Lists.{IsIn}
-use Rattle.saturation_core.specs.States.{CoreState, weight_at}
-use Rattle.saturation_core.specs.Directions.{AreRuns}
-use Rattle.saturation_core.specs.Invariants.{IsSound}
-use Rattle.saturation_core.specs.Paths.{symbols_of, IsPath, EachRun, runs_in_order, joined, in_order, along, Joins, IsGiven}
-use Rattle.saturation_core.proofs.CallerLemmas.{has_place_is, IsLinear, bilinear, all_pairs, then_empty, IsSoundState, IsSoundChange}
-use Rattle.path_sum.specs.Sums.{Ways, pair_place, answer_place, Moves, can_move, has_state, along_change, end_change, PairRun, AnswerRun, SumRun}
+use Rattle.saturation_laws.specs.States.{CoreState, weight_at}
+use Rattle.saturation_laws.specs.Directions.{AreRuns}
+use Rattle.saturation_laws.specs.Invariants.{IsSound}
+use Rattle.saturation_laws.specs.Paths.{symbols_of, IsPath, EachRun, runs_in_order, joined, in_order, along, Joins, IsGiven}
+use Rattle.saturation_laws.proofs.CallerLemmas.{has_place_is, IsLinear, bilinear, all_pairs, then_empty, IsSoundState, IsSoundChange}
+use Rattle.path_sum.specs.Sums.{Ways, pair_place, answer_place, can_move, has_state, along_change, end_change}
+use Rattle.path_sum.specs.private.Paths.{Moves, PairRun, AnswerRun, SumRun}
 use Rattle.path_sum.proofs.OrderLemmas.{along_more, joined_more, path_more, each_more, read_more}
 
 -- each run after the empty one

@@ -1,4 +1,5 @@
 mod EntryLemmas
+mod AddedLemmas
 mod OrderLemmas
 mod PairLemmas
 mod GrowingLemmas

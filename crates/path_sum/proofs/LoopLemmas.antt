@@ -14,11 +14,13 @@ use Rattle.weighted_automata.specs.Places.{same_place, has_place}
 use Rattle.weighted_automata.proofs.CallerLemmas.{same_place_itself}
 use Rattle.witness_graph.specs.declared.node.Side.{Side}
 use Rattle.config_patterns.specs.declared.edge.Edge.{Edge}
-use Rattle.saturation_core.specs.declared.opening.Opening.{Opening}
-use Rattle.saturation_core.specs.States.{CoreState}
+use Rattle.saturation_laws.specs.declared.opening.Opening.{Opening}
+use Rattle.saturation_laws.specs.States.{CoreState}
 use Rattle.wpds_base.specs.Lists.{IsIn}
-use Rattle.saturation_core.proofs.CallerLemmas.{in_present, drop_at}
-use Rattle.path_sum.specs.Sums.{Ways, edge_place, can_move, Move, Along, move, grow, edge_moves, moves_by, pair_moves, end_moves, moves_of}
+use Rattle.saturation_laws.proofs.CallerLemmas.{in_present}
+use Rattle.saturation_core.proofs.CallerLemmas.{drop_at}
+use Rattle.path_sum.specs.Sums.{Ways, edge_place, can_move, Move, Along, move, grow}
+use Rattle.path_sum.specs.private.Work.{edge_moves, moves_by, pair_moves, end_moves, moves_of}
 
 has_at : (es : List Edge) (k : ℕ) (d : Edge) → k < length es → has_place (edge_place (get_or es k d)) (map edge_place es) ≡ true
 has_at [] k d within = absurd (omega (arith, within))

@@ -12,14 +12,15 @@ use Rattle.config_patterns.specs.Paths as paths
 use Rattle.config_patterns.proofs.CallerLemmas.{members_read}
 use Rattle.pushdown_rules.specs.Configuration.{Configuration}
 use Rattle.wpds_base.specs.Lists.{IsIn}
-use Rattle.saturation_core.specs.Paths.{Reads}
-use Rattle.path_sum.specs.Sums.{HasWay, ways_of, edge_place}
+use Rattle.saturation_laws.specs.Paths.{Reads}
+use Rattle.path_sum.specs.private.Paths.{HasWay}
+use Rattle.path_sum.specs.Sums.{ways_of, edge_place}
 use Rattle.path_sum.proofs.PlaceLemmas.{same_in}
 
 abbrev edge : ℕ → ℕ → ℕ → Edge
 edge from g to = record { from = from; symbol = g; to = to }
 
-in_places : (e : Edge) (es : List Edge) → paths.IsIn e es → IsIn (edge_place e) (map edge_place es)
+in_places : (e : Edge) (es : List Edge) → IsIn e es → IsIn (edge_place e) (map edge_place es)
 in_places e [] h = elim h [ ]
 in_places e (d ∷ ds) (inl same) = inl (ap edge_place same)
 in_places e (d ∷ ds) (inr h) = inr (in_places e ds h)
@@ -28,7 +29,7 @@ abbrev symbol_in : Label → ℕ
 symbol_in (Symbol g) = g
 symbol_in Empty = 0
 
-in_edges : (from g to : ℕ) (es : List Edge) → IsIn (edge_place (edge from g to)) (map edge_place es) → paths.IsIn (edge from g to) es
+in_edges : (from g to : ℕ) (es : List Edge) → IsIn (edge_place (edge from g to)) (map edge_place es) → IsIn (edge from g to) es
 in_edges from g to es h =
     let found = same_in (edge_place (edge from g to)) es h in
     let d = found.0 in
@@ -36,7 +37,7 @@ in_edges from g to es h =
     ap (λ n. edge n d.symbol d.to) (ap (λ (x : Place). x.from) found.2)
     ∙ ap (λ n. edge from n d.to) (ap (λ (x : Place). symbol_in x.label) found.2)
     ∙ ap (edge from g) (ap (λ (x : Place). x.to) found.2) in
-    subst (λ e. paths.IsIn e es) is found.1
+    subst (λ e. IsIn e es) is found.1
 
 reads_places : (es : List Edge) (from : ℕ) (word : List ℕ) (to : ℕ) → paths.Reads es from word to → Reads (map edge_place es) from word to
 reads_places es from [] to reads = reads

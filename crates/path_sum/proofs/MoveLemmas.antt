@@ -9,12 +9,14 @@ use Rattle.weighted_automata.specs.declared.transitions.Entry.{Entry}
 use Rattle.weighted_automata.specs.Places.{same_label}
 use Rattle.witness_graph.specs.declared.node.Node.{Node}
 use Rattle.witness_graph.specs.declared.node.Side.{Side}
-use Rattle.saturation_core.specs.declared.opening.Opening.{Opening}
+use Rattle.saturation_laws.specs.declared.opening.Opening.{Opening}
 use Rattle.wpds_base.specs.Lists.{IsIn}
-use Rattle.saturation_core.specs.States.{CoreState}
-use Rattle.saturation_core.proofs.CallerLemmas.{in_left, in_append}
+use Rattle.saturation_laws.specs.States.{CoreState}
+use Rattle.saturation_laws.proofs.CallerLemmas.{in_left, in_append}
 use Rattle.path_sum.proofs.EntryLemmas.{in_right, entry_in}
-use Rattle.path_sum.specs.Sums.{Ways, Moves, has_state, Move, Along, End, Done, move, grow, bare_sum, IsGrown, IsWork, edge_moves, moves_by, pair_moves, end_moves, moves_of}
+use Rattle.path_sum.specs.Sums.{Ways, has_state, Move, Along, End, Done, move, grow, bare_sum, IsGrown}
+use Rattle.path_sum.specs.private.Paths.{Moves}
+use Rattle.path_sum.specs.private.Work.{IsWork, edge_moves, moves_by, pair_moves, end_moves, moves_of}
 
 module _ {S W Map : Type 0} (s : Operations W Map) (side : Side) (o : Opening) (ts : List (Entry S W Map)) (ways : Ways) where
   -- moves and then more moves

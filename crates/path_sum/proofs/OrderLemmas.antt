@@ -9,9 +9,9 @@ use Rattle.weighted_automata.specs.declared.place.Label.TheVariants.{Symbol, Emp
 use Rattle.witness_graph.specs.declared.node.Side.{Side}
 use Rattle.witness_graph.specs.declared.node.Side.TheVariants.{Pre, Post}
 use Rattle.wpds_base.specs.Lists.{IsIn}
-use Rattle.saturation_core.specs.Paths.{symbols_of, IsPath, EachRun, runs_in_order, joined, in_order, along, Reads}
+use Rattle.saturation_laws.specs.Paths.{symbols_of, IsPath, EachRun, runs_in_order, joined, in_order, along, Reads}
 use Rattle.semiring_laws.proofs.CallerLemmas.{extend_left_keeps_below, extend_right_keeps_below}
-use Rattle.path_sum.specs.Sums.{Moves}
+use Rattle.path_sum.specs.private.Paths.{Moves}
 
 module _ {W Map : Type 0} {s : Operations W Map} (laws : IsSemiring s) where
   pub order_fits : (side : Side) (a b : W) → Fits s a → Fits s b → Fits s (in_order s side a b)

@@ -8,13 +8,15 @@ use Rattle.weighted_automata.specs.declared.transitions.Entry.{Entry}
 use Rattle.weighted_automata.specs.Entries.{entry_at, Present}
 use Rattle.witness_graph.specs.declared.node.Side.{Side}
 use Rattle.pushdown_rules.specs.Configuration.{Configuration}
-use Rattle.saturation_core.specs.declared.opening.Opening.{Opening}
-use Rattle.saturation_core.specs.Jobs.{place_of}
+use Rattle.saturation_laws.specs.declared.opening.Opening.{Opening}
+use Rattle.saturation_laws.specs.Jobs.{place_of}
 use Rattle.wpds_base.specs.Lists.{IsIn}
-use Rattle.saturation_core.specs.States.{weight_of, weight_at}
-use Rattle.saturation_core.specs.Paths.{IsPath, in_order, along, Reads, entry_weight, IsMet}
+use Rattle.saturation_laws.specs.States.{weight_of, weight_at}
+use Rattle.saturation_laws.specs.Paths.{IsPath, in_order, along, Reads, entry_weight, IsMet}
 use Rattle.semiring_laws.proofs.CallerLemmas.{below_itself, below_trans, below_zero}
-use Rattle.path_sum.specs.Sums.{Ways, HasWay, pair_place, answer_place, Moves, IsSummed}
+use Rattle.path_sum.specs.Sums.{Ways, pair_place, answer_place}
+use Rattle.path_sum.specs.private.Paths.{HasWay, Moves}
+use Rattle.path_sum.specs.private.Work.{IsSummed}
 use Rattle.path_sum.proofs.OrderLemmas.{order_fits, order_assoc, order_one_left, order_one_right, order_zero_left, order_below, along_fit, moves_first}
 
 module _ {S W Map : Type 0} {s : Operations W Map} (laws : IsSemiring s) (side : Side) (o : Opening) (ts : List (Entry S W Map)) (ways : Ways) (sums : List (Entry S W Map))

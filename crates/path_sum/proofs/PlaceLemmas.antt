@@ -11,12 +11,13 @@ use Rattle.config_patterns.specs.declared.item.Item.{Item}
 use Rattle.config_patterns.specs.declared.edge.Edge.{Edge}
 use Rattle.config_patterns.specs.Membership.{PatternValue}
 use Rattle.config_patterns.specs.Edges.{edges_of, leads_to, stays_on}
-use Rattle.config_patterns.specs.Paths as paths
 use Rattle.config_patterns.proofs.CallerLemmas.{edges_are}
 use Rattle.wpds_base.specs.Lists.{IsIn}
-use Rattle.saturation_core.proofs.CallerLemmas.{in_left, in_append}
-use Rattle.path_sum.specs.Sums.{Ways, ways_of, edge_place, pair_place, Moves, has_state, AreReachable}
-use Rattle.path_sum.specs.Pairs.{distinct, states_of, pairs_of, sum_places}
+use Rattle.saturation_laws.proofs.CallerLemmas.{in_left, in_append}
+use Rattle.path_sum.specs.Sums.{Ways, ways_of, edge_place, pair_place, has_state}
+use Rattle.path_sum.specs.private.Paths.{Moves}
+use Rattle.path_sum.specs.private.Work.{AreReachable, pairs_of, sum_places}
+use Rattle.path_sum.specs.Pairs.{distinct, states_of}
 use Rattle.path_sum.proofs.EntryLemmas.{in_right, entry_in}
 use Rattle.path_sum.proofs.GrowingLemmas.{has_state_is}
 
@@ -78,7 +79,7 @@ stays_within (x ∷ xs) zero g h = omega arith
 stays_within (x ∷ xs) (suc k) g h = let less = stays_within xs k g h in omega (arith, less)
 
 -- an edge leads to an item
-edge_within : (items : List Item) (e : Edge) → paths.IsIn e (edges_of items) → e.to < length items + 1
+edge_within : (items : List Item) (e : Edge) → IsIn e (edges_of items) → e.to < length items + 1
 edge_within items e there = elim ((edges_are items e).0 there) [
   | inl up ↦ let less = leads_within (drop e.from items) up.0 e.symbol up.2 in
       let to = up.1 in
@@ -86,7 +87,7 @@ edge_within items e there = elim ((edges_are items e).0 there) [
   | inr back ↦ let less = stays_within items back.0 e.symbol back.3 in let to = back.2 in omega (arith, less, to)
 ]
 
-pub same_in : (x : Place) (es : List Edge) → IsIn x (map edge_place es) → (e : Edge) × paths.IsIn e es × (edge_place e ≡ x)
+pub same_in : (x : Place) (es : List Edge) → IsIn x (map edge_place es) → (e : Edge) × IsIn e es × (edge_place e ≡ x)
 same_in x [] h = elim h [ ]
 same_in x (d ∷ ds) (inl e) = (d, inl refl, e)
 same_in x (d ∷ ds) (inr h) = let r = same_in x ds h in (r.0, inr r.1, r.2)

@@ -11,11 +11,12 @@ use Rattle.weighted_automata.proofs.CallerLemmas.{cases_place, entry_at-lowered_
 use Rattle.witness_graph.specs.declared.node.Node.TheVariants.{Lower}
 use Rattle.witness_graph.specs.declared.node.Side.{Side}
 use Rattle.witness_graph.specs.declared.node.Side.TheVariants.{Pre, Post}
-use Rattle.saturation_core.specs.Jobs.{node_of}
-use Rattle.saturation_core.specs.Openings.{AreKept}
-use Rattle.saturation_core.specs.States.{CoreState, Change, weight_at, lower_state, apply}
+use Rattle.saturation_laws.specs.Jobs.{node_of}
+use Rattle.saturation_laws.specs.Openings.{AreKept}
+use Rattle.saturation_laws.specs.States.{CoreState, Change, weight_at, lower_state, apply}
 use Rattle.saturation_core.proofs.CallerLemmas.{read_entry, present_at, kept_more}
-use Rattle.path_sum.specs.Sums.{IsReady, first_part, second_part}
+use Rattle.path_sum.specs.private.Growing.{IsReady}
+use Rattle.path_sum.specs.Sums.{first_part, second_part}
 
 pub first_within : (side : Side) (a b n : ℕ) → a < n → b < n → first_part side a b < n
 first_within Pre a b n wa wb = wa

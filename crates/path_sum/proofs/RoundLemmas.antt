@@ -11,15 +11,17 @@ use Rattle.weighted_automata.proofs.CallerLemmas.{same_place_is}
 use Rattle.witness_graph.specs.declared.node.Node.{Node}
 use Rattle.witness_graph.specs.declared.node.Node.TheVariants.{Start}
 use Rattle.pushdown_rules.specs.Pushdown.{Pushdown}
-use Rattle.saturation_core.specs.Bound.{fallen}
+use Rattle.saturation_laws.specs.Bound.{fallen}
 use Rattle.wpds_base.specs.Lists.{IsIn}
-use Rattle.saturation_core.specs.Openings.{AreKept, found_so_far}
-use Rattle.saturation_core.specs.States.{CoreState}
-use Rattle.saturation_core.specs.Invariants.{HasShape}
-use Rattle.saturation_core.proofs.CallerLemmas.{entry_fits}
-use Rattle.path_sum.specs.Sums.{Ways, ways_of, pair_place, Move, Done, move, grow, moves_of, bare_sum, IsGrown, IsSummed, IsAwaited, IsAmong, IsReady, SumRun, TaskValue}
-use Rattle.path_sum.specs.Pairs.{sum_places}
-use Rattle.path_sum.specs.Summing.{IsSummable}
+use Rattle.saturation_laws.specs.Openings.{AreKept, found_so_far}
+use Rattle.saturation_laws.specs.States.{CoreState}
+use Rattle.saturation_laws.specs.Invariants.{HasShape}
+use Rattle.saturation_laws.proofs.CallerLemmas.{entry_fits}
+use Rattle.path_sum.specs.Sums.{Ways, ways_of, pair_place, Move, Done, move, grow, bare_sum, IsGrown}
+use Rattle.path_sum.specs.private.Work.{moves_of, IsSummed, IsAwaited, IsAmong, sum_places}
+use Rattle.path_sum.specs.private.Growing.{IsReady}
+use Rattle.path_sum.specs.private.Paths.{SumRun, IsSummable}
+use Rattle.path_sum.specs.private.Inputs.{SumInputValue}
 use Rattle.path_sum.proofs.GrowingLemmas.{IsSum}
 use Rattle.path_sum.proofs.SumLemmas.{grown_good}
 use Rattle.path_sum.proofs.WorkingLemmas.{work_keeps, bare_awaited, moves_count, work_falls, summed_up, fallen_top}
@@ -30,95 +32,95 @@ use Rattle.path_sum.proofs.PlaceLemmas.{places_reach}
 abbrev pub past : {S W Map : Type 0} → CoreState S W Map → List Place → CoreState S W Map
 past st q = record { transitions = st.transitions; nodes = st.nodes; queue = q; hands = st.hands }
 
-module _ {S W Map : Type 0} (s : Operations W Map) (task : TaskValue S W Map) (nodes : List Node) where
+module _ {S W Map : Type 0} (s : Operations W Map) (input : SumInputValue S W Map) (nodes : List Node) where
   -- What holds of a sum whenever it takes the next pair.
   pub record IsUnderWay (st : CoreState S W Map) : Type 0 where
-    pub grown : IsGrown s task.side task.opening task.transitions nodes (ways_of task.pattern) st
-    pub awaited : IsAwaited s task.side task.opening task.transitions (ways_of task.pattern) st
-    pub among : IsAmong (sum_places (ways_of task.pattern) task.transitions) st.transitions
-    pub few : length st.nodes ≤ length nodes + 1 + fallen s st.transitions (sum_places (ways_of task.pattern) task.transitions)
+    pub grown : IsGrown s input.side input.opening input.transitions nodes (ways_of input.pattern) st
+    pub awaited : IsAwaited s input.side input.opening input.transitions (ways_of input.pattern) st
+    pub among : IsAmong (sum_places (ways_of input.pattern) input.transitions) st.transitions
+    pub few : length st.nodes ≤ length nodes + 1 + fallen s st.transitions (sum_places (ways_of input.pattern) input.transitions)
 
   -- what is left to do
   abbrev pub left_of : CoreState S W Map → ℕ
-  left_of st = let places = sum_places (ways_of task.pattern) task.transitions in (length places * s.top_rank - fallen s st.transitions places) + length st.queue
+  left_of st = let places = sum_places (ways_of input.pattern) input.transitions in (length places * s.top_rank - fallen s st.transitions places) + length st.queue
 
 module _ {S W Map : Type 0} {s : Operations W Map} (laws : IsSemiring s) (value : List ℕ → W) (p : Pushdown S W Map) (runs : Place → List ℕ → Type 0)
-    (task : TaskValue S W Map) (nodes : List Node) (is : IsSummable s value p runs task nodes) where
+    (input : SumInputValue S W Map) (nodes : List Node) (is : IsSummable s value p runs input nodes) where
   abbrev ways : Ways
-  ways = ways_of task.pattern
+  ways = ways_of input.pattern
 
   abbrev places : List Place
-  places = sum_places ways task.transitions
+  places = sum_places ways input.transitions
 
-  abbrev shape : (st : CoreState S W Map) × (st.nodes ≡ nodes) × HasShape s value task.side st
-  shape = (found_so_far task.transitions nodes [], refl, is.shape)
+  abbrev shape : (st : CoreState S W Map) × (st.nodes ≡ nodes) × HasShape s value input.side st
+  shape = (found_so_far input.transitions nodes [], refl, is.shape)
 
-  pub sum_good : (st : CoreState S W Map) → IsGrown s task.side task.opening task.transitions nodes ways st → IsSum s value (SumRun p task.side task.opening ways runs) task.side ways nodes st
-  sum_good st grown = grown_good laws value is.fits p task.side task.opening ways runs is.control is.gives task.transitions nodes is.sound shape st grown
+  pub sum_good : (st : CoreState S W Map) → IsGrown s input.side input.opening input.transitions nodes ways st → IsSum s value (SumRun p input.side input.opening ways runs) input.side ways nodes st
+  sum_good st grown = grown_good laws value is.fits p input.side input.opening ways runs is.control is.gives input.transitions nodes is.sound shape st grown
 
-  pub begun : (st : CoreState S W Map) → st ≡ bare_sum s task.side nodes ways → IsUnderWay s task nodes st
+  pub begun : (st : CoreState S W Map) → st ≡ bare_sum s input.side nodes ways → IsUnderWay s input nodes st
   begun st e =
-      let bare : CoreState S W Map = bare_sum s task.side nodes ways in
-      let T : CoreState S W Map → Type 0 = IsUnderWay s task nodes in
+      let bare : CoreState S W Map = bare_sum s input.side nodes ways in
+      let T : CoreState S W Map → Type 0 = IsUnderWay s input nodes in
       let start : Entry S W Map = record { place = pair_place 0 ways.control; weight = s.one; node = length nodes } in
-      let first = (places_reach task.transitions task.pattern).first in
+      let first = (places_reach input.transitions input.pattern).first in
       subst T (sym e) (record {
         grown = record { moves = []; grows = refl };
-        awaited = bare_awaited laws value is.fits p task.side task.opening ways runs is.control is.gives task.transitions nodes is.sound shape;
+        awaited = bare_awaited laws value is.fits p input.side input.opening ways runs is.control is.gives input.transitions nodes is.sound shape;
         among = λ x. let P : Option (Entry S W Map) → Type 0 = λ o. IsSome o → IsIn x places in
             cond_both (same_place start.place x) (Some start) None P (λ t h. let Q : Place → Type 0 = λ y. IsIn y places in subst Q (same_place_is start.place x t) first) (λ t h. cc);
         few = omega (arith, length_push nodes Start);
       })
 
   -- the front can be worked
-  pub front_ready : (st : CoreState S W Map) (x : Place) (q : List Place) → IsUnderWay s task nodes st → st.queue ≡ x ∷ q → IsReady s task.transitions x (past st q)
+  pub front_ready : (st : CoreState S W Map) (x : Place) (q : List Place) → IsUnderWay s input nodes st → st.queue ≡ x ∷ q → IsReady s input.transitions x (past st q)
   front_ready st x q now front =
       let good = sum_good st now.grown in
       let P : List Place → Type 0 = IsIn x in
       record {
         there = good.sound.shape.present x (subst P (sym front) (inl refl));
-        pairs = record { each = λ t there. (entry_fits laws value is.fits (SumRun p task.side task.opening ways runs) task.side st.nodes t (good.sound.sound t there), (good.sound.sound t there).node) };
-        transitions = record { each = λ t there. (entry_fits laws value is.fits runs task.side nodes t (is.sound t there), omega (arith, good.more, (is.sound t there).node)) };
+        pairs = record { each = λ t there. (entry_fits laws value is.fits (SumRun p input.side input.opening ways runs) input.side st.nodes t (good.sound.sound t there), (good.sound.sound t there).node) };
+        transitions = record { each = λ t there. (entry_fits laws value is.fits runs input.side nodes t (is.sound t there), omega (arith, good.more, (is.sound t there).node)) };
       }
 
-  module _ (st new : CoreState S W Map) (x : Place) (q : List Place) (now : IsUnderWay s task nodes st) (front : st.queue ≡ x ∷ q)
-      (drawn : grow s task.side task.opening task.transitions ways (past st q) (moves_of task.opening ways task.transitions x) ≡ Some new) where
+  module _ (st new : CoreState S W Map) (x : Place) (q : List Place) (now : IsUnderWay s input nodes st) (front : st.queue ≡ x ∷ q)
+      (drawn : grow s input.side input.opening input.transitions ways (past st q) (moves_of input.opening ways input.transitions x) ≡ Some new) where
     abbrev ms : List Move
-    ms = moves_of task.opening ways task.transitions x
+    ms = moves_of input.opening ways input.transitions x
 
     -- a round keeps what holds
-    pub round_keeps : IsUnderWay s task nodes new
+    pub round_keeps : IsUnderWay s input nodes new
     round_keeps =
         let good = sum_good st now.grown in
-        let work = moves_work task.opening ways task.transitions x in
-        let done : move s task.side task.opening task.transitions ways Done st ≡ Some (past st q) = ap (λ r. elim r [ [] ↦ None | y ∷ z ↦ Some (past st z) ]) front in
-        let moved : grow s task.side task.opening task.transitions ways st (Done ∷ ms) ≡ Some new = ap (option_and_then (λ n. grow s task.side task.opening task.transitions ways n ms)) done ∙ drawn in
-        let past_shape = sum_good (past st q) (grown_on s task.side task.opening task.transitions ways nodes st (past st q) (Done ∷ []) now.grown (ap (option_and_then (λ n. Some n)) done)) in
-        let count = moves_count laws value is.fits p task.side task.opening ways runs is.control is.gives task.transitions nodes is.sound shape places (places_reach task.transitions task.pattern)
+        let work = moves_work input.opening ways input.transitions x in
+        let done : move s input.side input.opening input.transitions ways Done st ≡ Some (past st q) = ap (λ r. elim r [ [] ↦ None | y ∷ z ↦ Some (past st z) ]) front in
+        let moved : grow s input.side input.opening input.transitions ways st (Done ∷ ms) ≡ Some new = ap (option_and_then (λ n. grow s input.side input.opening input.transitions ways n ms)) done ∙ drawn in
+        let past_shape = sum_good (past st q) (grown_on s input.side input.opening input.transitions ways nodes st (past st q) (Done ∷ []) now.grown (ap (option_and_then (λ n. Some n)) done)) in
+        let count = moves_count laws value is.fits p input.side input.opening ways runs is.control is.gives input.transitions nodes is.sound shape places (places_reach input.transitions input.pattern)
         ms (past st q) new work.adds past_shape now.among drawn in
         record {
-          grown = grown_on s task.side task.opening task.transitions ways nodes st new (Done ∷ ms) now.grown moved;
-          awaited = work_keeps laws value is.fits p task.side task.opening ways runs is.control is.gives task.transitions nodes is.sound shape st new x q ms good front work now.awaited drawn;
+          grown = grown_on s input.side input.opening input.transitions ways nodes st new (Done ∷ ms) now.grown moved;
+          awaited = work_keeps laws value is.fits p input.side input.opening ways runs is.control is.gives input.transitions nodes is.sound shape st new x q ms good front work now.awaited drawn;
           among = λ y there. elim (count.within y there) [ inl before ↦ now.among y before | inr in' ↦ in' ];
           few = omega (arith, now.few, count.nodes);
         }
 
     -- and leaves less to do
-    pub round_falls : left_of s task nodes new < left_of s task nodes st
+    pub round_falls : left_of s input nodes new < left_of s input nodes st
     round_falls =
-        work_falls laws value is.fits p task.side task.opening ways runs is.control is.gives task.transitions nodes is.sound shape places (places_reach task.transitions task.pattern)
-        st new x q ms (sum_good st now.grown) now.among front (moves_work task.opening ways task.transitions x).adds drawn
+        work_falls laws value is.fits p input.side input.opening ways runs is.control is.gives input.transitions nodes is.sound shape places (places_reach input.transitions input.pattern)
+        st new x q ms (sum_good st now.grown) now.among front (moves_work input.opening ways input.transitions x).adds drawn
 
   -- where nothing waits, the sum is done
-  pub ended : (st : CoreState S W Map) → IsUnderWay s task nodes st → st.queue ≡ [] → IsSummed s task.side task.opening task.transitions ways st.transitions
-  ended st now empty = summed_up laws value is.fits p task.side task.opening ways runs is.control is.gives task.transitions nodes is.sound shape st now.awaited empty
+  pub ended : (st : CoreState S W Map) → IsUnderWay s input nodes st → st.queue ≡ [] → IsSummed s input.side input.opening input.transitions ways st.transitions
+  ended st now empty = summed_up laws value is.fits p input.side input.opening ways runs is.control is.gives input.transitions nodes is.sound shape st now.awaited empty
 
-  pub all_kept : (st : CoreState S W Map) → IsUnderWay s task nodes st → AreKept s st.transitions (length st.nodes)
+  pub all_kept : (st : CoreState S W Map) → IsUnderWay s input nodes st → AreKept s st.transitions (length st.nodes)
   all_kept st now =
       let good = sum_good st now.grown in
-      record { each = λ t there. (entry_fits laws value is.fits (SumRun p task.side task.opening ways runs) task.side st.nodes t (good.sound.sound t there), (good.sound.sound t there).node) }
+      record { each = λ t there. (entry_fits laws value is.fits (SumRun p input.side input.opening ways runs) input.side st.nodes t (good.sound.sound t there), (good.sound.sound t there).node) }
 
-  pub few_nodes : (st : CoreState S W Map) → IsUnderWay s task nodes st → length st.nodes ≤ length nodes + 1 + length places * s.top_rank
+  pub few_nodes : (st : CoreState S W Map) → IsUnderWay s input nodes st → length st.nodes ≤ length nodes + 1 + length places * s.top_rank
   few_nodes st now =
-      let top = fallen_top laws value is.fits p task.side task.opening ways runs is.control is.gives task.transitions nodes is.sound shape places (places_reach task.transitions task.pattern) st places in
+      let top = fallen_top laws value is.fits p input.side input.opening ways runs is.control is.gives input.transitions nodes is.sound shape places (places_reach input.transitions input.pattern) st places in
       omega (arith, now.few, top)

@@ -22,19 +22,21 @@ use Rattle.witness_graph.proofs.CallerLemmas.{runs_of-push_old, runs_of-push_new
 use Rattle.pushdown_rules.specs.Configuration.{Configuration}
 use Rattle.pushdown_rules.specs.Pushdown.{Pushdown}
 use Rattle.pushdown_rules.specs.Values.{value_of}
-use Rattle.saturation_core.specs.declared.opening.Opening.{Opening}
-use Rattle.saturation_core.specs.Jobs.{Tables}
+use Rattle.saturation_laws.specs.declared.opening.Opening.{Opening}
+use Rattle.saturation_laws.specs.Jobs.{Tables}
 use Rattle.wpds_base.specs.Lists.{IsIn, IsOnce}
-use Rattle.saturation_core.specs.States.{CoreState, Change, weight_of, weight_at, apply}
-use Rattle.saturation_core.specs.Directions.{AreRuns}
-use Rattle.saturation_core.specs.Invariants.{IsSound, HasShape}
+use Rattle.saturation_laws.specs.States.{CoreState, Change, weight_of, weight_at, apply}
+use Rattle.saturation_laws.specs.Directions.{AreRuns}
+use Rattle.saturation_laws.specs.Invariants.{IsSound, HasShape}
 use Rattle.witness_graph.specs.Nodes.{AreNodes, is_orderly}
 use Rattle.witness_graph.specs.Tight.{IsTightNode}
-use Rattle.saturation_core.specs.Paths.{IsPath, EachRun, IsOpened, Joins, IsSaturated, IsGiven, HasSums}
-use Rattle.saturation_core.proofs.CallerLemmas.{get_push, IsSoundChange, weights_fit, tight_same, apply_keeps}
-use Rattle.path_sum.specs.Sums.{Ways, HasWay, pair_place, answer_place, Moves, can_move, has_state, Move, Along, End, Done, along_change, end_change, move, grow, bare_sum, IsGrown, IsSummed, AnswerRun, SumRun}
+use Rattle.saturation_laws.specs.Paths.{IsPath, EachRun, IsOpened, Joins, IsSaturated, IsGiven, HasSums}
+use Rattle.saturation_laws.proofs.CallerLemmas.{get_push, IsSoundChange, weights_fit, tight_same, apply_keeps}
+use Rattle.path_sum.specs.Sums.{Ways, pair_place, answer_place, can_move, has_state, Move, Along, End, Done, along_change, end_change, move, grow, bare_sum, IsGrown}
+use Rattle.path_sum.specs.private.Paths.{HasWay, Moves, AnswerRun, SumRun, IsQuery, listed, answer_runs}
+use Rattle.path_sum.specs.private.Work.{IsSummed}
 use Rattle.pushdown_rules.specs.Answers.{Leads, Answers}
-use Rattle.path_sum.specs.Answers.{IsQuery, first_of, last_of, listed, answer_runs}
+use Rattle.path_sum.specs.Answers.{first_of, last_of}
 use Rattle.path_sum.proofs.PairLemmas.{met_below}
 use Rattle.path_sum.proofs.GrowingLemmas.{can_move_is, has_state_is, IsSum, along_sound, end_sound}
 

@@ -12,16 +12,18 @@ use Rattle.witness_graph.specs.declared.node.Node.{Node}
 use Rattle.witness_graph.specs.declared.node.Side.{Side}
 use Rattle.pushdown_rules.specs.Configuration.{Configuration}
 use Rattle.pushdown_rules.specs.Pushdown.{Pushdown}
-use Rattle.saturation_core.specs.declared.opening.Opening.{Opening}
-use Rattle.saturation_core.specs.Bound.{fallen}
-use Rattle.saturation_core.proofs.CallerLemmas.{Counts, counts_itself, counts_further, apply_counts, IsSoundChange, Grows, weights_fit, entry_fits, apply_keeps, grows_itself, grows_further}
+use Rattle.saturation_laws.specs.declared.opening.Opening.{Opening}
+use Rattle.saturation_laws.specs.Bound.{fallen}
+use Rattle.saturation_laws.proofs.CallerLemmas.{Counts, counts_itself, counts_further, apply_counts, IsSoundChange, Grows, weights_fit, entry_fits, apply_keeps, grows_itself, grows_further}
 use Rattle.wpds_base.specs.Lists.{IsIn}
-use Rattle.saturation_core.specs.States.{CoreState, Change, weight_at, apply}
-use Rattle.saturation_core.specs.Invariants.{IsSound, HasShape}
-use Rattle.saturation_core.specs.Paths.{IsPath, EachRun, in_order, IsGiven}
+use Rattle.saturation_laws.specs.States.{CoreState, Change, weight_at, apply}
+use Rattle.saturation_laws.specs.Invariants.{IsSound, HasShape}
+use Rattle.saturation_laws.specs.Paths.{IsPath, EachRun, in_order, IsGiven}
 use Rattle.semiring_laws.proofs.CallerLemmas.{below_trans}
 use Rattle.path_sum.proofs.EntryLemmas.{entry_in}
-use Rattle.path_sum.specs.Sums.{Ways, pair_place, answer_place, Moves, can_move, has_state, Move, Along, End, Done, along_change, end_change, move, grow, bare_sum, IsSummed, SumRun, IsAwaited, IsAmong, AreReachable, IsWork}
+use Rattle.path_sum.specs.Sums.{Ways, pair_place, answer_place, can_move, has_state, Move, Along, End, Done, along_change, end_change, move, grow, bare_sum}
+use Rattle.path_sum.specs.private.Paths.{Moves, SumRun}
+use Rattle.path_sum.specs.private.Work.{IsSummed, IsAwaited, IsAmong, AreReachable, IsWork}
 use Rattle.path_sum.proofs.OrderLemmas.{order_fits}
 use Rattle.path_sum.proofs.GrowingLemmas.{can_move_is, has_state_is, IsSum, along_sound, end_sound}
 use Rattle.path_sum.proofs.SumLemmas.{still_sound, move_good, grow_good}

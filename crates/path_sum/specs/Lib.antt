@@ -1,7 +1,6 @@
 pub mod Sums
 pub mod Answers
 pub mod Saturated
-pub mod Growings
 pub mod Pairs
-pub mod Summing
 pub mod Results
+pub mod private

@@ -7,9 +7,9 @@ use Rattle.witness_graph.specs.Tight.{IsTight}
 use Rattle.config_patterns.specs.Membership.{PatternValue, has_member}
 use Rattle.pushdown_rules.specs.Pushdown.{Pushdown}
 use Rattle.pushdown_rules.specs.Values.{value_of}
-use Rattle.saturation_core.specs.declared.opening.Opening.{Opening}
-use Rattle.saturation_core.specs.Ways.{Way}
-use Rattle.saturation_core.specs.Books.{BookValue}
+use Rattle.saturation_laws.specs.declared.opening.Opening.{Opening}
+use Rattle.saturation_laws.specs.Ways.{Way}
+use Rattle.saturation_laws.specs.Books.{BookValue}
 use Rattle.path_sum.specs.declared.answer.Answer.{Answer}
 use Rattle.path_sum.specs.Answers.{AnswersOpening, listed_runs, IsGrownAnswer}
 use Rattle.path_sum.specs.Sums.{ways_of}

@@ -6,14 +6,14 @@ use Rattle.weighted_automata.specs.Entries.{entry_at, Present}
 use Rattle.witness_graph.specs.declared.node.Node.{Node}
 use Rattle.pushdown_rules.specs.Pushdown.{Pushdown}
 use Rattle.pushdown_rules.specs.Values.{value_of}
-use Rattle.saturation_core.specs.declared.job.Job.{Job}
-use Rattle.saturation_core.specs.declared.opening.Opening.{Opening}
+use Rattle.saturation_laws.specs.declared.job.Job.{Job}
+use Rattle.saturation_laws.specs.declared.opening.Opening.{Opening}
 use Rattle.wpds_base.specs.Lists.{IsIn}
-use Rattle.saturation_core.specs.States.{weight_at}
-use Rattle.saturation_core.specs.Openings.{found_so_far}
-use Rattle.saturation_core.specs.Directions.{IsConsequence}
-use Rattle.saturation_core.specs.Invariants.{IsSound, IsApplied, HasShape}
-use Rattle.saturation_core.specs.Ways.{Way, start_of}
+use Rattle.saturation_laws.specs.States.{weight_at}
+use Rattle.saturation_laws.specs.Openings.{found_so_far}
+use Rattle.saturation_laws.specs.Directions.{IsConsequence}
+use Rattle.saturation_laws.specs.Invariants.{IsSound, IsApplied, HasShape}
+use Rattle.saturation_laws.specs.Ways.{Way, start_of}
 
 module _ {S W Map D : Type 0} (operations : S → Operations W Map) (way : Way S W Map D) where
   -- These transitions and nodes are a finished saturation of the direction over the system from the opening: what holds of a book's hold of them,

@@ -5,8 +5,8 @@
 mod answer;
 mod change;
 mod growing;
+mod sum_input;
 mod summing;
-mod task;
 
 pub use answer::Answer;
 pub use summing::{sum, sum_parts};

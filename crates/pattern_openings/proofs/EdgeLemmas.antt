@@ -12,7 +12,7 @@ use Rattle.config_patterns.specs.Membership.{PatternValue}
 use Rattle.config_patterns.specs.Edges.{edges_of, is_final_of, is_starred, leads_to, stays_on}
 use Rattle.config_patterns.proofs.CallerLemmas.{edges_are}
 use Rattle.wpds_base.specs.Lists.{IsIn}
-use Rattle.saturation_core.proofs.CallerLemmas.{in_map, from_map, from_filter, from_range}
+use Rattle.saturation_laws.proofs.CallerLemmas.{in_map, from_map, from_filter, from_range}
 use Rattle.pattern_openings.specs.PatternOpenings.{state_of, place_of_edge, finals_of_items, opening_of, IsEdgeOf}
 use Rattle.pattern_openings.proofs.ReadLemmas.{in_edges, is_final}
 

@@ -14,9 +14,9 @@ use Rattle.config_patterns.specs.Paths.{IsRead}
 use Rattle.config_patterns.specs.Paths.{Reads as EdgesRead}
 use Rattle.config_patterns.proofs.CallerLemmas.{members_read}
 use Rattle.wpds_base.specs.Lists.{IsIn}
-use Rattle.saturation_core.specs.Paths.{Reads, IsOpened}
+use Rattle.saturation_laws.specs.Paths.{Reads, IsOpened}
 use Rattle.pattern_openings.specs.PatternOpenings.{state_of, place_of_edge, finals_of_items, opening_of}
-use Rattle.saturation_core.proofs.CallerLemmas.{in_map, from_map, in_filter, from_filter, in_range}
+use Rattle.saturation_laws.proofs.CallerLemmas.{in_map, from_map, in_filter, from_filter, in_range}
 
 edge_in : (e : Edge) (es : List Edge) → IsIn e es → IsIn e es
 edge_in e [] h = elim h [ ]

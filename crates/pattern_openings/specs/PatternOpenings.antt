@@ -7,7 +7,7 @@ use Rattle.config_patterns.specs.declared.item.Item.{Item}
 use Rattle.config_patterns.specs.declared.edge.Edge.{Edge}
 use Rattle.config_patterns.specs.Membership.{PatternValue}
 use Rattle.config_patterns.specs.Edges.{edges_of, is_final_of}
-use Rattle.saturation_core.specs.declared.opening.Opening.{Opening}
+use Rattle.saturation_laws.specs.declared.opening.Opening.{Opening}
 
 -- A pattern over so many controls and symbols.
 pub record IsOver (controls symbols : ℕ) (pattern : PatternValue) : Type 0 where
@@ -19,12 +19,16 @@ abbrev pub state_of : ℕ → ℕ → ℕ → ℕ
 state_of controls control zero = control
 state_of controls control (suc i) = controls + i
 
+-- An edge of a pattern, and all of them in their order, where each state has a number.
+abbrev pub place_by : (ℕ → ℕ) → Edge → Place
+place_by number e = record { from = number e.from; label = Symbol e.symbol; to = number e.to }
+
+abbrev pub places_by : (ℕ → ℕ) → List Item → List Place
+places_by number items = map (place_by number) (edges_of items)
+
+-- the edge between states of a saturation
 abbrev pub place_of_edge : ℕ → ℕ → Edge → Place
-place_of_edge controls control e = record {
-  from = state_of controls control e.from;
-  label = Symbol e.symbol;
-  to = state_of controls control e.to;
-}
+place_of_edge controls control e = place_by (state_of controls control) e
 
 -- the final states of a pattern, in order
 abbrev pub finals_of_items : List Item → List ℕ
@@ -32,7 +36,7 @@ finals_of_items items = filter (is_final_of items) (range_with_len 0 (suc (lengt
 
 abbrev pub opening_of : ℕ → PatternValue → Opening
 opening_of controls pattern = record {
-  edges = map (place_of_edge controls pattern.control) (edges_of pattern.items);
+  edges = places_by (state_of controls pattern.control) pattern.items;
   finals = map (state_of controls pattern.control) (finals_of_items pattern.items);
 }
 

@@ -1,18 +1,19 @@
 ghost use Rattle.std.specs.Prelude.{◌≡◌, ◌≤◌, ◌++◌, ◌∷◌, [], IfOk, OnOk, All, map, filter};
 ghost use Rattle.config_patterns.specs.declared.edge.Edge.{Edge as EdgeValue};
 ghost use Rattle.config_patterns.specs.Edges.{is_final_of};
+ghost use Rattle.wpds_base.specs.Limits.{most_controls, most_items};
 ghost use Rattle.pattern_openings.specs.PatternOpenings.{state_of, place_of_edge, finals_of_items, opening_of};
 
 use config_patterns::{Edge, Pattern};
-use saturation_core::{Opening, PlaceList, StateList};
+use saturation_laws::{Opening, PlaceList, StateList};
 use std::alloc::Global;
 use weighted_automata::{Label, Place};
 use wpds_base::OutOfMemory;
 
 // The state of a saturation for a state of a pattern.
 fn state_of(controls: u32, control: u32, state: u32) -> u32
-    requires controls { controls ≤ 1000 }
-    requires state { state ≤ 1000 }
+    requires controls { controls ≤ most_controls }
+    requires state { state ≤ most_items }
     ensures { result ≡ state_of controls control state }
 {
     if state == 0 {
@@ -23,9 +24,9 @@ fn state_of(controls: u32, control: u32, state: u32) -> u32
 }
 
 fn place_of_edge(controls: u32, control: u32, edge: Edge) -> Place
-    requires controls { controls ≤ 1000 }
-    requires from { edge.from ≤ 1000 }
-    requires to { edge.to ≤ 1000 }
+    requires controls { controls ≤ most_controls }
+    requires from { edge.from ≤ most_items }
+    requires to { edge.to ≤ most_items }
     ensures { result ≡ place_of_edge controls control edge }
 {
     Place {
@@ -41,9 +42,11 @@ fn places_of_edges(
     control: u32,
     edges: &[Edge],
 ) -> Result<Vec<Place>, OutOfMemory>
-    requires controls { controls ≤ 1000 }
-    requires states { All (λ (e : EdgeValue). (e.from ≤ 1000) × (e.to ≤ 1000)) edges.now }
-    ensures { IfOk result (λ places. places.items ≡ map (place_of_edge controls control) edges.now) }
+    requires controls { controls ≤ most_controls }
+    requires states { All
+        (λ (e : EdgeValue). (e.from ≤ most_items) × (e.to ≤ most_items)) edges.now }
+    ensures { IfOk result (λ places.
+        places.items ≡ map (place_of_edge controls control) edges.now) }
 {
     let mut places = Vec::new(alloc);
     for edge in edges {
@@ -52,16 +55,18 @@ fn places_of_edges(
     Ok(places)
 }
 
-// Adds a state, where it is final.
+// Adds a state if it is final.
 fn push_final(
     controls: u32,
     pattern: &Pattern,
     state: u32,
     finals: &mut Vec<u32>,
 ) -> Result<(), OutOfMemory>
-    requires controls { controls ≤ 1000 }
-    requires state { state ≤ 1000 }
-    ensures { OnOk result (finals.new.items ≡ finals.old.items ++ map (state_of controls pattern.now.control) (filter (is_final_of pattern.now.items) (state ∷ []))) }
+    requires controls { controls ≤ most_controls }
+    requires state { state ≤ most_items }
+    ensures { OnOk result (finals.new.items ≡ finals.old.items
+        ++ map (state_of controls pattern.now.control)
+        (filter (is_final_of pattern.now.items) (state ∷ []))) }
 {
     if pattern.is_final(state) {
         finals.push(state_of(controls, pattern.control(), state))?;
@@ -70,8 +75,9 @@ fn push_final(
 }
 
 fn final_states(alloc: Global, controls: u32, pattern: &Pattern) -> Result<Vec<u32>, OutOfMemory>
-    requires { controls ≤ 1000 }
-    ensures { IfOk result (λ finals. finals.items ≡ map (state_of controls pattern.now.control) (finals_of_items pattern.now.items)) }
+    requires { controls ≤ most_controls }
+    ensures { IfOk result (λ finals. finals.items
+        ≡ map (state_of controls pattern.now.control) (finals_of_items pattern.now.items)) }
 {
     let mut finals = Vec::new(alloc);
     for state in 0..pattern.items() + 1 {
@@ -81,9 +87,9 @@ fn final_states(alloc: Global, controls: u32, pattern: &Pattern) -> Result<Vec<u
 }
 
 /// The opening of a pattern: its edges in their order, and its final states. State 0 of the pattern is its control, and
-/// state `i` stands for `controls + i - 1`. It is refused only for want of memory.
+/// state `i` stands for `controls + i - 1`. Refused only when out of memory.
 pub fn opening_of(alloc: Global, controls: u32, pattern: &Pattern) -> Result<Opening, OutOfMemory>
-    requires { controls ≤ 1000 }
+    requires { controls ≤ most_controls }
     ensures { IfOk result (λ o. o ≡ opening_of controls pattern.now) }
 {
     let edges = pattern.edges(alloc)?;

@@ -7,7 +7,8 @@ use config_patterns::Pattern;
 /// a system with these counts.
 #[tactic(auto, using(crate::proofs::OverLemmas::over))]
 pub fn is_over(pattern: &Pattern, controls: u32, symbols: u32) -> bool
-    ensures test { IsTrue result ↔ ((pattern.now.control < controls) × (pattern.now.symbols ≤ symbols)) }
+    ensures test { IsTrue result
+        ↔ ((pattern.now.control < controls) × (pattern.now.symbols ≤ symbols)) }
     ensures over { IsTrue result → IsOver controls symbols pattern.now }
 {
     pattern.control() < controls && pattern.symbols() <= symbols

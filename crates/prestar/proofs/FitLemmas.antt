@@ -9,7 +9,7 @@ use Rattle.config_patterns.specs.declared.item.Item.{Item}
 use Rattle.config_patterns.specs.Membership.{PatternValue}
 use Rattle.config_patterns.specs.Edges.{edges_of}
 use Rattle.wpds_base.specs.Lists.{IsIn}
-use Rattle.saturation_core.proofs.CallerLemmas.{in_append, in_right, in_map, from_map}
+use Rattle.saturation_laws.proofs.CallerLemmas.{in_append, in_right, in_map, from_map}
 use Rattle.pattern_openings.specs.PatternOpenings.{state_of, place_of_edge, finals_of_items, opening_of}
 use Rattle.pattern_openings.proofs.CallerLemmas.{edge_is, final_is_state, last_is_final}
 use Rattle.prestar_laws.specs.Fitting.{is_item_edge, fits_pre, above, state_count, pre_places}

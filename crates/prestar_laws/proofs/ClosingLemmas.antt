@@ -11,19 +11,19 @@ use Rattle.witness_graph.specs.declared.node.Side.TheVariants.{Pre}
 use Rattle.pushdown_rules.specs.declared.rule.Rule.{Rule}
 use Rattle.pushdown_rules.specs.Pushdown.{Pushdown, IsSystem}
 use Rattle.pushdown_rules.specs.Values.{value_of}
-use Rattle.saturation_core.specs.declared.opening.Opening.{Opening}
-use Rattle.saturation_core.specs.declared.job.JobKind.{JobKind}
-use Rattle.saturation_core.specs.declared.job.JobKind.TheVariants.{PreStep, PrePushControl, PrePushOther}
-use Rattle.saturation_core.specs.declared.job.Job.{Job}
-use Rattle.saturation_core.specs.Jobs.{Tables, row_of, HasInput}
+use Rattle.saturation_laws.specs.declared.opening.Opening.{Opening}
+use Rattle.saturation_laws.specs.declared.job.JobKind.{JobKind}
+use Rattle.saturation_laws.specs.declared.job.JobKind.TheVariants.{PreStep, PrePushControl, PrePushOther}
+use Rattle.saturation_laws.specs.declared.job.Job.{Job}
+use Rattle.saturation_laws.specs.Jobs.{Tables, row_of, HasInput}
 use Rattle.wpds_base.specs.Lists.{IsIn}
-use Rattle.saturation_core.specs.States.{weight_of, weight_at}
-use Rattle.saturation_core.specs.Openings.{opening_state}
-use Rattle.saturation_core.specs.Directions.{IsConsequence}
-use Rattle.saturation_core.specs.Invariants.{IsApplied}
-use Rattle.saturation_core.specs.Paths.{IsSaturated, HasSums}
+use Rattle.saturation_laws.specs.States.{weight_of, weight_at}
+use Rattle.saturation_laws.specs.Openings.{opening_state}
+use Rattle.saturation_laws.specs.Directions.{IsConsequence}
+use Rattle.saturation_laws.specs.Invariants.{IsApplied}
+use Rattle.saturation_laws.specs.Paths.{IsSaturated, HasSums}
 use Rattle.semiring_laws.proofs.CallerLemmas.{below_zero}
-use Rattle.saturation_core.proofs.CallerLemmas.{opening_weights_fit, opening_edges, opening_pops, opened_below}
+use Rattle.saturation_laws.proofs.CallerLemmas.{opening_weights_fit, opening_edges, opening_pops, opened_below}
 use Rattle.prestar_laws.specs.Reading.{PreRun, LeadsToItems}
 use Rattle.prestar_laws.specs.Rows.{arrow, rule_row, pre_rows, rule_candidate, at_rule}
 use Rattle.prestar_laws.proofs.Weights.{IsClosedUnder, IsBackward}

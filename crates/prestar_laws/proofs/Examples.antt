@@ -9,9 +9,9 @@ use Rattle.weighted_automata.specs.Places.{same_place}
 use Rattle.pushdown_rules.specs.declared.rule.Rule.{Rule}
 use Rattle.pushdown_rules.specs.Configuration.{Configuration}
 use Rattle.pushdown_rules.specs.Pushdown.{Pushdown}
-use Rattle.saturation_core.specs.declared.job.JobKind.TheVariants.{PrePushControl, PrePushOther}
-use Rattle.saturation_core.specs.declared.opening.Opening.{Opening}
-use Rattle.saturation_core.specs.Jobs.{row_of}
+use Rattle.saturation_laws.specs.declared.job.JobKind.TheVariants.{PrePushControl, PrePushOther}
+use Rattle.saturation_laws.specs.declared.opening.Opening.{Opening}
+use Rattle.saturation_laws.specs.Jobs.{row_of}
 use Rattle.prestar_laws.specs.Rows.{arrow, pre_rows, pre_candidate}
 use Rattle.prestar_laws.specs.Jobs.{step_job, push_job, pre_jobs}
 use Rattle.prestar_laws.specs.Fitting.{fits_pre, state_count, pre_places}

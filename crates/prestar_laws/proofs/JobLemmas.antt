@@ -13,13 +13,13 @@ use Rattle.weighted_automata.specs.Entries.{is_from, Present, HasDistinctPlaces}
 use Rattle.weighted_automata.proofs.CallerLemmas.{cases_place, other_place}
 use Rattle.pushdown_rules.specs.declared.rule.Rule.{Rule}
 use Rattle.pushdown_rules.specs.Pushdown.{Pushdown}
-use Rattle.saturation_core.specs.declared.job.JobKind.{JobKind}
-use Rattle.saturation_core.specs.declared.job.JobKind.TheVariants.{PreStep, PrePushControl, PrePushOther}
-use Rattle.saturation_core.specs.declared.job.Job.{Job}
-use Rattle.saturation_core.specs.Jobs.{HasInput}
+use Rattle.saturation_laws.specs.declared.job.JobKind.{JobKind}
+use Rattle.saturation_laws.specs.declared.job.JobKind.TheVariants.{PreStep, PrePushControl, PrePushOther}
+use Rattle.saturation_laws.specs.declared.job.Job.{Job}
+use Rattle.saturation_laws.specs.Jobs.{HasInput}
 use Rattle.wpds_base.specs.Lists.{IsIn}
-use Rattle.saturation_core.specs.Directions.{IsConsequence}
-use Rattle.saturation_core.proofs.CallerLemmas.{in_left, in_append, in_right, entry_in, in_flat_map, from_flat_map, in_present, present_once}
+use Rattle.saturation_laws.specs.Directions.{IsConsequence}
+use Rattle.saturation_laws.proofs.CallerLemmas.{in_left, in_append, in_right, entry_in, in_flat_map, from_flat_map, in_present, present_once}
 use Rattle.prestar_laws.specs.Rows.{arrow}
 use Rattle.prestar_laws.specs.Jobs.{only_if, by_rule, step_job, push_job, step_of, one_symbol, two_symbols, goes_on, are_inputs, pair_jobs, may_be_input, pairs_of, push_of, pre_jobs, pre_tables}
 use Rattle.prestar_laws.proofs.RowTestLemmas.{label_from, from_is, is_from_there, rule_job, row_test, step_test, call_test, stay_test, IsStepJob, IsPushJob, row_says}
@@ -112,14 +112,14 @@ module _ {S W Map : Type 0} (s : Operations W Map) (p : Pushdown S W Map) (ts : 
     two_there kind a b u ia ib has = let P : Entry S W Map → Type 0 = Is in elim has [ inl e ↦ subst P (same_Some a u e) ia | inr e ↦ subst P (same_Some b u e) ib ]
 
     push_row_is : (kind : JobKind) → (kind ≡ PrePushControl) ⊎ (kind ≡ PrePushOther) → (g h : ℕ) → r.right ≡ g ∷ h ∷ [] → (a b : Entry S W Map) → are_inputs p.controls kind r g h a b ≡ true
-        → Rattle.prestar_laws.specs.Rows.pre_rows p (Rattle.saturation_core.specs.Jobs.row_of (push_job kind k r a b)) ≡ true
+        → Rattle.prestar_laws.specs.Rows.pre_rows p (Rattle.saturation_laws.specs.Jobs.row_of (push_job kind k r a b)) ≡ true
     push_row_is kind sort g h right a b test =
         let parts = and_parts (is_from r.to (Symbol g) a) (is_from a.place.to (Symbol h) b && goes_on p.controls kind a.place.to) test in
         let more = and_parts (is_from a.place.to (Symbol h) b) (goes_on p.controls kind a.place.to) parts.1 in
         let at = from_is r.to g a parts.0 in
         let at' = from_is a.place.to h b more.0 in
         let P : JobKind → Type 0 = λ z. goes_on p.controls z a.place.to ≡ true in
-        let Q : JobKind → Type 0 = λ z. Rattle.prestar_laws.specs.Rows.pre_rows p (Rattle.saturation_core.specs.Jobs.row_of (push_job z k r a b)) ≡ true in
+        let Q : JobKind → Type 0 = λ z. Rattle.prestar_laws.specs.Rows.pre_rows p (Rattle.saturation_laws.specs.Jobs.row_of (push_job z k r a b)) ≡ true in
         elim sort [
           | inl e ↦ subst Q (sym e) (row_test p k r there PrePushControl (Some a) (Some b) b.place.to
               (call_test p k r g h right a.place.to b.place.to a b at at' (ltb-true a.place.to p.controls (subst P e more.1))))

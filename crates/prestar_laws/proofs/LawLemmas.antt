@@ -10,15 +10,15 @@ use Rattle.pushdown_rules.specs.declared.rule.Rule.{Rule}
 use Rattle.pushdown_rules.specs.Pushdown.{Pushdown, IsSystem}
 use Rattle.pushdown_rules.specs.Values.{value_of}
 use Rattle.pushdown_rules.proofs.CallerLemmas.{rule_at}
-use Rattle.saturation_core.specs.declared.opening.Opening.{Opening}
-use Rattle.saturation_core.specs.declared.job.JobKind.{JobKind}
-use Rattle.saturation_core.specs.declared.job.JobKind.TheVariants.{PrePushControl, PrePushOther}
-use Rattle.saturation_core.specs.declared.job.Job.{Job}
-use Rattle.saturation_core.specs.Jobs.{row_of, HasInput, named_rule, named_first}
+use Rattle.saturation_laws.specs.declared.opening.Opening.{Opening}
+use Rattle.saturation_laws.specs.declared.job.JobKind.{JobKind}
+use Rattle.saturation_laws.specs.declared.job.JobKind.TheVariants.{PrePushControl, PrePushOther}
+use Rattle.saturation_laws.specs.declared.job.Job.{Job}
+use Rattle.saturation_laws.specs.Jobs.{row_of, HasInput, named_rule, named_first}
 use Rattle.wpds_base.specs.Lists.{IsIn}
-use Rattle.saturation_core.specs.Openings.{head_place, opening_state}
-use Rattle.saturation_core.specs.Directions.{IsDirection, HaveSameCandidates}
-use Rattle.saturation_core.specs.Paths.{HasSums}
+use Rattle.saturation_laws.specs.Openings.{head_place, opening_state}
+use Rattle.saturation_laws.specs.Directions.{IsDirection, HaveSameCandidates}
+use Rattle.saturation_laws.specs.Paths.{HasSums}
 use Rattle.prestar_laws.specs.Rows.{arrow, pre_rows, at_rule}
 use Rattle.prestar_laws.specs.Jobs.{pre_tables}
 use Rattle.prestar_laws.specs.Reading.{PreRun}

@@ -12,7 +12,7 @@ use Rattle.pushdown_rules.specs.Values.{value_of}
 use Rattle.wpds_base.specs.Lists.{IsIn}
 use Rattle.pushdown_rules.proofs.CallerLemmas.{rule_at, fired, none_from_nothing, weight_fits, map_fits, step_value, push_value, open_value, ends_control, split}
 use Rattle.semiring_laws.proofs.CallerLemmas.{below_trans, extend_keeps_below as extend_below, extend_left_keeps_below as extend_below_right, after_keeps_below as after_below}
-use Rattle.saturation_core.specs.Paths.{Reads}
+use Rattle.saturation_laws.specs.Paths.{Reads}
 use Rattle.prestar_laws.specs.Reading.{LeadsTo, LeadsToItems}
 use Rattle.prestar_laws.specs.Rows.{arrow}
 use Rattle.prestar_laws.proofs.Weights.{IsClosedUnder}

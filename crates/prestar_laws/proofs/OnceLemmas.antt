@@ -11,11 +11,11 @@ use Rattle.weighted_automata.specs.Entries.{is_from, HasDistinctPlaces}
 use Rattle.weighted_automata.proofs.CallerLemmas.{same_place_from}
 use Rattle.pushdown_rules.specs.declared.rule.Rule.{Rule}
 use Rattle.pushdown_rules.specs.Pushdown.{Pushdown}
-use Rattle.saturation_core.specs.declared.job.JobKind.{JobKind}
-use Rattle.saturation_core.specs.declared.job.JobKind.TheVariants.{PreStep, PrePushControl, PrePushOther}
-use Rattle.saturation_core.specs.declared.job.Job.{Job}
+use Rattle.saturation_laws.specs.declared.job.JobKind.{JobKind}
+use Rattle.saturation_laws.specs.declared.job.JobKind.TheVariants.{PreStep, PrePushControl, PrePushOther}
+use Rattle.saturation_laws.specs.declared.job.Job.{Job}
 use Rattle.wpds_base.specs.Lists.{IsIn, IsOnce}
-use Rattle.saturation_core.proofs.CallerLemmas.{in_append, from_flat_map, in_present}
+use Rattle.saturation_laws.proofs.CallerLemmas.{in_append, from_flat_map, in_present}
 use Rattle.prestar_laws.specs.Jobs.{only_if, by_rule, one_symbol, two_symbols, step_job, push_job, step_of, are_inputs, pair_jobs, may_be_input, pairs_of, push_of, pre_jobs}
 use Rattle.prestar_laws.proofs.JobLemmas.{from_only}
 

@@ -16,11 +16,11 @@ use Rattle.pushdown_rules.specs.Configuration.{Configuration}
 use Rattle.pushdown_rules.specs.Pushdown.{Pushdown, IsSystem}
 use Rattle.pushdown_rules.specs.Firing.{Run}
 use Rattle.pushdown_rules.specs.Values.{value_of}
-use Rattle.saturation_core.specs.declared.opening.Opening.{Opening}
+use Rattle.saturation_laws.specs.declared.opening.Opening.{Opening}
 use Rattle.wpds_base.specs.Lists.{IsIn}
-use Rattle.saturation_core.specs.Jobs.{place_of}
-use Rattle.saturation_core.specs.States.{weight_of, weight_at}
-use Rattle.saturation_core.specs.Paths.{symbols_of, IsPath, EachRun, joined, along, Reads, IsOpened, entry_weight, IsMet, IsGiven}
+use Rattle.saturation_laws.specs.Jobs.{place_of}
+use Rattle.saturation_laws.specs.States.{weight_of, weight_at}
+use Rattle.saturation_laws.specs.Paths.{symbols_of, IsPath, EachRun, joined, along, Reads, IsOpened, entry_weight, IsMet, IsGiven}
 use Rattle.semiring_laws.proofs.CallerLemmas.{below_itself, extend_keeps_below as extend_below, zero_below}
 use Rattle.prestar_laws.specs.Reading.{LeadsOver, PreRun, LeadsToItems}
 use Rattle.prestar_laws.specs.Rows.{arrow}

@@ -9,9 +9,9 @@ use Rattle.std.proofs.Math.Nat.{mul_assoc}
 use Rattle.weighted_automata.specs.declared.place.Label.{Label}
 use Rattle.weighted_automata.specs.declared.place.Label.TheVariants.{Symbol, Empty}
 use Rattle.weighted_automata.specs.declared.place.Place.{Place}
-use Rattle.saturation_core.specs.declared.opening.Opening.{Opening}
+use Rattle.saturation_laws.specs.declared.opening.Opening.{Opening}
 use Rattle.wpds_base.specs.Lists.{IsIn}
-use Rattle.saturation_core.proofs.CallerLemmas.{in_left, in_map, from_map, in_range, from_range, in_flat_map, from_flat_map, length-flat_map_of}
+use Rattle.saturation_laws.proofs.CallerLemmas.{in_left, in_map, from_map, in_range, from_range, in_flat_map, from_flat_map, length-flat_map_of}
 use Rattle.prestar_laws.specs.Rows.{arrow}
 use Rattle.prestar_laws.specs.Reading.{LeadsToItems}
 use Rattle.prestar_laws.specs.Fitting.{reads_symbol, is_item_edge, above, state_count, arrows}

@@ -14,11 +14,11 @@ use Rattle.pushdown_rules.specs.Firing.{Run}
 use Rattle.pushdown_rules.specs.RunValue.{Machine, starting, product, run_value}
 use Rattle.pushdown_rules.specs.Values.{value_of}
 use Rattle.wpds_base.specs.Lists.{IsIn}
-use Rattle.saturation_core.specs.Directions.{AreRuns}
+use Rattle.saturation_laws.specs.Directions.{AreRuns}
 use Rattle.pushdown_rules.proofs.CallerLemmas.{rule_at, value_fits, fires, run_above, run_then, by_word, rules_cons, step_value, push_value, open_value, ends_control, weight_fits, map_fits}
-use Rattle.saturation_core.specs.Paths.{Reads}
+use Rattle.saturation_laws.specs.Paths.{Reads}
 use Rattle.prestar_laws.specs.Reading.{LeadsTo, PreRun, LeadsToItems}
-use Rattle.saturation_core.proofs.CallerLemmas.{IsLinear, linear, bilinear, all_map, all_pairs, then_empty, after_rule}
+use Rattle.saturation_laws.proofs.CallerLemmas.{IsLinear, linear, bilinear, all_map, all_pairs, then_empty, after_rule}
 
 module _ {S W Map : Type 0} {operations : S → Operations W Map} {p : Pushdown S W Map} (valid : IsSystem operations p) (laws : IsSemiring (operations p.semiring)) where
   abbrev s : Operations W Map

@@ -11,10 +11,10 @@ use Rattle.weighted_automata.specs.Entries.{is_from}
 use Rattle.weighted_automata.proofs.CallerLemmas.{same_place_is, same_place_from, same_place_itself}
 use Rattle.pushdown_rules.specs.declared.rule.Rule.{Rule}
 use Rattle.pushdown_rules.specs.Pushdown.{Pushdown}
-use Rattle.saturation_core.specs.declared.job.JobKind.{JobKind}
-use Rattle.saturation_core.specs.declared.job.JobKind.TheVariants.{PreStep, PrePushControl, PrePushOther, PostStep, PostPopMiddle, PostPopOther, PostEnter, PostLeave, PostGlue}
-use Rattle.saturation_core.specs.declared.job.Job.{Job}
-use Rattle.saturation_core.specs.Jobs.{Row, row_of, place_of}
+use Rattle.saturation_laws.specs.declared.job.JobKind.{JobKind}
+use Rattle.saturation_laws.specs.declared.job.JobKind.TheVariants.{PreStep, PrePushControl, PrePushOther, PostStep, PostPopMiddle, PostPopOther, PostEnter, PostLeave, PostGlue}
+use Rattle.saturation_laws.specs.declared.job.Job.{Job}
+use Rattle.saturation_laws.specs.Jobs.{Row, row_of, place_of}
 use Rattle.prestar_laws.specs.Rows.{arrow, is_place, is_step, is_push, second_from, step_row, push_row, rule_row, pre_rows}
 use Rattle.prestar_laws.proofs.TableLemmas.{input_at, no_input}
 

@@ -18,11 +18,11 @@ use Rattle.witness_graph.specs.Runs.{parts_runs, rule_runs}
 use Rattle.pushdown_rules.specs.declared.rule.Rule.{Rule}
 use Rattle.pushdown_rules.specs.Pushdown.{Pushdown, IsSystem}
 use Rattle.pushdown_rules.specs.Values.{value_of}
-use Rattle.saturation_core.specs.declared.job.JobKind.{JobKind}
-use Rattle.saturation_core.specs.declared.job.JobKind.TheVariants.{PreStep, PrePushControl, PrePushOther, PostStep, PostPopMiddle, PostPopOther, PostEnter, PostLeave, PostGlue}
-use Rattle.saturation_core.specs.declared.job.Job.{Job}
-use Rattle.saturation_core.specs.Jobs.{Row, row_of, place_of, named_rule, named_first}
-use Rattle.saturation_core.specs.Directions.{AreRuns, AreInputRuns}
+use Rattle.saturation_laws.specs.declared.job.JobKind.{JobKind}
+use Rattle.saturation_laws.specs.declared.job.JobKind.TheVariants.{PreStep, PrePushControl, PrePushOther, PostStep, PostPopMiddle, PostPopOther, PostEnter, PostLeave, PostGlue}
+use Rattle.saturation_laws.specs.declared.job.Job.{Job}
+use Rattle.saturation_laws.specs.Jobs.{Row, row_of, place_of, named_rule, named_first}
+use Rattle.saturation_laws.specs.Directions.{AreRuns, AreInputRuns}
 use Rattle.prestar_laws.specs.Reading.{PreRun, LeadsToItems}
 use Rattle.prestar_laws.specs.Rows.{arrow, is_place, is_step, is_push, second_from, push_row, rule_row, pre_rows, weight_in, rule_candidate, at_rule as at_rule_of, pre_candidate}
 use Rattle.prestar_laws.proofs.RowLemmas.{step_sound, call_sound, open_sound}

@@ -6,8 +6,8 @@ use Rattle.pushdown_rules.specs.declared.rule.Rule.{Rule}
 use Rattle.pushdown_rules.specs.Pushdown.{Pushdown}
 use Rattle.wpds_base.specs.Lists.{IsIn}
 use Rattle.witness_graph.specs.declared.node.Side.TheVariants.{Pre}
-use Rattle.saturation_core.specs.declared.job.Job.{Job}
-use Rattle.saturation_core.specs.Jobs.{Tables, Row}
+use Rattle.saturation_laws.specs.declared.job.Job.{Job}
+use Rattle.saturation_laws.specs.Jobs.{Tables, Row}
 use Rattle.prestar_laws.specs.Rows.{arrow, pre_rows, pre_candidate}
 
 -- Each place has a weight below what the opening edges, the pop rules and the rows ask for. A place that is not there has zero.

@@ -9,10 +9,10 @@ use Rattle.weighted_automata.specs.Entries.{is_from}
 use Rattle.witness_graph.specs.declared.node.Side.TheVariants.{Pre}
 use Rattle.pushdown_rules.specs.declared.rule.Rule.{Rule}
 use Rattle.pushdown_rules.specs.Pushdown.{Pushdown}
-use Rattle.saturation_core.specs.declared.job.JobKind.{JobKind}
-use Rattle.saturation_core.specs.declared.job.JobKind.TheVariants.{PreStep, PrePushControl, PrePushOther}
-use Rattle.saturation_core.specs.declared.job.Job.{Job}
-use Rattle.saturation_core.specs.Jobs.{Tables}
+use Rattle.saturation_laws.specs.declared.job.JobKind.{JobKind}
+use Rattle.saturation_laws.specs.declared.job.JobKind.TheVariants.{PreStep, PrePushControl, PrePushOther}
+use Rattle.saturation_laws.specs.declared.job.Job.{Job}
+use Rattle.saturation_laws.specs.Jobs.{Tables}
 use Rattle.prestar_laws.specs.Rows.{arrow, pre_rows, pre_candidate}
 
 -- the item alone, where the test holds

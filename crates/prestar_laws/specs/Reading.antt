@@ -6,7 +6,7 @@ use Rattle.pushdown_rules.specs.Configuration.{Configuration}
 use Rattle.pushdown_rules.specs.Pushdown.{Pushdown}
 use Rattle.pushdown_rules.specs.Firing.{Run}
 use Rattle.wpds_base.specs.Lists.{IsIn}
-use Rattle.saturation_core.specs.Paths.{Reads}
+use Rattle.saturation_laws.specs.Paths.{Reads}
 
 -- the run leads from the control over the symbol to a configuration that the edges read to a state
 abbrev pub LeadsTo : {S W Map : Type 0} → Pushdown S W Map → List Place → ℕ → ℕ → ℕ → List ℕ → Type 0

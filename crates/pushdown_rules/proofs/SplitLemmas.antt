@@ -114,6 +114,13 @@ module _ {S W Map : Type 0} (s : Operations W Map) (p : Pushdown S W Map) where
       let next = subst Q (sym (by_word s r r.right m refl)) (deep_after s r r.right m.accumulator m.frames r.symbol f.rest (subst P f.head deep)) in
       subst T (sym (rules_cons s p k r run f.there)) (deep_end run goes.0 d goes.2 (machine_after s r m) (subst R (sym f.after) next))
 
+  -- a run to one symbol leaves no call
+  pub none_waits : (a : List ℕ) (c : Configuration) (control g : ℕ) → Run p c a (at_stack control (g ∷ [])) → (run_machine s (starting s) (rules_of s p a)).frames ≡ []
+  none_waits a c control g goes = elim (deep_end a c (at_stack control (g ∷ [])) goes (starting s) (inr refl)) [
+    | inr e ↦ e
+    | inl h ↦ nil_from_length (run_machine s (starting s) (rules_of s p a)).frames (omega arith)
+  ]
+
 module _ {W Map : Type 0} {s : Operations W Map} (laws : IsSemiring s) where
   -- a factor after the accumulator is a factor after the product
   pub product_extend : (fs : List (Frame W Map)) (w v : W) → AllByRecursion (FitsFrame s) fs → Fits s w → Fits s v → product s fs (s.extend w v) ≡ s.extend (product s fs w) v
@@ -178,13 +185,6 @@ module _ {S W Map : Type 0} {operations : S → Operations W Map} {p : Pushdown 
   abbrev after : List ℕ → Machine W Map
   after a = run_machine s (starting s) (rules_of s p a)
 
-  -- a run to one symbol leaves no call
-  pub none_waits : (a : List ℕ) (c : Configuration) (control g : ℕ) → Run p c a (at_stack control (g ∷ [])) → (after a).frames ≡ []
-  none_waits a c control g goes = elim (deep_end s p a c (at_stack control (g ∷ [])) goes (starting s) (inr refl)) [
-    | inr e ↦ e
-    | inl h ↦ nil_from_length (after a).frames (omega arith)
-  ]
-
   module _ (k : ℕ) (r : Rule S W Map) (there : slice_get p.rules k ≡ Some r) where
     fr : Fits s r.weight
     fr = (rule_at valid k r there).fits.weight
@@ -208,5 +208,5 @@ module _ {S W Map : Type 0} {operations : S → Operations W Map} {p : Pushdown 
     pop_last right a c control g goes =
         let m = after a in
         let at : W → Machine W Map = λ w. record { accumulator = w; frames = [] } in
-        let alone : m ≡ at (value a) = no_frames s m (none_waits a c control g goes) ∙ ap at (sym (value_is s (starting s) (rules_of s p a))) in
+        let alone : m ≡ at (value a) = no_frames s m (none_waits s p a c control g goes) ∙ ap at (sym (value_is s (starting s) (rules_of s p a))) in
         last_value a ∙ ap (λ n. end_value s (machine_after s r n)) alone ∙ ap (end_value s) (by_word s r [] (at (value a)) right)

@@ -12,7 +12,7 @@ use Rattle.pushdown_rules.specs.Values.{rules_of, value_of}
 use Rattle.pushdown_rules.proofs.RunValues.{plain_or_fits}
 use Rattle.pushdown_rules.proofs.SystemLemmas.{rule_at, rules_fit, value_fits}
 use Rattle.pushdown_rules.proofs.FiringLemmas.{fired}
-use Rattle.pushdown_rules.proofs.MachineLemmas.{value_is, machine-append, by_word, rules_cons, ends_empty, ends_full, value_after}
+use Rattle.pushdown_rules.proofs.MachineLemmas.{value_is, machine-append, after_word, by_word, rules_cons, ends_empty, ends_full, value_after}
 
 is_some_of : {X : Type 0} (x : X) → IsSome (Some x)
 is_some_of x = refl
@@ -125,3 +125,20 @@ module _ {S W Map : Type 0} {operations : S → Operations W Map} {p : Pushdown 
       let to : f.rule.to < p.controls = (rule_at valid k f.rule f.there).to in
       let P : Configuration → Type 0 = λ x. x.control < p.controls in
       ends_control run goes.0 d goes.2 (subst P (sym f.after) to)
+
+  one_word : (k : ℕ) (r : Rule S W Map) (word : List ℕ) → r.right ≡ word → slice_get p.rules k ≡ Some r → value (k ∷ []) ≡ r.weight
+  one_word k r word right there =
+      let w = r.weight in
+      let fit = weight_fits k r there in
+      let end : Machine W Map → W = λ m. product s m.frames m.accumulator in
+      ap (run_value s) (rules_cons s p k r [] there) ∙ ap end (by_word s r word (starting s) right) ∙ (elim word as (λ u. end (after_word s r u (starting s)) ≡ w) [
+        | [] ↦ laws.extend-one_left w fit
+        | g ∷ gs ↦ elim gs as (λ u. end (after_word s r (g ∷ u) (starting s)) ≡ w) [
+          | [] ↦ laws.extend-one_left w fit
+          | h ∷ hs ↦ laws.extend-one_left w fit
+        ]
+      ])
+
+  -- one rule has its weight
+  pub one_value : (k : ℕ) (r : Rule S W Map) → slice_get p.rules k ≡ Some r → value (k ∷ []) ≡ r.weight
+  one_value k r there = one_word k r r.right refl there

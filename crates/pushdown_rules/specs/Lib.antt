@@ -5,6 +5,6 @@ pub mod Firing
 pub mod RunValue
 pub mod Values
 pub mod Splits
-pub mod Progress
 pub mod Answers
-pub mod Guarded
+pub mod InSystem
+pub mod private

@@ -1,6 +1,12 @@
 ghost use Rattle.std.specs.Prelude.{◌≡◌, ◌∷◌, [], length, IfOk};
 
-use crate::{Config, Rule, RuleFault, System};
+use crate::{
+    Config, Rule, RuleFault, System, answers_agree, answers_are_greatest_below, calls_return,
+    no_call_is_open_over_one_symbol, one_rule_has_its_weight, plain_runs_multiply, rules_are_valid,
+    rules_fire_at_their_heads, runs_end, runs_fall_or_stay, runs_from_one_symbol_are_factors,
+    runs_join, runs_keep_controls, runs_stop_at_an_empty_stack, same_rule, values_are_products,
+    values_fit, zero_where_infeasible,
+};
 use semiring_laws::{NoMap, Reach, Semiring};
 use std::alloc::Global;
 use std::test::Fail;
@@ -118,8 +124,82 @@ fn equal_systems(rt: HostRuntime) -> Result<(), Fail> {
     let system = call_and_return(alloc)?;
     let mut other = call_and_return(alloc)?;
     assert!(rt; system.same(&other));
+    assert!(rt; same_rule(&Reach, system.rule(0), other.rule(0)));
+    assert!(rt; !same_rule(&Reach, system.rule(0), other.rule(1)));
     other.add_rule(alloc, 0, 1, 1, &[], true, None)?;
     assert!(rt; !system.same(&other), "a rule more");
     assert!(rt; !System::new(alloc, Reach, 2, 2).same(&System::new(alloc, Reach, 2, 3)));
     Ok(())
+}
+
+// What is answered once a system of one control and one symbol is full.
+#[derive(Clone, Copy, Debug, PartialEq, Eq, Drop)]
+struct Full {
+    rules: u32,
+    one_more: Option<RuleFault>,
+    wrong_control: Option<RuleFault>,
+}
+
+fn fill(alloc: Global, count: u32) -> Result<Full, RuleFault> {
+    let mut system = System::new(alloc, Reach, 1, 1);
+    for _ in 0..count {
+        system.add_rule(alloc, 0, 0, 0, &[0], true, None)?;
+    }
+    let one_more = system.add_rule(alloc, 0, 0, 0, &[0], true, None).err();
+    let wrong_control = system.add_rule(alloc, 1, 0, 0, &[0], true, None).err();
+    Ok(Full {
+        rules: system.rules(),
+        one_more,
+        wrong_control,
+    })
+}
+
+#[test]
+fn a_rule_over_the_limit(rt: HostRuntime) -> Result<(), Fail> {
+    let full = Full {
+        rules: 130_000,
+        one_more: Some(RuleFault::TooManyRules),
+        wrong_control: Some(RuleFault::NoControl),
+    };
+    assert_eq!(rt; fill(rt.alloc(), 130_000)?, full);
+    Ok(())
+}
+
+// The last controls and symbols that a largest system has, and the first that it has not.
+#[test]
+fn the_last_control_and_symbol(rt: HostRuntime) -> Result<(), Fail> {
+    let alloc = rt.alloc();
+    let mut system = System::new(alloc, Reach, 1_000, 40_000);
+    assert_eq!(rt; counts_of(&system), (1_000, 40_000, 0));
+    let rows: [(u32, u32, Result<u32, RuleFault>); 3] = [
+        (999, 39_999, Ok(0)),
+        (1_000, 39_999, Err(RuleFault::NoControl)),
+        (999, 40_000, Err(RuleFault::NoSymbol)),
+    ];
+    for (control, symbol, answer) in rows {
+        let added = system.add_rule(alloc, control, symbol, control, &[symbol], true, None);
+        assert_eq!(rt; added, answer, "at {control} {symbol}");
+    }
+    Ok(())
+}
+
+#[test]
+fn laws() {
+    answers_agree::<Reach>();
+    answers_are_greatest_below::<Reach>();
+    calls_return::<Reach>();
+    no_call_is_open_over_one_symbol::<Reach>();
+    one_rule_has_its_weight::<Reach>();
+    plain_runs_multiply::<Reach>();
+    rules_are_valid::<Reach>();
+    rules_fire_at_their_heads::<Reach>();
+    runs_end::<Reach>();
+    runs_fall_or_stay::<Reach>();
+    runs_from_one_symbol_are_factors::<Reach>();
+    runs_join::<Reach>();
+    runs_keep_controls::<Reach>();
+    runs_stop_at_an_empty_stack::<Reach>();
+    values_are_products::<Reach>();
+    values_fit::<Reach>();
+    zero_where_infeasible::<Reach>();
 }

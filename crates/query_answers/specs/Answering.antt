@@ -1,16 +1,16 @@
 -- What an answer to a query is, with the saturation that it comes from.
-use Rattle.std.specs.Prelude.{◌≡◌, ◌↔◌, Option, None, Some, IfSome}
+use Rattle.std.specs.Prelude.{◌≡◌, ◌↔◌, None, IfSome}
 use Rattle.semiring_laws.specs.Semiring.{Operations}
 use Rattle.pushdown_rules.specs.Pushdown.{Pushdown}
 use Rattle.pushdown_rules.specs.Values.{value_of}
 use Rattle.pushdown_rules.specs.Answers.{Answers}
-use Rattle.witness_graph.specs.declared.node.Side.TheVariants.{Pre as Backward}
-use Rattle.witness_graph.specs.declared.listing.Listing.{Listing}
+use Rattle.witness_graph.specs.declared.node.Side.{Side}
+use Rattle.witness_graph.specs.declared.node.Side.TheVariants.{Pre as Backward, Post as Forward}
 use Rattle.witness_graph.specs.Tight.{IsTight}
-use Rattle.short_listings.specs.Shorter.{shortened}
 use Rattle.config_patterns.specs.Membership.{PatternValue, has_member}
 use Rattle.pattern_openings.specs.PatternOpenings.{opening_of}
-use Rattle.saturation_core.specs.Books.{BookValue, IsBook, IsClosed}
+use Rattle.saturation_laws.specs.Books.{BookValue, IsBook, IsClosed}
+use Rattle.saturation_laws.specs.Ways.{Way}
 use Rattle.prestar_laws.specs.Ways.{pre_way}
 use Rattle.prestar.specs.declared.pre.Pre.{Pre}
 use Rattle.path_sum.specs.declared.answer.Answer.{Answer}
@@ -18,35 +18,48 @@ use Rattle.path_sum.specs.Answers.{listed_runs, IsGrownAnswer}
 use Rattle.path_sum.specs.Sums.{ways_of}
 use Rattle.worker_pool.specs.Alone.{IsAlone}
 
--- the second listing is the first made shorter, and there is none where there was none
-abbrev pub IsShorter : Option Listing → Option Listing → Type 0
-IsShorter None None = Unit {0}
-IsShorter (Some l) (Some m) = (m.side ≡ l.side) × (m.nodes ≡ shortened l.nodes)
-IsShorter _ _ = ⊥
+-- of the patterns where runs begin and where they end, the one that a saturation starts from
+abbrev pub opened_of : Side → PatternValue → PatternValue → PatternValue
+opened_of Backward from to = to
+opened_of Forward from to = from
 
-module _ {S W Map : Type 0} (operations : S → Operations W Map) (p : Pushdown S W Map) (to : PatternValue) where
-  -- The book is a finished saturation of the system, backwards from a pattern, and one worker has made all its steps.
-  pub record IsSaturatedFor (b : BookValue S W Map Pre) : Type 0 where
+-- and the one that is summed over
+abbrev pub summed_of : Side → PatternValue → PatternValue → PatternValue
+summed_of Backward from to = from
+summed_of Forward from to = to
+
+module _ {S W Map : Type 0} (operations : S → Operations W Map) (p : Pushdown S W Map) (from to : PatternValue) where
+  abbrev s : Operations W Map
+  s = operations p.semiring
+
+  -- What an answer to a query shows: a value, and a listing of runs that make it.
+  pub record ShowsAnswer (goes : Side) (a : Answer S W Map) : Type 0 where
+    -- the value lies below the value of each run from a member to a member, and combines those of the listed runs
+    pub answers : Answers s p (has_member from) (has_member to) a.value (listed_runs a.listing)
+    -- nothing is listed exactly where the value is zero
+    pub unlisted : (a.listing ≡ None) ↔ (a.value ≡ s.zero)
+    pub side : IfSome a.listing (λ l. l.side ≡ goes)
+    -- no part of the listing leaves the value of its set as it was
+    pub tight : IfSome a.listing (λ l. IsTight s (value_of s p) l.side l.nodes)
+
+module _ {S W Map D : Type 0} (operations : S → Operations W Map) (way : Way S W Map D) (p : Pushdown S W Map) where
+  -- The book is a finished saturation of the system from a pattern, and one worker has made all its steps.
+  pub record IsSaturatedFrom (pattern : PatternValue) (b : BookValue S W Map D) : Type 0 where
     pub system : b.system ≡ p
-    pub opening : b.opening ≡ opening_of p.controls to
-    pub book : IsBook operations (pre_way operations) b
+    pub opening : b.opening ≡ opening_of p.controls pattern
+    pub book : IsBook operations way b
     pub closed : IsClosed b
     pub alone : IsAlone b.journal
 
+  -- The answer is grown from the transitions and nodes of such a book, whose direction says which pattern it starts from. What is listed is made shorter.
+  pub record IsGrownFromBook (side : Side) (from to : PatternValue) (a : Answer S W Map) : Type 0 where
+    pub book : BookValue S W Map D
+    pub goes : (way.tables book.direction p).side ≡ side
+    pub saturated : IsSaturatedFrom (opened_of side from to) book
+    pub grown : IsGrownAnswer (operations p.semiring) side book.opening book.state.transitions book.state.nodes (ways_of (summed_of side from to)) a
+
 module _ {S W Map : Type 0} (operations : S → Operations W Map) (p : Pushdown S W Map) (from to : PatternValue) where
-  -- The answer to a query: a value with a listing of runs that show it, from such a book.
+  -- The answer to a query: what it shows, and that it is grown backwards.
   pub record IsAnswer (a : Answer S W Map) : Type 0 where
-    -- the value lies below the value of each run from a member to a member, and combines those of the listed runs
-    pub answers : Answers (operations p.semiring) p (has_member from) (has_member to) a.value (listed_runs a.listing)
-    -- nothing is listed exactly where the value is zero
-    pub unlisted : (a.listing ≡ None) ↔ (a.value ≡ (operations p.semiring).zero)
-    pub side : IfSome a.listing (λ l. l.side ≡ Backward)
-    -- no part of the listing leaves the value of its set as it was
-    pub tight : IfSome a.listing (λ l. IsTight (operations p.semiring) (value_of (operations p.semiring) p) l.side l.nodes)
-    -- it is grown from the transitions and nodes of such a book, and then made shorter
-    pub book : BookValue S W Map Pre
-    pub saturated : IsSaturatedFor operations p to book
-    pub whole : Answer S W Map
-    pub grown : IsGrownAnswer (operations p.semiring) Backward book.opening book.state.transitions book.state.nodes (ways_of from) whole
-    pub same_value : a.value ≡ whole.value
-    pub shorter : IsShorter whole.listing a.listing
+    pub shows : ShowsAnswer operations p from to Backward a
+    pub grown : IsGrownFromBook {D = Pre} operations (pre_way operations) p Backward from to a

@@ -12,12 +12,17 @@ rule_text r = codes "rule " ++ decimal (r + 1)
 abbrev pub set_text : ℕ → List ℕ
 set_text k = codes "set " ++ decimal k
 
+-- a part, if it is there
+abbrev pub rule_part : Option ℕ → List (List ℕ)
+rule_part rule = option_to_list (option_map rule_text rule)
+
+abbrev pub set_part : Option ℕ → List (List ℕ)
+set_part set = option_to_list (option_map set_text set)
+
 -- the parts of a node that are there, in the order of its runs
 abbrev pub parts : Side → (rule first second : Option ℕ) → List (List ℕ)
-parts Pre rule first second =
-    option_to_list (option_map rule_text rule) ++ (option_to_list (option_map set_text first) ++ option_to_list (option_map set_text second))
-parts Post rule first second =
-    option_to_list (option_map set_text first) ++ (option_to_list (option_map set_text second) ++ option_to_list (option_map rule_text rule))
+parts Pre rule first second = rule_part rule ++ (set_part first ++ set_part second)
+parts Post rule first second = set_part first ++ (set_part second ++ rule_part rule)
 
 -- the parts, with ` then ` between
 abbrev pub parts_text : Side → (rule first second : Option ℕ) → List ℕ

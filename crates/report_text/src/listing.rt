@@ -1,4 +1,4 @@
-ghost use Rattle.std.specs.Prelude.{◌≡◌, ◌++◌, map, option_map, option_to_list, IfOk, OnOk};
+ghost use Rattle.std.specs.Prelude.{◌≡◌, ◌++◌, map, IfOk, OnOk};
 ghost use Rattle.std.specs.String.{string_bytes};
 ghost use Rattle.report_text.specs.Listings as listings;
 
@@ -8,7 +8,10 @@ use wpds_base::OutOfMemory;
 
 // Adds a rule by its number in the text, if there is one.
 fn add_rule(alloc: Global, texts: &mut Vec<String>, rule: Option<u32>) -> Result<(), OutOfMemory>
-    ensures { OnOk result (map string_bytes texts.new.items ≡ map string_bytes texts.old.items ++ option_to_list (option_map listings.rule_text rule)) }
+    ensures {
+        let before = map string_bytes texts.old.items in
+        OnOk result (map string_bytes texts.new.items ≡ before ++ listings.rule_part rule)
+    }
 {
     if let Some(rule) = rule {
         let counted = rule as u64 + 1;
@@ -19,7 +22,10 @@ fn add_rule(alloc: Global, texts: &mut Vec<String>, rule: Option<u32>) -> Result
 
 // Adds a set of runs, if there is one.
 fn add_set(alloc: Global, texts: &mut Vec<String>, set: Option<u64>) -> Result<(), OutOfMemory>
-    ensures { OnOk result (map string_bytes texts.new.items ≡ map string_bytes texts.old.items ++ option_to_list (option_map listings.set_text set)) }
+    ensures {
+        let before = map string_bytes texts.old.items in
+        OnOk result (map string_bytes texts.new.items ≡ before ++ listings.set_part set)
+    }
 {
     if let Some(set) = set {
         texts.push(format!(in alloc; "set {set}")?)?;
@@ -90,7 +96,10 @@ fn add_line(
     number: usize,
     node: Node,
 ) -> Result<(), OutOfMemory>
-    ensures { OnOk result (string_bytes text.new ≡ string_bytes text.old ++ listings.set_line side number node) }
+    ensures {
+        let line = listings.set_line side number node in
+        OnOk result (string_bytes text.new ≡ string_bytes text.old ++ line)
+    }
 {
     let runs = node_text(alloc, side, node)?;
     text.push_str(format!(in alloc; "  set {number} = {runs}\n")?.as_str())?;
@@ -99,7 +108,10 @@ fn add_line(
 
 /// The lines of a listing: one for each of its nodes, the sets of runs, and last which of them the answer is.
 pub fn listing_text(alloc: Global, listing: &Listing) -> Result<String, OutOfMemory>
-    ensures { IfOk result (λ t. string_bytes t ≡ listings.listing_text listing.now.side listing.now.nodes) }
+    ensures {
+        let l = listing.now in
+        IfOk result (λ t. string_bytes t ≡ listings.listing_text l.side l.nodes)
+    }
 {
     let nodes = listing.nodes.as_slice();
     let mut text = String::new(alloc);

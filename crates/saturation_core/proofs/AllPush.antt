@@ -3,7 +3,7 @@ use Rattle.std.proofs.Common.{◌≡◌, ℕ, ◌+◌, ◌<◌, ◌≤◌, List,
 use Rattle.std.specs.Prelude.{All}
 use Rattle.std.proofs.lemmas.List.{take_more, take_all}
 use Rattle.std.proofs.lemmas.List.Elements.{All-from_recursion, recursion_from_All}
-use Rattle.saturation_core.proofs.QueueLemmas.{all_append}
+use Rattle.saturation_laws.proofs.CallerLemmas.{all_append}
 
 module _ {X : Type 0} (P : X → Type 0) (xs : List X) (i : ℕ) (here : All P (take i xs)) where
   pub all_more : (x : X) → i < length xs → x ≡ get_or xs i x → P x → All P (take (i + 1) xs)

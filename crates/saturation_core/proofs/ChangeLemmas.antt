@@ -10,9 +10,9 @@ use Rattle.weighted_automata.proofs.CallerLemmas.{cases_place, entry_at-place, e
 use Rattle.witness_graph.specs.declared.node.Node.TheVariants.{Lower}
 use Rattle.witness_graph.specs.Nodes.{IsNodeAt}
 use Rattle.witness_graph.proofs.CallerLemmas.{orderly_from}
-use Rattle.saturation_core.specs.Jobs.{node_of}
-use Rattle.saturation_core.specs.States.{CoreState, Change, weight_of, weight_at, lower_state, apply}
-use Rattle.saturation_core.specs.Openings.{AreKept, changed_weight}
+use Rattle.saturation_laws.specs.Jobs.{node_of}
+use Rattle.saturation_laws.specs.States.{CoreState, Change, weight_of, weight_at, lower_state, apply}
+use Rattle.saturation_laws.specs.Openings.{AreKept, changed_weight}
 
 module _ {S W Map : Type 0} {s : Operations W Map} (laws : IsSemiring s) where
   -- the entry that a search found

@@ -1,13 +1,22 @@
 -- Counting hands, and the bits of their seats.
-use Rattle.std.proofs.Common.{◌≡◌, ℕ, suc, zero, ◌+◌, ◌-◌, ◌*◌, ◌^◌, ◌<◌, ◌≤◌, List, [], ◌∷◌, ◌++◌, length, get_or, drop, set, refl, sym, ap, ◌∙◌, arith}
+use Rattle.std.proofs.Common.{◌≡◌, ℕ, suc, zero, ◌+◌, ◌-◌, ◌*◌, ◌/◌, ◌^◌, ◌<◌, ◌≤◌, List, [], ◌∷◌, ◌++◌, length, get_or, drop, set, refl, sym, ap, ◌∙◌, arith}
 use Rattle.std.specs.Prelude.{Option, None, Some, is_some, cond, option_map, option_to_list}
 use Rattle.std.proofs.lemmas.List.{at_drop_more, length-drop, length-set}
 use Rattle.std.proofs.Math.Nat.{pow-succ'}
 use Rattle.std.proofs.Math.Pow.{pow_mono}
+use Rattle.std.specs.Int.{bit_at}
+use Rattle.std.proofs.lemmas.Nat.Bits.{bit_at_lowest, bit_at-suc, bit_at-zero}
 use Rattle.weighted_automata.specs.declared.place.Place.{Place}
-use Rattle.saturation_core.specs.declared.hand.Holding.{Holding}
-use Rattle.saturation_core.specs.States.{hand_at}
-use Rattle.saturation_core.specs.Books.{hands_out, seat_bits}
+use Rattle.saturation_laws.specs.declared.holding.Holding.{Holding}
+use Rattle.saturation_laws.specs.States.{hand_at}
+use Rattle.saturation_core.specs.Seats.{hands_out, seat_bits}
+
+-- the lowest bit, and the others
+lowest : (b n : ℕ) → b ≤ 1 → bit_at (b + 2 * n) 0 ≡ b
+lowest b n small = bit_at_lowest (b + 2 * n) ∙ omega (arith, small)
+
+higher : (b n k : ℕ) → b ≤ 1 → bit_at (b + 2 * n) (suc k) ≡ bit_at n k
+higher b n k small = let half : (b + 2 * n) / 2 ≡ n = omega (arith, small) in bit_at-suc (b + 2 * n) k ∙ ap (λ m. bit_at m k) half
 
 module _ {S W Map : Type 0} where
   pub hands_out_le : (hs : List (Option (Holding S W Map))) → hands_out hs ≤ length hs
@@ -43,6 +52,14 @@ module _ {S W Map : Type 0} where
   -- the bits of up to 64 seats fit 64 bits
   pub seat_bits_fit : (hs : List (Option (Holding S W Map))) (n : ℕ) → length hs ≤ n → seat_bits hs < 2 ^ n
   seat_bits_fit hs n short = let m : 2 ^ length hs ≤ 2 ^ n = pow_mono short in omega (arith, seat_bits_below hs)
+
+  -- each bit says whether its seat has a hand
+  pub bits_are : (hs : List (Option (Holding S W Map))) (k : ℕ) → bit_at (seat_bits hs) k ≡ cond (is_some (hand_at k hs)) 1 0
+  bits_are [] k = bit_at-zero k
+  bits_are (None ∷ hs) zero = lowest 0 (seat_bits hs) (omega arith)
+  bits_are (Some h ∷ hs) zero = lowest 1 (seat_bits hs) (omega arith)
+  bits_are (None ∷ hs) (suc k) = higher 0 (seat_bits hs) k (omega arith) ∙ bits_are hs k
+  bits_are (Some h ∷ hs) (suc k) = higher 1 (seat_bits hs) k (omega arith) ∙ bits_are hs k
 
   pub bits_below : (hs : List (Option (Holding S W Map))) (i bits : ℕ) → length hs ≤ 64 → 0 < i → bits ≡ seat_bits (drop i hs) → bits < 2 ^ 63
   bits_below hs i bits short some is =

@@ -8,14 +8,15 @@ use Rattle.witness_graph.specs.declared.node.Node.{Node}
 use Rattle.witness_graph.specs.declared.node.Node.TheVariants.{Start}
 use Rattle.witness_graph.specs.declared.node.Side.{Side}
 use Rattle.pushdown_rules.specs.Pushdown.{Pushdown, IsSystem}
-use Rattle.saturation_core.specs.declared.event.Event.{Event}
-use Rattle.saturation_core.specs.declared.hand.Holding.{Holding}
-use Rattle.saturation_core.specs.declared.opening.Opening.{Opening}
-use Rattle.saturation_core.specs.States.{CoreState, apply_all, replay}
-use Rattle.saturation_core.specs.Openings.{pops, with_edges, opening_state, found_so_far}
-use Rattle.saturation_core.specs.Books.{BookValue, hands_out, opened_by, IsBook}
-use Rattle.saturation_core.proofs.BookInvariant.{book_from}
-use Rattle.saturation_core.specs.Ways.{Way, IsLawful}
+use Rattle.saturation_laws.specs.declared.event.Event.{Event}
+use Rattle.saturation_laws.specs.declared.holding.Holding.{Holding}
+use Rattle.saturation_laws.specs.declared.opening.Opening.{Opening}
+use Rattle.saturation_laws.specs.States.{CoreState, apply_all, replay}
+use Rattle.saturation_laws.specs.Openings.{pops, with_edges, opening_state, found_so_far}
+use Rattle.saturation_laws.specs.Books.{BookValue, opened_by, IsBook}
+use Rattle.saturation_core.specs.Seats.{hands_out}
+use Rattle.saturation_laws.proofs.CallerLemmas.{book_from}
+use Rattle.saturation_laws.specs.Ways.{Way, IsLawful}
 
 hands_out-none : (S W Map : Type 0) (n : ℕ) → hands_out {S = S} {W = W} {Map = Map} (replicate n None) ≡ 0
 hands_out-none S W Map zero = refl

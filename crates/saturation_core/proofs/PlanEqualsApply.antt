@@ -7,7 +7,7 @@ use Rattle.weighted_automata.specs.Places.{has_place}
 use Rattle.witness_graph.specs.declared.node.Side.{Side}
 use Rattle.witness_graph.specs.Nodes.{Nodes, IsNodeAt}
 use Rattle.saturation_core.specs.declared.plan.Planned.{Planned}
-use Rattle.saturation_core.specs.Plans.{AreNodesFrom, HaveRoom}
+use Rattle.saturation_core.specs.private.Plans.{AreNodesFrom, HaveRoom}
 use Rattle.saturation_core.proofs.PutPlan.{room_first, room_rest}
 
 module _ {S W Map : Type 0} where

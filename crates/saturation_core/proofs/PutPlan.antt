@@ -13,13 +13,13 @@ use Rattle.weighted_automata.specs.Entries.{entry_at, lowered}
 use Rattle.weighted_automata.proofs.CallerLemmas.{same_place_is, same_place_itself, entry_at-lowered_same, entry_at-lowered_other}
 use Rattle.witness_graph.specs.declared.node.Node.TheVariants.{Lower}
 use Rattle.witness_graph.proofs.CallerLemmas.{orderly_from}
-use Rattle.saturation_core.specs.declared.job.Job.{Job}
+use Rattle.saturation_laws.specs.declared.job.Job.{Job}
 use Rattle.saturation_core.specs.declared.plan.Planned.{Planned}
-use Rattle.saturation_core.specs.Jobs.{Tables, node_of}
-use Rattle.saturation_core.specs.States.{CoreState, Change, weight_at, lower_state, apply, apply_all, change_of, apply_jobs}
-use Rattle.saturation_core.specs.Openings.{AreKept, changed_weight}
-use Rattle.saturation_core.specs.Finding.{found_at}
-use Rattle.saturation_core.specs.Plans.{change_with, changes_with, put, put_all, put_from, AreNodesFrom, goal_of, HaveRoom, lowering_of, plan_of}
+use Rattle.saturation_laws.specs.Jobs.{Tables, node_of}
+use Rattle.saturation_laws.specs.States.{CoreState, Change, weight_at, lower_state, apply, apply_all, change_of, apply_jobs}
+use Rattle.saturation_laws.specs.Openings.{AreKept, changed_weight}
+use Rattle.saturation_core.specs.private.Finding.{found_at}
+use Rattle.saturation_core.specs.private.Plans.{change_with, changes_with, put, put_all, put_from, AreNodesFrom, goal_of, HaveRoom, lowering_of, plan_of}
 use Rattle.saturation_core.proofs.ChangeLemmas.{kept_of, kept_lowered, kept_more, changed_fits}
 
 next_and : (n m : ℕ) → suc n + m ≡ n + suc m

@@ -12,28 +12,25 @@ use Rattle.witness_graph.specs.declared.node.Node.{Node}
 use Rattle.pushdown_rules.specs.Pushdown.{Pushdown}
 use Rattle.pushdown_rules.specs.Values.{value_of}
 use Rattle.pushdown_rules.proofs.CallerLemmas.{value_fits}
-use Rattle.saturation_core.specs.declared.job.Job.{Job}
-use Rattle.saturation_core.specs.declared.hand.Holding.{Holding}
+use Rattle.saturation_laws.specs.declared.job.Job.{Job}
+use Rattle.saturation_laws.specs.declared.holding.Holding.{Holding}
 use Rattle.saturation_core.specs.declared.plan.Planned.{Planned}
-use Rattle.saturation_core.specs.declared.event.Event.{Event}
-use Rattle.saturation_core.specs.declared.event.Event.TheVariants.{Settle}
-use Rattle.saturation_core.specs.Jobs.{Tables, InputsFit}
+use Rattle.saturation_laws.specs.declared.event.Event.{Event}
+use Rattle.saturation_laws.specs.declared.event.Event.TheVariants.{Settle}
+use Rattle.saturation_laws.specs.Jobs.{Tables, InputsFit}
 use Rattle.wpds_base.specs.Lists.{IsIn}
-use Rattle.saturation_core.specs.States.{CoreState, Change, hand_at, change_of, apply_jobs, free, settle}
-use Rattle.saturation_core.specs.Openings.{AreKept}
-use Rattle.saturation_core.specs.Directions.{AgreeOn, HaveSameCandidates}
-use Rattle.saturation_core.specs.Books.{BookValue, hands_out, opened_by, Makes, IsBook}
-use Rattle.saturation_core.specs.Plans.{changes_with, state_with, put_all, AreNodesFrom, plan_of}
-use Rattle.saturation_core.specs.Worked.{Worked}
-use Rattle.saturation_core.specs.Settled.{jobs_of, jobs_out, IsWorkedBy, CanSettle}
-use Rattle.saturation_core.proofs.ValueLemmas.{worth_fits}
-use Rattle.saturation_core.proofs.ApplyChange.{change_fits}
-use Rattle.saturation_core.proofs.EventsKeepInvariant.{job_sound}
-use Rattle.saturation_core.proofs.OpeningState.{opening_fits}
+use Rattle.saturation_laws.specs.States.{CoreState, Change, hand_at, change_of, apply_jobs, free, settle}
+use Rattle.saturation_laws.specs.Openings.{AreKept}
+use Rattle.saturation_laws.specs.Directions.{AgreeOn, HaveSameCandidates}
+use Rattle.saturation_laws.specs.Books.{BookValue, opened_by, Makes, IsBook}
+use Rattle.saturation_core.specs.Seats.{hands_out}
+use Rattle.saturation_core.specs.private.Plans.{changes_with, state_with, put_all, AreNodesFrom, plan_of}
+use Rattle.saturation_core.specs.DoneValue.{DoneValue}
+use Rattle.saturation_core.specs.Settled.{jobs_of, jobs_out, IsWorked, CanSettle}
+use Rattle.saturation_laws.proofs.CallerLemmas.{worth_fits, change_fits, job_sound, opening_fits, book_works}
 use Rattle.saturation_core.proofs.PutPlan.{IsFitChange, nodes_added, plan_is, apply_jobs_is, plan_nodes}
-use Rattle.saturation_core.proofs.BookInvariant.{book_works}
 use Rattle.saturation_core.proofs.HandLemmas.{hands_out-freed}
-use Rattle.saturation_core.specs.Ways.{Way, IsLawful, HasOneCandidate}
+use Rattle.saturation_laws.specs.Ways.{Way, IsLawful, HasOneCandidate}
 
 module _ {S W Map : Type 0} where
   -- the hand whose jobs were read
@@ -60,10 +57,10 @@ module _ {S W Map : Type 0} where
   same_worths p q d e same side [] agree = refl
   same_worths p q d e same side (j ∷ js) agree = ap₂ (λ w ws. w ∷ ws) (sym (same j side agree.0)) (same_worths p q d e same side js agree.1)
 
-module _ {S W Map D : Type 0} (way : Way S W Map D) (b : BookValue S W Map D) (w : Worked S W Map) where
+module _ {S W Map D : Type 0} (way : Way S W Map D) (b : BookValue S W Map D) (w : DoneValue S W Map D) where
   -- a test of the hand decides, where the rest is met
   pub decides : (seat : ℕ) (hands : List (Option (Holding S W Map))) (jobs : List (Job S W Map)) → seat ≡ w.seat → hands ≡ b.state.hands → jobs ≡ w.jobs
-      → w.side ≡ (way.tables b.direction b.system).side → b.system.semiring ≡ w.system.semiring → All (AgreeOn b.system w.system) jobs
+      → (way.tables w.direction w.system).side ≡ (way.tables b.direction b.system).side → b.system.semiring ≡ w.system.semiring → All (AgreeOn b.system w.system) jobs
       → (r : Bool) → IsTrue r ↔ (jobs_out seat hands ≡ Some jobs) → IsTrue r ↔ CanSettle way b w
   decides seat hands jobs at out same side semiring agree r test =
       let there : jobs_out seat hands ≡ jobs_out w.seat b.state.hands = ap (λ k. jobs_out k hands) at ∙ ap (jobs_out w.seat) out in
@@ -78,10 +75,10 @@ module _ {S W Map D : Type 0} (way : Way S W Map D) (b : BookValue S W Map D) (w
 
 module _ {S W Map D : Type 0} (operations : S → Operations W Map) (way : Way S W Map D) where
   -- the candidates of a hand that a book can settle are the book's
-  pub worths_are : HasOneCandidate way → (b : BookValue S W Map D) (w : Worked S W Map) → CanSettle way b w → (e : D) → IsWorkedBy way e w
+  pub worths_are : HasOneCandidate way → (b : BookValue S W Map D) (w : DoneValue S W Map D) → CanSettle way b w → IsWorked way w
       → w.candidates ≡ map (way.tables b.direction b.system).candidate w.jobs
-  worths_are same b w can e worked =
-      worked.candidates ∙ same_worths b.system w.system (way.tables b.direction b.system) (way.tables e w.system) (same b.direction e b.system w.system) (sym can.side ∙ worked.side)
+  worths_are same b w can worked =
+      worked ∙ same_worths b.system w.system (way.tables b.direction b.system) (way.tables w.direction w.system) (same b.direction w.direction b.system w.system) (sym can.side)
       w.jobs (recursion_from_All (AgreeOn b.system w.system) w.jobs can.rules)
 
   -- the facts that a settle begins with
@@ -89,14 +86,14 @@ module _ {S W Map D : Type 0} (operations : S → Operations W Map) (way : Way S
     pub out : jobs_out seat b.state.hands ≡ Some js
     pub worths : ws ≡ map (way.tables b.direction b.system).candidate js
 
-  pub ready : HasOneCandidate way → (b old : BookValue S W Map D) → b ≡ old → (w : Worked S W Map) → CanSettle way old w → (e : D) × IsWorkedBy way e w
+  pub ready : HasOneCandidate way → (b old : BookValue S W Map D) → b ≡ old → (w : DoneValue S W Map D) → CanSettle way old w → IsWorked way w
       → (seat : ℕ) (js : List (Job S W Map)) (ws : List W) → seat ≡ w.seat → js ≡ w.jobs → ws ≡ w.candidates → IsReady b seat js ws
   ready same b old view w can worked seat js ws at jobs worths =
       let P : BookValue S W Map D → Type 0 = λ x. CanSettle way x w in
       let can' = subst P (sym view) can in
       record {
         out = ap (λ k. jobs_out k b.state.hands) at ∙ can'.hand ∙ ap Some (sym jobs);
-        worths = worths ∙ worths_are same b w can' worked.0 worked.1 ∙ ap (map (way.tables b.direction b.system).candidate) (sym jobs);
+        worths = worths ∙ worths_are same b w can' worked ∙ ap (map (way.tables b.direction b.system).candidate) (sym jobs);
       }
 
   pub planned_is : (x z : S) (cs : List (Change W)) (n : ℕ) (ts : List (Entry S W Map)) (plan : List (Planned S W Map)) → plan ≡ plan_of (operations z) cs n ts → z ≡ x → plan ≡ plan_of (operations x) cs n ts

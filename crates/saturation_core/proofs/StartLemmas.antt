@@ -6,9 +6,9 @@ use Rattle.std.proofs.lemmas.Option.{same_Some}
 use Rattle.semiring_laws.specs.Semiring.{Operations}
 use Rattle.weighted_automata.specs.declared.place.Place.{Place}
 use Rattle.pushdown_rules.specs.declared.rule.Rule.{Rule}
-use Rattle.saturation_core.specs.States.{CoreState, Change, apply, apply_all}
-use Rattle.saturation_core.specs.Openings.{pop_change, pops_of, pops_at, pops_from, with_edges, found_so_far}
-use Rattle.saturation_core.specs.Queues.{queued}
+use Rattle.saturation_laws.specs.States.{CoreState, Change, apply, apply_all}
+use Rattle.saturation_laws.specs.Openings.{pop_change, pops_of, pops_at, pops_from, with_edges, found_so_far}
+use Rattle.saturation_laws.specs.Queues.{queued}
 use Rattle.weighted_automata.specs.Entries.{lowered}
 use Rattle.weighted_automata.specs.declared.transitions.Entry.{Entry}
 use Rattle.witness_graph.specs.declared.node.Node.{Node}

@@ -1,10 +1,12 @@
 ghost use Rattle.std.specs.Prelude.{◌≡◌, ◌↔◌, ◌<◌, ◌+◌, [], ◌∷◌, ◌++◌, IsTrue, IfOk, IfErr, OnOk, OnErr, IsSome, is_some, length};
-ghost use Rattle.saturation_core.specs.declared.event.Event.TheVariants.{Take, Settle, GiveBack};
-ghost use Rattle.saturation_core.specs.States.{hand_at};
-ghost use Rattle.saturation_core.specs.Ways.{start_of};
-ghost use Rattle.saturation_core.specs.Bound.{takes, takes_of};
-ghost use Rattle.saturation_core.specs.Books.{IsBook, Makes, IsClosed, AnswersTake, HandWorks};
-ghost use Rattle.saturation_core.specs.Settled.{IsWorkedBy, CanSettle};
+ghost use Rattle.wpds_base.specs.Limits.{most_seats};
+ghost use Rattle.saturation_laws.specs.declared.event.Event.TheVariants.{Take, Settle, GiveBack};
+ghost use Rattle.saturation_laws.specs.States.{hand_at};
+ghost use Rattle.saturation_laws.specs.Ways.{start_of};
+ghost use Rattle.saturation_laws.specs.Bound.{takes, takes_of};
+ghost use Rattle.saturation_laws.specs.Books.{IsBook, Makes, IsClosed};
+ghost use Rattle.saturation_core.specs.Calls.{AnswersTake, HandWorks};
+ghost use Rattle.saturation_core.specs.Settled.{CanSettle};
 
 use crate::copies::copy_jobs;
 use crate::hands::{none_out, place_out, put, seats_out};
@@ -14,8 +16,9 @@ use crate::plan::plan_jobs;
 use crate::queue::{enqueue, front, list_jobs};
 use crate::same::{agree, lists, same_side};
 use crate::start::{add_edges, add_pops_of, empty_run, no_hands};
-use crate::{Direction, Done, Event, Hand, Holding, JobList, Lowered, Opening, SettleFault, Taken};
+use crate::{Done, Hand, Lowered, SettleFault, Taken};
 use pushdown_rules::System;
+use saturation_laws::{Direction, Event, Holding, JobList, Opening};
 use semiring_laws::Semiring;
 use std::alloc::Global;
 use std::collections::VecDeque;
@@ -39,21 +42,21 @@ pub struct Book<'s, S: Semiring, D: Direction<S>> {
 
 impl<'s, S: Semiring, D: Direction<S>> Model for Book<'s, S, D> {
     ghost use Rattle.std.specs.Prelude.{◌≡◌};
-    ghost use Rattle.saturation_core.specs.Books.{BookValue, IsBook};
+    ghost use Rattle.saturation_laws.specs.Books.{BookValue, IsBook};
 
     ghost Value = { BookValue S S.W S.Ret D };
 
-    ghost use Rattle.saturation_core.specs.Seen.{seen, HasRoom};
+    ghost use Rattle.saturation_core.specs.BookView.{book_view, HasRoom};
 
-    ghost view = { seen };
+    ghost view = { book_view };
 
-    ghost invariant = { λ b. IsBook S.operations D.way (seen b) × HasRoom b
+    ghost invariant = { λ b. IsBook S.operations D.way (book_view b) × HasRoom b
         × (b.graph.side ≡ (D.way.tables b.direction b.system.now).side) };
 }
 
 impl<'s, S: Semiring, D: Direction<S>> Book<'s, S, D> {
     /// A saturation that begins with these edges, each of weight one, and backwards with a transition for each pop rule.
-    /// Every transition waits, and no hand is out. It is refused only for want of memory.
+    /// Every transition waits, and no hand is out. It is refused only when out of memory.
     pub fn open(
         alloc: Global,
         system: &'s System<S>,
@@ -76,17 +79,17 @@ impl<'s, S: Semiring, D: Direction<S>> Book<'s, S, D> {
         let edges = opening.edges.as_slice();
         let semiring = system.semiring();
         add_edges(
-            semiring,
             alloc,
+            semiring,
             edges,
             &mut transitions,
             &graph,
             &mut waiting,
         )?;
         add_pops_of(
+            alloc,
             side,
             system,
-            alloc,
             &mut transitions,
             &mut graph,
             &mut waiting,
@@ -152,7 +155,7 @@ impl<'s, S: Semiring, D: Direction<S>> Book<'s, S, D> {
 
     /// Whether a seat has a hand.
     pub fn has_hand(&self, seat: u32) -> bool
-        requires { seat < 64 }
+        requires { seat < most_seats }
         ensures { result ≡ is_some (hand_at seat self.now.state.hands) }
     {
         place_out(&self.out, seat as usize).is_some()
@@ -167,7 +170,7 @@ impl<'s, S: Semiring, D: Direction<S>> Book<'s, S, D> {
 
     /// How often this seat has taken one.
     pub fn takes_of(&self, seat: u32) -> u128
-        requires { seat < 64 }
+        requires { seat < most_seats }
         ensures { result ≡ takes_of seat self.now.journal }
     {
         count_takes_of(&self.journal, seat)
@@ -186,9 +189,9 @@ impl<'s, S: Semiring, D: Direction<S>> Book<'s, S, D> {
         }
     }
 
-    /// The transition that waits longest, with its jobs, as the seat's hand. It is refused only for want of memory.
+    /// The transition that waits longest, with its jobs, as the seat's hand. It is refused only when out of memory.
     pub fn take(&mut self, alloc: Global, seat: u32) -> Result<Taken<S>, OutOfMemory>
-        requires seat { seat < 64 }
+        requires seat { seat < most_seats }
         requires free { hand_at seat self.old.state.hands ≡ None }
         ensures taken { IfOk result (λ t. AnswersTake S.operations D.way self.old seat t self.new) }
         ensures works { IfOk result (λ t. HandWorks S.operations D.way self.old t) }
@@ -199,8 +202,8 @@ impl<'s, S: Semiring, D: Direction<S>> Book<'s, S, D> {
             None => Ok(Taken::Idle(seats_out(&self.out))),
             Some(place) => {
                 let (direction, system) = (&self.direction, self.system);
-                let jobs = list_jobs(direction, alloc, system, &self.transitions, place)?;
-                let kept = copy_jobs(system.semiring(), alloc, jobs.as_slice())?;
+                let jobs = list_jobs(alloc, direction, system, &self.transitions, place)?;
+                let kept = copy_jobs(alloc, system.semiring(), jobs.as_slice())?;
                 // For this event, and for one more of each hand.
                 self.journal.reserve(65)?;
                 self.waiting.pop_front();
@@ -216,8 +219,9 @@ impl<'s, S: Semiring, D: Direction<S>> Book<'s, S, D> {
     }
 
     /// Whether the book can settle this hand: the seat's hand lists its jobs, its side is the book's, and so are the
-    /// semiring and each rule that a job names. No other rule is compared, and no memory is taken.
-    pub fn holds(&self, done: &Done<'_, S>) -> bool
+    /// semiring and each rule that a job names. Nothing more is asked to settle it. No other rule is compared, and no memory is
+    /// taken.
+    pub fn holds(&self, done: &Done<'_, S, D>) -> bool
         ensures { IsTrue result ↔ CanSettle D.way self.now done.now }
     {
         let (one, other) = (self.system, done.system());
@@ -235,17 +239,18 @@ impl<'s, S: Semiring, D: Direction<S>> Book<'s, S, D> {
     }
 
     /// Applies the jobs of a hand, in order: each goal's weight is combined with what the job is worth, and where that
-    /// changes the weight, the goal gets a new node and waits, last. Then the hand goes. It is refused only for want of
-    /// memory.
+    /// changes the weight, the goal gets a new node and waits, last. Then the hand goes. It is refused only when out
+    /// of memory.
     pub fn settle<'d>(
         &mut self,
         alloc: Global,
-        done: Done<'d, S>,
-    ) -> Result<Lowered, SettleFault<'d, S>>
-        requires worked { (d : D) × IsWorkedBy D.way d done }
-        requires holds { CanSettle D.way self.old done }
-        ensures settled { OnOk result (Makes S.operations D.way self.old (Settle done.entry.seat) self.new) }
-        ensures count { IfOk result (λ l. length self.old.state.nodes + l.count ≡ length self.new.state.nodes) }
+        done: Done<'d, S, D>,
+    ) -> Result<Lowered, SettleFault<'d, S, D>>
+        requires { CanSettle D.way self.old done }
+        ensures settled { OnOk result
+            (Makes S.operations D.way self.old (Settle done.entry.seat) self.new) }
+        ensures count { IfOk result
+            (λ l. length self.old.state.nodes + l.count ≡ length self.new.state.nodes) }
         ensures err { OnErr result (self.new ≡ self.old) }
         ensures fault { IfErr result (λ f. f.done ≡ done.entry) }
     {
@@ -256,18 +261,19 @@ impl<'s, S: Semiring, D: Direction<S>> Book<'s, S, D> {
     }
 
     // Settles a hand: works out what its jobs lower, makes room, and only then changes anything.
-    fn apply(&mut self, alloc: Global, done: &Done<'_, S>) -> Result<Lowered, OutOfMemory>
-        requires worked { (d : D) × IsWorkedBy D.way d done.now }
-        requires holds { CanSettle D.way self.old done.now }
-        ensures settled { OnOk result (Makes S.operations D.way self.old (Settle done.now.seat) self.new) }
-        ensures count { IfOk result (λ l. length self.old.state.nodes + l.count ≡ length self.new.state.nodes) }
+    fn apply(&mut self, alloc: Global, done: &Done<'_, S, D>) -> Result<Lowered, OutOfMemory>
+        requires { CanSettle D.way self.old done.now }
+        ensures settled { OnOk result
+            (Makes S.operations D.way self.old (Settle done.now.seat) self.new) }
+        ensures count { IfOk result
+            (λ l. length self.old.state.nodes + l.count ≡ length self.new.state.nodes) }
         ensures err { OnErr result (self.new ≡ self.old) }
     {
         let seat = done.seat();
         let semiring = self.system.semiring();
         let (jobs, worths) = (done.jobs().as_slice(), done.candidates().as_slice());
         let nodes = self.graph.len();
-        let plan = plan_jobs(semiring, alloc, &self.transitions, nodes, jobs, worths)?;
+        let plan = plan_jobs(alloc, semiring, &self.transitions, nodes, jobs, worths)?;
         make_room(
             alloc,
             &plan,

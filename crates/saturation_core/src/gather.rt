@@ -1,9 +1,10 @@
 ghost use Rattle.std.specs.Prelude.{◌≡◌, [], ◌∷◌};
-ghost use Rattle.semiring_laws.specs.Reach.{reach_operations, reach_laws};
-ghost use Rattle.saturation_core.specs.Gather.{fits_gather, gather_runs, gather_tables, gather_direction, gather_sums, gather_candidates, gathering as gathered, hub};
+ghost use Rattle.semiring_laws.specs.Reach.{reach_operations};
+ghost use Rattle.semiring_laws.specs.ReachLaws.{reach_laws};
+ghost use Rattle.saturation_core.specs.private.Gather.{fits_gather, gather_runs, gather_tables, gather_direction, gather_sums, gather_once, gather_candidates, gathering as gathered, hub};
 
-use crate::{Direction, Job, JobKind, JobList};
 use pushdown_rules::System;
+use saturation_laws::{Direction, Job, JobKind, JobList};
 use semiring_laws::{Reach, Semiring};
 use std::alloc::Global;
 use weighted_automata::{Entry, Label, Place, Transitions};
@@ -36,7 +37,10 @@ impl Direction<Reach> for Gather {
 
     ghost sums = { λ d p o _ fits. gather_sums reach_operations reach_laws d.side p o fits _ };
 
-    ghost same_candidate = { λ d e p q. gather_candidates (λ _. reach_operations) d.side e.side p q };
+    ghost jobs_once = { λ _ _ _ _ _ _ t _ _. gather_once t };
+
+    ghost same_candidate = { λ d e p q.
+        gather_candidates (λ _. reach_operations) d.side e.side p q };
 
     fn side(&self) -> Side {
         self.side

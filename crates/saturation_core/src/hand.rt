@@ -1,24 +1,17 @@
 ghost use Rattle.std.specs.Prelude.{◌≡◌, All, IfOk, IfErr};
-ghost use Rattle.saturation_core.specs.Jobs.{InputsFit};
-ghost use Rattle.saturation_core.specs.Settled.{IsWorkedBy};
-ghost use Rattle.saturation_core.specs.Ways.{AreRows, HaveFitInputs};
+ghost use Rattle.saturation_laws.specs.Jobs.{InputsFit};
+ghost use Rattle.saturation_core.specs.Settled.{IsWorked};
+ghost use Rattle.saturation_laws.specs.Ways.{AreRows, HaveFitInputs};
 
 use crate::work::candidates;
-use crate::{Direction, JobList};
 use pushdown_rules::System;
+use saturation_laws::{Direction, JobList};
 use semiring_laws::Semiring;
 use std::alloc::Global;
 use std::marker::Model;
 use weighted_automata::Place;
 use witness_graph::Side;
 use wpds_base::Sequence;
-
-/// What a book keeps of a hand that is out: the place that was taken, and the jobs that this gave.
-#[derive(Drop)]
-pub struct Holding<S: Semiring> {
-    pub place: Place,
-    pub jobs: JobList<S>,
-}
 
 /// What a worker takes with it: its seat, and the jobs to work out.
 #[derive(Drop)]
@@ -45,29 +38,36 @@ pub enum Taken<S: Semiring> {
 }
 
 /// Weights, in order.
-pub type WeightList<S> = Sequence<S::W>;
+pub type WeightList<S> = Sequence<<S as Semiring>::W>;
 
-/// A hand whose jobs are worked out: what each is worth, which way, and over which system. The weights of their inputs
-/// are the semiring's.
+/// A hand whose jobs are worked out: what its direction makes of each over its system. The weights of their inputs are
+/// the semiring's.
 #[derive(Drop)]
-pub struct Done<'s, S: Semiring> {
+pub struct Done<'s, S: Semiring, D: Direction<S>> {
     seat: u32,
     jobs: JobList<S>,
     candidates: WeightList<S>,
-    side: Side,
+    direction: D,
     system: &'s System<S>,
 }
 
-impl<'s, S: Semiring> Model for Done<'s, S> {
-    ghost use Rattle.std.specs.Prelude.{All};
-    ghost use Rattle.saturation_core.specs.Jobs.{InputsFit};
-    ghost use Rattle.saturation_core.specs.Worked.{Worked};
+impl<'s, S: Semiring, D: Direction<S>> Model for Done<'s, S, D> {
+    ghost use Rattle.std.specs.Prelude.{◌≡◌};
+    ghost use Rattle.saturation_laws.specs.Ways.{HaveFitInputs, worths_of};
+    ghost use Rattle.saturation_core.specs.DoneValue.{DoneValue};
 
-    ghost Value = { Worked S S.W S.Ret };
+    ghost Value = { DoneValue S S.W S.Ret D };
 
-    ghost view = { λ d. record { seat = d.seat; jobs = d.jobs; candidates = d.candidates; side = d.side; system = d.system.now } };
+    ghost view = { λ d. record {
+      seat = d.seat;
+      jobs = d.jobs;
+      candidates = d.candidates;
+      direction = d.direction;
+      system = d.system.now;
+    } };
 
-    ghost invariant = { λ d. All (InputsFit (S.operations d.system.now.semiring)) d.jobs };
+    ghost invariant = { λ d. HaveFitInputs S.operations d.system.now d.jobs
+        × (d.candidates ≡ worths_of D.way d.direction d.system.now d.jobs) };
 }
 
 /// No memory was left to work out a hand, which is handed back.
@@ -78,8 +78,8 @@ pub struct WorkFault<S: Semiring> {
 
 /// No memory was left to settle a hand that was worked out, which is handed back.
 #[derive(Drop)]
-pub struct SettleFault<'s, S: Semiring> {
-    pub done: Done<'s, S>,
+pub struct SettleFault<'s, S: Semiring, D: Direction<S>> {
+    pub done: Done<'s, S, D>,
 }
 
 /// How many times a hand that was settled changed the weight of a transition.
@@ -103,27 +103,28 @@ impl<S: Semiring> Hand<S> {
         &self.jobs
     }
 
-    /// Works out the jobs, without the book. It is refused only for want of memory.
+    /// Works out the jobs, without the book. It is refused only when out of memory.
     pub fn work<'s, D: Direction<S>>(
         self,
         alloc: Global,
         system: &'s System<S>,
         direction: &D,
-    ) -> Result<Done<'s, S>, WorkFault<S>>
+    ) -> Result<Done<'s, S, D>, WorkFault<S>>
         requires rows { AreRows D.way direction.now system.now self.jobs }
         requires inputs { HaveFitInputs S.operations system.now self.jobs }
         ensures seat { IfOk result (λ d. d.seat ≡ self.seat) }
         ensures jobs { IfOk result (λ d. d.jobs ≡ self.jobs) }
         ensures system { IfOk result (λ d. d.system ≡ system.now) }
-        ensures worked { IfOk result (IsWorkedBy D.way direction.now) }
+        ensures direction { IfOk result (λ d. d.direction ≡ direction.now) }
+        ensures worked { IfOk result (IsWorked D.way) }
         ensures fault { IfErr result (λ f. f.hand ≡ self) }
     {
-        match candidates(direction, alloc, system, self.jobs.as_slice()) {
+        match candidates(alloc, direction, system, self.jobs.as_slice()) {
             Ok(weights) => Ok(Done {
                 seat: self.seat,
                 jobs: self.jobs,
-                candidates: WeightList::from_vec(weights),
-                side: direction.side(),
+                candidates: Sequence::from_vec(weights),
+                direction: *direction,
                 system,
             }),
             Err(_) => Err(WorkFault { hand: self }),
@@ -131,7 +132,7 @@ impl<S: Semiring> Hand<S> {
     }
 }
 
-impl<'s, S: Semiring> Done<'s, S> {
+impl<'s, S: Semiring, D: Direction<S>> Done<'s, S, D> {
     /// The seat of its hand.
     pub fn seat(&self) -> u32
         ensures { result ≡ self.now.seat }
@@ -147,18 +148,26 @@ impl<'s, S: Semiring> Done<'s, S> {
         &self.jobs
     }
 
-    /// What each job is worth, in order.
+    /// What each job is worth, in order: what the direction makes of it over the system.
     pub fn candidates(&self) -> &WeightList<S>
-        ensures { result.now ≡ self.now.candidates }
+        ensures value { result.now ≡ self.now.candidates }
+        ensures worked { IsWorked D.way self.now }
     {
         &self.candidates
     }
 
     /// Which way they were worked out.
-    pub fn side(&self) -> Side
-        ensures { result ≡ self.now.side }
+    pub fn direction(&self) -> D
+        ensures { result ≡ self.now.direction }
     {
-        self.side
+        self.direction
+    }
+
+    /// The side of that.
+    pub fn side(&self) -> Side
+        ensures { result ≡ (D.way.tables self.now.direction self.now.system).side }
+    {
+        self.direction.side()
     }
 
     /// The system over which they were worked out.

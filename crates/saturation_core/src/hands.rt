@@ -1,8 +1,10 @@
 ghost use Rattle.std.specs.Prelude.{◌≡◌, ◌↔◌, ◌≤◌, ℕ, IsTrue, length, is_some, if◌then◌else◌, slice_set, option_map};
-ghost use Rattle.saturation_core.specs.States.{hand_at};
-ghost use Rattle.saturation_core.specs.Books.{seat_bits};
+ghost use Rattle.wpds_base.specs.Limits.{most_seats};
+ghost use Rattle.saturation_laws.specs.States.{hand_at};
+ghost use Rattle.saturation_core.specs.Seats.{seat_bits};
 
-use crate::{Holding, SeatSet};
+use crate::SeatSet;
+use saturation_laws::Holding;
 use semiring_laws::Semiring;
 use weighted_automata::Place;
 
@@ -20,7 +22,7 @@ pub(crate) fn none_out<S: Semiring>(out: &[Option<Holding<S>>]) -> bool
 
 /// The seats that have hands.
 pub(crate) fn seats_out<S: Semiring>(out: &[Option<Holding<S>>]) -> SeatSet
-    requires { length out.now ≤ 64 }
+    requires { length out.now ≤ most_seats }
     ensures { result.bits ≡ seat_bits out.now }
 {
     let mut bits = 0;

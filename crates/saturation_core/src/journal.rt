@@ -1,7 +1,7 @@
 ghost use Rattle.std.specs.Prelude.{◌≡◌};
-ghost use Rattle.saturation_core.specs.Bound.{takes, takes_of, is_take, is_take_of};
+ghost use Rattle.saturation_laws.specs.Bound.{takes, takes_of, is_take, is_take_of};
 
-use crate::Event;
+use saturation_laws::Event;
 
 /// How many of the events are takes.
 pub(crate) fn count_takes(events: &[Event]) -> u128

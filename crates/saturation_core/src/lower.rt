@@ -3,8 +3,9 @@ ghost use Rattle.std.specs.VecDeque.{deque_len, deque_capacity};
 ghost use Rattle.weighted_automata.specs.declared.place.Place.{Place as PlaceValue};
 ghost use Rattle.weighted_automata.specs.Places.{has_place};
 ghost use Rattle.witness_graph.specs.Nodes.{IsNodeAt};
-ghost use Rattle.saturation_core.specs.declared.hand.Holding.{Holding as HoldingValue};
-ghost use Rattle.saturation_core.specs.Plans.{state_with, put, put_all, AreNodesFrom, HaveRoom, goal_of};
+ghost use Rattle.wpds_base.specs.Limits.{most_seats};
+ghost use Rattle.saturation_laws.specs.declared.holding.Holding.{Holding as HoldingValue};
+ghost use Rattle.saturation_core.specs.private.Plans.{state_with, put, put_all, AreNodesFrom, HaveRoom, goal_of};
 
 use crate::plan::Planned;
 use crate::queue::enqueue;
@@ -43,7 +44,8 @@ pub(crate) fn make_room<S: Semiring>(
     ensures capacity { deque_capacity waiting.old ≤ deque_capacity waiting.new }
     ensures places { OnOk result (HaveRoom transitions.new.room plan.now) }
     ensures spare { OnOk result (length plan.now ≤ graph.new.spare) }
-    ensures queue { OnOk result (deque_len waiting.new + length plan.now + 64 ≤ deque_capacity waiting.new) }
+    ensures queue { OnOk result
+        (deque_len waiting.new + length plan.now + most_seats ≤ deque_capacity waiting.new) }
 {
     let places = goals(alloc, plan)?;
     transitions.reserve(alloc, &places)?;
@@ -64,9 +66,12 @@ fn lower<S: Semiring>(
     requires place { IsTrue (has_place step.goal transitions.old.room) }
     requires spare { 0 < graph.old.spare }
     requires queue { deque_len waiting.old < deque_capacity waiting.old }
-    ensures state { (hands : List (Option (HoldingValue S S.W S.Ret))) → state_with transitions.new.transitions graph.new.nodes waiting.new.items hands
-        ≡ put step (state_with transitions.old.transitions graph.old.nodes waiting.old.items hands) }
-    ensures room { (x : PlaceValue) → IsTrue (has_place x transitions.old.room) → IsTrue (has_place x transitions.new.room) }
+    ensures state { (hands : List (Option (HoldingValue S S.W S.Ret)))
+        → state_with transitions.new.transitions graph.new.nodes waiting.new.items hands
+        ≡ put step
+        (state_with transitions.old.transitions graph.old.nodes waiting.old.items hands) }
+    ensures room { (x : PlaceValue) → IsTrue (has_place x transitions.old.room)
+        → IsTrue (has_place x transitions.new.room) }
     ensures spare { graph.old.spare ≤ graph.new.spare + 1 }
     ensures side { graph.new.side ≡ graph.old.side }
     ensures len { deque_len waiting.new ≤ deque_len waiting.old + 1 }
@@ -91,8 +96,10 @@ pub(crate) fn lower_all<S: Semiring>(
     requires places { HaveRoom transitions.old.room plan.items }
     requires spare { length plan.items ≤ graph.old.spare }
     requires queue { deque_len waiting.old + length plan.items ≤ deque_capacity waiting.old }
-    ensures state { (hands : List (Option (HoldingValue S S.W S.Ret))) → state_with transitions.new.transitions graph.new.nodes waiting.new.items hands
-        ≡ put_all plan.items (state_with transitions.old.transitions graph.old.nodes waiting.old.items hands) }
+    ensures state { (hands : List (Option (HoldingValue S S.W S.Ret)))
+        → state_with transitions.new.transitions graph.new.nodes waiting.new.items hands
+        ≡ put_all plan.items
+        (state_with transitions.old.transitions graph.old.nodes waiting.old.items hands) }
     ensures side { graph.new.side ≡ graph.old.side }
     ensures len { deque_len waiting.new ≤ deque_len waiting.old + length plan.items }
     ensures capacity { deque_capacity waiting.new ≡ deque_capacity waiting.old }

@@ -2,14 +2,14 @@ ghost use Rattle.std.specs.Prelude.{◌≡◌, ◌<◌, ◌+◌, ◌^◌, ◌++�
 ghost use Rattle.semiring_laws.specs.Semiring.{Fits};
 ghost use Rattle.weighted_automata.specs.declared.transitions.Entry.{Entry as EntryValue};
 ghost use Rattle.weighted_automata.specs.Entries.{entry_at};
-ghost use Rattle.saturation_core.specs.Jobs.{node_of, named_rule as rule_named, named_first};
-ghost use Rattle.saturation_core.specs.States.{weight_at};
-ghost use Rattle.saturation_core.specs.Openings.{AreKept};
-ghost use Rattle.saturation_core.specs.Plans.{change_with, changes_with, put_from, lowering_of, plan_of};
-ghost use Rattle.saturation_core.specs.Finding.{found_at};
+ghost use Rattle.saturation_laws.specs.Jobs.{node_of, named_rule as rule_named, named_first};
+ghost use Rattle.saturation_laws.specs.States.{weight_at};
+ghost use Rattle.saturation_laws.specs.Openings.{AreKept};
+ghost use Rattle.saturation_core.specs.private.Plans.{change_with, changes_with, put_from, lowering_of, plan_of};
+ghost use Rattle.saturation_core.specs.private.Finding.{found_at};
 
 use crate::change::{node_now, weight_after, weight_now};
-use crate::{Job, JobKind};
+use saturation_laws::{Job, JobKind};
 use semiring_laws::Semiring;
 use std::alloc::Global;
 use weighted_automata::{Entry, Place, Transitions};
@@ -27,7 +27,9 @@ pub(crate) struct Planned<S: Semiring> {
 // Where the last lowering of a place stands.
 fn last_at<S: Semiring>(plan: &[Planned<S>], place: Place) -> Option<usize>
     ensures within { IfSome result (λ k. k < length plan.now) }
-    ensures found { (n : ℕ) (ts : List (EntryValue S S.W S.Ret)) → entry_at place (put_from n plan.now ts) ≡ found_at place n plan.now result (entry_at place ts) }
+    ensures found { (n : ℕ) (ts : List (EntryValue S S.W S.Ret))
+        → entry_at place (put_from n plan.now ts) ≡ found_at place n plan.now result
+        (entry_at place ts) }
 {
     let mut last = None;
     for (k, step) in plan.iter().enumerate() {
@@ -40,19 +42,21 @@ fn last_at<S: Semiring>(plan: &[Planned<S>], place: Place) -> Option<usize>
 
 // The weight at a place after a plan, and zero where there is none.
 fn weight_in<S: Semiring>(
-    semiring: &S,
     alloc: Global,
+    semiring: &S,
     transitions: &Transitions<S>,
     plan: &[Planned<S>],
     place: Place,
 ) -> Result<S::W, OutOfMemory>
     requires now { (n : ℕ) × AreKept (S.operations semiring.now) transitions.now.transitions n }
-    requires then { (n : ℕ) × AreKept (S.operations semiring.now) (put_from n plan.now transitions.now.transitions) (n + length plan.now) }
-    ensures { (n : ℕ) → IfOk result (λ w. w ≡ weight_at (S.operations semiring.now) place (put_from n plan.now transitions.now.transitions)) }
+    requires then { (n : ℕ) × AreKept (S.operations semiring.now)
+        (put_from n plan.now transitions.now.transitions) (n + length plan.now) }
+    ensures { (n : ℕ) → IfOk result (λ w. w ≡ weight_at (S.operations semiring.now) place
+        (put_from n plan.now transitions.now.transitions)) }
 {
     match last_at(plan, place) {
         Some(k) => semiring.copy(alloc, &plan[k].weight),
-        None => weight_now(semiring, alloc, transitions, place),
+        None => weight_now(alloc, semiring, transitions, place),
     }
 }
 
@@ -64,7 +68,8 @@ fn node_in<S: Semiring>(
     place: Place,
 ) -> Option<u64>
     requires { nodes + length plan.now < 2 ^ 64 }
-    ensures { result ≡ option_map node_of (entry_at place (put_from nodes plan.now transitions.now.transitions)) }
+    ensures { result ≡ option_map node_of (entry_at place
+        (put_from nodes plan.now transitions.now.transitions)) }
 {
     match last_at(plan, place) {
         Some(k) => Some(nodes + k as u64),
@@ -118,8 +123,8 @@ fn input_node<S: Semiring>(input: &Option<Entry<S>>) -> Option<u64>
 
 // What a job of this worth lowers after a plan, whose nodes are numbered from `nodes` on.
 fn lowering<S: Semiring>(
-    semiring: &S,
     alloc: Global,
+    semiring: &S,
     transitions: &Transitions<S>,
     nodes: u64,
     plan: &[Planned<S>],
@@ -129,12 +134,14 @@ fn lowering<S: Semiring>(
     requires few { nodes + length plan.now < 2 ^ 64 }
     requires worth { Fits (S.operations semiring.now) worth.now }
     requires now { AreKept (S.operations semiring.now) transitions.now.transitions nodes }
-    requires then { AreKept (S.operations semiring.now) (put_from nodes plan.now transitions.now.transitions) (nodes + length plan.now) }
-    ensures { IfOk result (λ o. o ≡ lowering_of (S.operations semiring.now) (change_with job.now worth.now) (put_from nodes plan.now transitions.now.transitions)) }
+    requires then { AreKept (S.operations semiring.now)
+        (put_from nodes plan.now transitions.now.transitions) (nodes + length plan.now) }
+    ensures { IfOk result (λ o. o ≡ lowering_of (S.operations semiring.now)
+        (change_with job.now worth.now) (put_from nodes plan.now transitions.now.transitions)) }
 {
     let goal = job.goal;
-    let old = weight_in(semiring, alloc, transitions, plan, goal)?;
-    let Some(weight) = weight_after(semiring, alloc, &old, worth)? else {
+    let old = weight_in(alloc, semiring, transitions, plan, goal)?;
+    let Some(weight) = weight_after(alloc, semiring, &old, worth)? else {
         return Ok(None);
     };
     let node = Node::Lower {
@@ -158,8 +165,8 @@ fn add<S: Semiring>(plan: &mut Vec<Planned<S>>, step: Option<Planned<S>>) -> Res
 
 /// What jobs of these worths lower, one after the other, where the first new node has the number `nodes`.
 pub(crate) fn plan_jobs<S: Semiring>(
-    semiring: &S,
     alloc: Global,
+    semiring: &S,
     transitions: &Transitions<S>,
     nodes: u64,
     jobs: &[Job<S>],
@@ -169,13 +176,14 @@ pub(crate) fn plan_jobs<S: Semiring>(
     requires len { length worths.now ≡ length jobs.now }
     requires worths { All (Fits (S.operations semiring.now)) worths.now }
     requires kept { AreKept (S.operations semiring.now) transitions.now.transitions nodes }
-    ensures { IfOk result (λ v. v.items ≡ plan_of (S.operations semiring.now) (changes_with jobs.now worths.now) nodes transitions.now.transitions) }
+    ensures { IfOk result (λ v. v.items ≡ plan_of (S.operations semiring.now)
+        (changes_with jobs.now worths.now) nodes transitions.now.transitions) }
 {
     let mut plan = Vec::new(alloc);
     for i in 0..jobs.len() {
         let step = lowering(
-            semiring,
             alloc,
+            semiring,
             transitions,
             nodes,
             &plan,

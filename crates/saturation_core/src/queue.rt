@@ -1,12 +1,12 @@
 ghost use Rattle.std.specs.Prelude.{◌≡◌, ◌<◌, ◌≤◌, ◌+◌, IfOk, drop, MatchOption, ◌∷◌, [], IsTrue};
 ghost use Rattle.std.specs.VecDeque.{deque_len, deque_capacity};
 ghost use Rattle.weighted_automata.specs.Places.{has_place};
-ghost use Rattle.saturation_core.specs.declared.opening.Opening.{Opening as OpeningValue};
-ghost use Rattle.saturation_core.specs.Queues.{queued};
-ghost use Rattle.saturation_core.specs.Ways.{HaveFitWeights, jobs_of_place};
+ghost use Rattle.saturation_laws.specs.declared.opening.Opening.{Opening as OpeningValue};
+ghost use Rattle.saturation_laws.specs.Queues.{queued};
+ghost use Rattle.saturation_laws.specs.Ways.{HaveFitWeights, jobs_of_place};
 
-use crate::{Direction, JobList};
 use pushdown_rules::System;
+use saturation_laws::{Direction, JobList};
 use semiring_laws::Semiring;
 use std::alloc::Global;
 use std::collections::VecDeque;
@@ -47,23 +47,24 @@ pub(crate) fn enqueue(queue: &mut VecDeque<Place>, x: Place)
 
 /// The place that waits longest.
 pub(crate) fn front(queue: &VecDeque<Place>) -> Option<Place>
-    ensures { MatchOption result (queue.now.items ≡ []) (λ x. queue.now.items ≡ x ∷ drop 1 queue.now.items) }
+    ensures { MatchOption result (queue.now.items ≡ [])
+        (λ x. queue.now.items ≡ x ∷ drop 1 queue.now.items) }
 {
     queue.front().copied()
 }
 
 /// The jobs of the transition at a place.
 pub(crate) fn list_jobs<S: Semiring, D: Direction<S>>(
-    direction: &D,
     alloc: Global,
+    direction: &D,
     system: &System<S>,
     transitions: &Transitions<S>,
     place: Place,
 ) -> Result<JobList<S>, OutOfMemory>
     requires fits { (o : OpeningValue) × IsTrue (D.way.fits_opening direction.now system.now o) }
     requires weights { HaveFitWeights S.operations system.now transitions.now.transitions }
-    ensures { IfOk result (λ js. js
-        ≡ jobs_of_place S.operations D.way direction.now system.now place transitions.now.transitions) }
+    ensures { IfOk result (λ js. js ≡ jobs_of_place S.operations D.way
+        direction.now system.now place transitions.now.transitions) }
 {
     match transitions.find(place) {
         Some(k) => direction.jobs(alloc, system, transitions, k),

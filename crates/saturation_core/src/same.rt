@@ -1,11 +1,11 @@
 ghost use Rattle.std.specs.Prelude.{◌≡◌, ◌↔◌, IsTrue, All, IfSome, slice_get, Some};
 ghost use Rattle.semiring_laws.specs.Semiring.{Fits};
-ghost use Rattle.saturation_core.specs.Jobs.{InputsFit};
-ghost use Rattle.saturation_core.specs.Directions.{AgreeOn};
+ghost use Rattle.saturation_laws.specs.Jobs.{InputsFit};
+ghost use Rattle.saturation_laws.specs.Directions.{AgreeOn};
 ghost use Rattle.saturation_core.specs.Settled.{jobs_out};
 
-use crate::{Holding, Job};
 use pushdown_rules::{System, same_rule};
+use saturation_laws::{Holding, Job};
 use semiring_laws::Semiring;
 use weighted_automata::Entry;
 use witness_graph::Side;
@@ -98,7 +98,8 @@ fn same_at<S: Semiring>(one: &System<S>, other: &System<S>, k: u32) -> bool
 // The same where a number is given.
 fn same_named<S: Semiring>(one: &System<S>, other: &System<S>, k: Option<u32>) -> bool
     requires { one.now.semiring ≡ other.now.semiring }
-    ensures { IsTrue result ↔ IfSome k (λ j. slice_get one.now.rules j ≡ slice_get other.now.rules j) }
+    ensures { IsTrue result
+        ↔ IfSome k (λ j. slice_get one.now.rules j ≡ slice_get other.now.rules j) }
 {
     match k {
         Some(k) => same_at(one, other, k),

@@ -1,9 +1,7 @@
-ghost use Rattle.std.specs.Prelude.{IfOk, IfSome};
-ghost use Rattle.saturation_core.specs.Settled.{IsWorkedBy};
-
 use crate::gather::{Gather, HUB};
-use crate::{Book, Direction, Done, Opening, PlaceList, StateList, Taken};
+use crate::{Book, Done, Taken};
 use pushdown_rules::{RuleFault, System};
+use saturation_laws::{Direction, Opening, PlaceList, StateList};
 use semiring_laws::{Reach, Semiring};
 use std::alloc::Global;
 use std::test::Fail;
@@ -78,9 +76,7 @@ fn work<'s, S: Semiring, D: Direction<S>>(
     book: &mut Book<'s, S, D>,
     alloc: Global,
     seat: u32,
-) -> Result<Option<Done<'s, S>>, OutOfMemory>
-    ensures { IfOk result (λ o. IfSome o (λ w. (d : D) × IsWorkedBy D.way d w)) }
-{
+) -> Result<Option<Done<'s, S, D>>, OutOfMemory> {
     if seat >= 64 {
         return Ok(None);
     }
@@ -101,10 +97,8 @@ fn work<'s, S: Semiring, D: Direction<S>>(
 fn settle<S: Semiring, D: Direction<S>>(
     book: &mut Book<'_, S, D>,
     alloc: Global,
-    done: Option<Done<'_, S>>,
-) -> Result<Option<u64>, OutOfMemory>
-    requires { IfSome done (λ w. (d : D) × IsWorkedBy D.way d w) }
-{
+    done: Option<Done<'_, S, D>>,
+) -> Result<Option<u64>, OutOfMemory> {
     let Some(done) = done else {
         return Ok(None);
     };

@@ -1,4 +1,5 @@
 pub mod Semiring
 pub mod Reach
+pub mod ReachLaws
 pub mod Combination
 pub mod Chains

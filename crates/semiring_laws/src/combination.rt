@@ -8,8 +8,8 @@ use wpds_base::OutOfMemory;
 
 /// The combination of finitely many weights.
 pub fn combine_all<S: Semiring>(
-    semiring: &S,
     alloc: Global,
+    semiring: &S,
     weights: &[S::W],
 ) -> Result<S::W, OutOfMemory>
     requires { All (Fits (S.operations semiring.now)) weights.now }

@@ -8,66 +8,83 @@ use crate::Semiring;
 
 /// Being below is a partial order on the weights, with zero above all.
 pub fn below_is_an_order<S: Semiring>()
-    ensures itself { (x : S) (a : S.W) → Fits (S.operations x) a → Below (S.operations x) a a }
-    ensures transitive { (x : S) (a b c : S.W) → Fits (S.operations x) a → Fits (S.operations x) b → Fits (S.operations x) c →
-        Below (S.operations x) a b → Below (S.operations x) b c → Below (S.operations x) a c }
-    ensures antisymmetric { (x : S) (a b : S.W) → Fits (S.operations x) a → Fits (S.operations x) b →
-        Below (S.operations x) a b → Below (S.operations x) b a → a ≡ b }
-    ensures top { (x : S) (a : S.W) → Fits (S.operations x) a → Below (S.operations x) a (S.operations x).zero }
+    ensures itself { (x : S) → let s = S.operations x in (a : S.W) → Fits s a → Below s a a }
+    ensures transitive { (x : S) → let s = S.operations x in
+        (a b c : S.W) → Fits s a → Fits s b → Fits s c →
+        Below s a b → Below s b c → Below s a c }
+    ensures antisymmetric { (x : S) → let s = S.operations x in
+        (a b : S.W) → Fits s a → Fits s b → Below s a b → Below s b a → a ≡ b }
+    ensures top { (x : S) → let s = S.operations x in (a : S.W) → Fits s a → Below s a s.zero }
 {}
 
 /// The combine of two weights is the greatest weight that is below both.
 pub fn combine_is_greatest_below<S: Semiring>()
-    ensures left { (x : S) (a b : S.W) → Fits (S.operations x) a → Fits (S.operations x) b → Below (S.operations x) ((S.operations x).combine a b) a }
-    ensures right { (x : S) (a b : S.W) → Fits (S.operations x) a → Fits (S.operations x) b → Below (S.operations x) ((S.operations x).combine a b) b }
-    ensures greatest { (x : S) (a b c : S.W) → Fits (S.operations x) a → Fits (S.operations x) b → Fits (S.operations x) c →
-        Below (S.operations x) c a → Below (S.operations x) c b → Below (S.operations x) c ((S.operations x).combine a b) }
+    ensures left { (x : S) → let s = S.operations x in
+        (a b : S.W) → Fits s a → Fits s b → Below s (s.combine a b) a }
+    ensures right { (x : S) → let s = S.operations x in
+        (a b : S.W) → Fits s a → Fits s b → Below s (s.combine a b) b }
+    ensures greatest { (x : S) → let s = S.operations x in
+        (a b c : S.W) → Fits s a → Fits s b → Fits s c →
+        Below s c a → Below s c b → Below s c (s.combine a b) }
 {}
 
 /// Extend, on both sides, and return maps keep what is below below.
 pub fn operations_keep_below<S: Semiring>()
-    ensures extend { (x : S) (a b c d : S.W) → Fits (S.operations x) a → Fits (S.operations x) b → Fits (S.operations x) c → Fits (S.operations x) d →
-        Below (S.operations x) a b → Below (S.operations x) c d → Below (S.operations x) ((S.operations x).extend a c) ((S.operations x).extend b d) }
-    ensures after { (x : S) (h : S.Ret) (a b : S.W) → FitsMap (S.operations x) h → Fits (S.operations x) a → Fits (S.operations x) b →
-        Below (S.operations x) a b → Below (S.operations x) ((S.operations x).after h a) ((S.operations x).after h b) }
+    ensures extend { (x : S) → let s = S.operations x in
+        (a b c d : S.W) → Fits s a → Fits s b → Fits s c → Fits s d →
+        Below s a b → Below s c d → Below s (s.extend a c) (s.extend b d) }
+    ensures after { (x : S) → let s = S.operations x in
+        (h : S.Ret) (a b : S.W) → FitsMap s h → Fits s a → Fits s b →
+        Below s a b → Below s (s.after h a) (s.after h b) }
 {}
 
 /// The combination of a list is the greatest weight that is below each of its weights.
 pub fn combination_is_greatest_below<S: Semiring>()
-    ensures fits { (x : S) (ws : List S.W) → All (Fits (S.operations x)) ws → Fits (S.operations x) (combination (S.operations x) ws) }
-    ensures each { (x : S) (ws : List S.W) → All (Fits (S.operations x)) ws → All (Below (S.operations x) (combination (S.operations x) ws)) ws }
-    ensures greatest { (x : S) (v : S.W) (ws : List S.W) → Fits (S.operations x) v → All (Fits (S.operations x)) ws →
-        All (Below (S.operations x) v) ws → Below (S.operations x) v (combination (S.operations x) ws) }
+    ensures fits { (x : S) → let s = S.operations x in
+        (ws : List S.W) → All (Fits s) ws → Fits s (combination s ws) }
+    ensures each { (x : S) → let s = S.operations x in
+        (ws : List S.W) → All (Fits s) ws → All (Below s (combination s ws)) ws }
+    ensures greatest { (x : S) → let s = S.operations x in
+        (v : S.W) (ws : List S.W) → Fits s v → All (Fits s) ws →
+        All (Below s v) ws → Below s v (combination s ws) }
 {}
 
 /// The combination of a list depends on its weights alone, and neither on their order nor on how often each stands there.
 pub fn combination_is_of_members<S: Semiring>()
-    ensures order { (x : S) (vs ws : List S.W) → All (Fits (S.operations x)) vs → IsPermutation vs ws →
-        combination (S.operations x) vs ≡ combination (S.operations x) ws }
-    ensures repeated { (x : S) (w : S.W) (ws : List S.W) → All (Fits (S.operations x)) ws → Contains ws w →
-        combination (S.operations x) (w ∷ ws) ≡ combination (S.operations x) ws }
-    ensures members { (x : S) (vs ws : List S.W) → All (Fits (S.operations x)) vs → All (Fits (S.operations x)) ws →
-        All (Contains vs) ws → All (Contains ws) vs → combination (S.operations x) vs ≡ combination (S.operations x) ws }
-    ensures append { (x : S) (vs ws : List S.W) → All (Fits (S.operations x)) vs → All (Fits (S.operations x)) ws →
-        combination (S.operations x) (vs ++ ws) ≡ (S.operations x).combine (combination (S.operations x) vs) (combination (S.operations x) ws) }
+    ensures order { (x : S) → let s = S.operations x in
+        (vs ws : List S.W) → All (Fits s) vs → IsPermutation vs ws →
+        combination s vs ≡ combination s ws }
+    ensures repeated { (x : S) → let s = S.operations x in
+        (w : S.W) (ws : List S.W) → All (Fits s) ws → Contains ws w →
+        combination s (w ∷ ws) ≡ combination s ws }
+    ensures members { (x : S) → let s = S.operations x in
+        (vs ws : List S.W) → All (Fits s) vs → All (Fits s) ws →
+        All (Contains vs) ws → All (Contains ws) vs → combination s vs ≡ combination s ws }
+    ensures append { (x : S) → let s = S.operations x in
+        (vs ws : List S.W) → All (Fits s) vs → All (Fits s) ws →
+        combination s (vs ++ ws) ≡ s.combine (combination s vs) (combination s ws) }
 {}
 
 /// Extend, on both sides, and return maps distribute over the combination of a list.
 pub fn operations_distribute<S: Semiring>()
-    ensures left { (x : S) (a : S.W) (ws : List S.W) → Fits (S.operations x) a → All (Fits (S.operations x)) ws →
-        (S.operations x).extend a (combination (S.operations x) ws) ≡ combination (S.operations x) (map (λ w. (S.operations x).extend a w) ws) }
-    ensures right { (x : S) (ws : List S.W) (b : S.W) → All (Fits (S.operations x)) ws → Fits (S.operations x) b →
-        (S.operations x).extend (combination (S.operations x) ws) b ≡ combination (S.operations x) (map (λ w. (S.operations x).extend w b) ws) }
-    ensures after { (x : S) (h : S.Ret) (ws : List S.W) → FitsMap (S.operations x) h → All (Fits (S.operations x)) ws →
-        (S.operations x).after h (combination (S.operations x) ws) ≡ combination (S.operations x) (map (λ w. (S.operations x).after h w) ws) }
+    ensures left { (x : S) → let s = S.operations x in
+        (a : S.W) (ws : List S.W) → Fits s a → All (Fits s) ws →
+        s.extend a (combination s ws) ≡ combination s (map (λ w. s.extend a w) ws) }
+    ensures right { (x : S) → let s = S.operations x in
+        (ws : List S.W) (b : S.W) → All (Fits s) ws → Fits s b →
+        s.extend (combination s ws) b ≡ combination s (map (λ w. s.extend w b) ws) }
+    ensures after { (x : S) → let s = S.operations x in
+        (h : S.Ret) (ws : List S.W) → FitsMap s h → All (Fits s) ws →
+        s.after h (combination s ws) ≡ combination s (map (λ w. s.after h w) ws) }
 {}
 
 /// Weights fall only finitely often: no rank is over the top one, and a weight can be lowered at most as often as its
 /// rank says.
 pub fn chains_are_short<S: Semiring>()
-    ensures rank { (x : S) (a : S.W) → Fits (S.operations x) a → (S.operations x).rank a ≤ (S.operations x).top_rank }
-    ensures falls { (x : S) (a b : S.W) → Fits (S.operations x) a → Fits (S.operations x) b → Below (S.operations x) b a → b ≢ a →
-        (S.operations x).rank b < (S.operations x).rank a }
-    ensures chain { (x : S) (a : S.W) (bs : List S.W) → Fits (S.operations x) a → IsFalling (S.operations x) a bs →
-        length bs ≤ (S.operations x).rank a }
+    ensures rank { (x : S) → let s = S.operations x in
+        (a : S.W) → Fits s a → s.rank a ≤ s.top_rank }
+    ensures falls { (x : S) → let s = S.operations x in
+        (a b : S.W) → Fits s a → Fits s b → Below s b a → b ≢ a → s.rank b < s.rank a }
+    ensures chain { (x : S) → let s = S.operations x in
+        (a : S.W) (bs : List S.W) → Fits s a → IsFalling s a bs → length bs ≤ s.rank a }
 {}

@@ -1,5 +1,6 @@
 ghost use Rattle.std.specs.Prelude.{◌≡◌};
-ghost use Rattle.semiring_laws.specs.Reach.{reach_operations, reach_laws};
+ghost use Rattle.semiring_laws.specs.Reach.{reach_operations};
+ghost use Rattle.semiring_laws.specs.ReachLaws.{reach_laws};
 
 use crate::Semiring;
 use std::alloc::Global;

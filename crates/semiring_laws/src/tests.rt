@@ -1,7 +1,11 @@
 ghost use Rattle.std.specs.Prelude.{All};
 ghost use Rattle.semiring_laws.specs.Semiring.{Fits, FitsMap};
 
-use crate::{NoMap, Reach, Semiring, combine_all};
+use crate::{
+    NoMap, Reach, Semiring, below_is_an_order, chains_are_short, combination_is_greatest_below,
+    combination_is_of_members, combine_all, combine_is_greatest_below, operations_distribute,
+    operations_keep_below,
+};
 use std::alloc::Global;
 use std::test::Fail;
 use wpds_base::OutOfMemory;
@@ -17,8 +21,8 @@ struct Answered<W> {
 }
 
 fn answers_for<S: Semiring>(
-    semiring: &S,
     alloc: Global,
+    semiring: &S,
     a: &S::W,
     b: &S::W,
 ) -> Result<Answered<S::W>, OutOfMemory>
@@ -35,7 +39,7 @@ fn answers_for<S: Semiring>(
     })
 }
 
-fn neutral<S: Semiring>(semiring: &S, alloc: Global) -> Result<(S::W, S::W), OutOfMemory> {
+fn neutral<S: Semiring>(alloc: Global, semiring: &S) -> Result<(S::W, S::W), OutOfMemory> {
     Ok((semiring.zero(alloc)?, semiring.one(alloc)?))
 }
 
@@ -64,12 +68,12 @@ fn reachability(rt: HostRuntime) -> Result<(), Fail> {
             is_zero: !a,
         };
         assert_eq!(rt;
-            answers_for(&Reach, alloc, &a, &b)?,
+            answers_for(alloc, &Reach, &a, &b)?,
             wanted,
             "at {a} and {b}"
         );
     }
-    assert_eq!(rt; neutral(&Reach, alloc)?, (false, true));
+    assert_eq!(rt; neutral(alloc, &Reach)?, (false, true));
     assert_eq!(rt; alike(&Reach, &Reach, &NoMap::Plain), (true, true));
     Ok(())
 }
@@ -77,8 +81,19 @@ fn reachability(rt: HostRuntime) -> Result<(), Fail> {
 #[test]
 fn combinations(rt: HostRuntime) -> Result<(), Fail> {
     let alloc = rt.alloc();
-    assert_eq!(rt; combine_all(&Reach, alloc, &[])?, false);
-    assert_eq!(rt; combine_all(&Reach, alloc, &[false, false])?, false);
-    assert_eq!(rt; combine_all(&Reach, alloc, &[false, true, false])?, true);
+    assert_eq!(rt; combine_all(alloc, &Reach, &[])?, false);
+    assert_eq!(rt; combine_all(alloc, &Reach, &[false, false])?, false);
+    assert_eq!(rt; combine_all(alloc, &Reach, &[false, true, false])?, true);
     Ok(())
+}
+
+#[test]
+fn laws() {
+    below_is_an_order::<Reach>();
+    chains_are_short::<Reach>();
+    combination_is_greatest_below::<Reach>();
+    combination_is_of_members::<Reach>();
+    combine_is_greatest_below::<Reach>();
+    operations_distribute::<Reach>();
+    operations_keep_below::<Reach>();
 }

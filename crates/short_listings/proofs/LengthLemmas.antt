@@ -1,17 +1,18 @@
 -- A listing made shorter has no more nodes than it had.
-use Rattle.std.proofs.Common.{◌≡◌, ℕ, ◌+◌, ◌-◌, ◌<◌, ◌≤◌, true, false, List, [], ◌∷◌, length, refl, sym, ap, ◌∙◌, inl, inr, arith}
-use Rattle.std.specs.Prelude.{Bool, Option, None, Some, cond, nat_eq, is_some, option_map, ◌||◌}
+use Rattle.std.proofs.Common.{◌≡◌, ℕ, ◌+◌, ◌<◌, ◌≤◌, true, false, List, [], ◌∷◌, ◌++◌, length, refl, sym, ap, ◌∙◌, inl, inr, arith}
+use Rattle.std.specs.Prelude.{Option, None, Some, nat_eq, is_some, option_map, ◌||◌}
 use Rattle.std.specs.List.{AllByRecursion, IsDistinct, list_any}
 use Rattle.std.proofs.lemmas.Bool.{cond-true, cond-false, cases_Bool, eqb-true, eq-eqb}
 use Rattle.std.proofs.lemmas.List.{length-map}
 use Rattle.std.proofs.lemmas.Map.Steps.{length-le_from_distinct_below}
+use Rattle.wpds_base.specs.Lists.{IsIn, IsOnce}
 use Rattle.witness_graph.specs.declared.node.Node.{Node}
 use Rattle.witness_graph.specs.declared.node.Side.TheVariants.{Pre}
-use Rattle.witness_graph.specs.Nodes.{node_at, AreNodes, IsListing}
-use Rattle.witness_graph.specs.Order.{place_of, is_listed, post_order, renamed, listing_of, IsOnce}
+use Rattle.witness_graph.specs.Nodes.{node_at, AreNodes}
+use Rattle.witness_graph.specs.Order.{place_of, is_listed, post_order, renamed, listing_of}
 use Rattle.witness_graph.proofs.CallerLemmas.{order_once, good_order}
-use Rattle.short_listings.specs.Shorter.{begins_empty, shorten, stand, shortened}
-use Rattle.short_listings.proofs.ShorterLemmas.{all_short, nothing_short}
+use Rattle.short_listings.specs.Shorter.{BeginsEmpty, made_short, stand, shortened}
+use Rattle.short_listings.proofs.ShorterLemmas.{sum_short}
 
 abbrev next : Option ℕ → Option ℕ
 next o = option_map (λ i. i + 1) o
@@ -26,14 +27,11 @@ swapped x y e = elim (cases_Bool (nat_eq x y)) [
   | inr differs ↦ differs
 ]
 
-unlisted : (x : ℕ) (xs : List ℕ) → is_listed xs x ≡ false → AllByRecursion (λ y. nat_eq x y ≡ false) xs
-unlisted x [] e = tt
-unlisted x (y ∷ ys) e = elim (cases_Bool (nat_eq y x)) [
-  | inl is ↦ let f : true ≡ false = sym (ap is_some (cond-true (nat_eq y x) (Some 0) (next (place_of x ys)) is)) ∙ e in cc
-  | inr differs ↦ (
-    swapped x y differs,
-    unlisted x ys (sym (some_next (place_of x ys)) ∙ sym (ap is_some (cond-false (nat_eq y x) (Some 0) (next (place_of x ys)) differs)) ∙ e),
-  )
+unlisted : (x : ℕ) (xs : List ℕ) → (IsIn x xs → ⊥) → AllByRecursion (λ y. nat_eq x y ≡ false) xs
+unlisted x [] out = tt
+unlisted x (y ∷ ys) out = elim (cases_Bool (nat_eq x y)) [
+  | inl is ↦ absurd (out (inl (sym (eqb-true x y is))))
+  | inr differs ↦ (differs, unlisted x ys (λ more. out (inr more)))
 ]
 
 distinct : (xs : List ℕ) → IsOnce xs → IsDistinct nat_eq xs
@@ -58,15 +56,10 @@ listing_few nodes root all within =
     length-le_from_distinct_below order (length nodes) (distinct order (order_once nodes root all within)) (λ q e. (good_order Pre nodes all root within).inside q (listed q order e)) in
     omega (arith, size, bound)
 
-pub no_longer : (nodes : List Node) → IsListing nodes → length (shortened nodes) ≤ length nodes
-no_longer nodes listing = go (begins_empty nodes) refl
-  where
-    go : (b : Bool) → begins_empty nodes ≡ b → length (cond b (listing_of (shorten [] [] nodes).0 (stand (shorten [] [] nodes).1 (length nodes - 1))) nodes) ≤ length nodes
-    go false e = omega arith
-    go true e =
-        let made = shorten [] [] nodes in
-        let short = all_short Pre nodes [] [] [] (nothing_short Pre) listing.all e in
-        let some = listing.some in
-        let low = short.low (length nodes - 1) (omega arith) in
-        let few = listing_few made.0 (stand made.1 (length nodes - 1)) short.valid (omega (arith, short.new_len)) in
-        omega (arith, few, short.new_len)
+pub no_longer : (graph added : List Node) (root : ℕ) → AreNodes (graph ++ added) → BeginsEmpty added → root < length (graph ++ added) → length (shortened graph added root) ≤ length (graph ++ added)
+no_longer graph added root all begins within =
+    let made = made_short graph added in
+    let short = sum_short Pre graph added all begins in
+    let low = short.low root within in
+    let few = listing_few made.0 (stand (length graph) made.1 root) short.valid (omega (arith, short.new_len)) in
+    omega (arith, few, short.new_len)

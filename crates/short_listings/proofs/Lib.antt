@@ -2,4 +2,5 @@ mod PartLemmas
 mod ShorterLemmas
 mod TightLemmas
 mod LengthLemmas
+mod RunLemmas
 pub mod CallerLemmas

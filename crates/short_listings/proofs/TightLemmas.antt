@@ -1,18 +1,19 @@
 -- A listing that is made shorter stays tight.
-use Rattle.std.proofs.Common.{◌≡◌, ◌⊎◌, inl, inr, ℕ, zero, suc, ◌-◌, ◌<◌, Bool, true, false, cond, List, [], ◌∷◌, length, map, Some, None, refl, sym, ap, subst, ◌∙◌, arith}
+use Rattle.std.proofs.Common.{◌≡◌, ◌⊎◌, inl, inr, ℕ, zero, suc, ◌<◌, List, [], ◌∷◌, ◌++◌, length, map, Some, None, refl, sym, ap, subst, ◌∙◌, arith}
 use Rattle.std.specs.Prelude.{slice_get, slice_index_or}
 use Rattle.semiring_laws.specs.Semiring.{Operations}
 use Rattle.semiring_laws.specs.Combination.{combination}
 use Rattle.witness_graph.specs.declared.node.Node.{Node}
 use Rattle.witness_graph.specs.declared.node.Node.TheVariants.{Start, Lower}
 use Rattle.witness_graph.specs.declared.node.Side.{Side}
-use Rattle.witness_graph.specs.Nodes.{EachNamed, IsListing, node_at}
-use Rattle.witness_graph.specs.Order.{post_order, listing_of}
+use Rattle.witness_graph.specs.Nodes.{EachNamed, AreNodes, node_at}
+use Rattle.witness_graph.specs.Order.{post_order}
 use Rattle.witness_graph.specs.Tight.{worth_of, IsTightNode, IsTight, AreTight}
-use Rattle.witness_graph.proofs.CallerLemmas.{listing_tight, each_earlier}
-use Rattle.short_listings.specs.Shorter.{begins_empty, stand, shorten, shortened}
+use Rattle.witness_graph.proofs.CallerLemmas.{listing_tight}
+use Rattle.witness_graph.proofs.CallerLemmas.{each_earlier}
+use Rattle.short_listings.specs.Shorter.{BeginsEmpty, stand, made_short, shortened}
 use Rattle.short_listings.proofs.PartLemmas.{SameBefore}
-use Rattle.short_listings.proofs.ShorterLemmas.{IsShort, nothing_short, all_short, named_weaker, get_within}
+use Rattle.short_listings.proofs.ShorterLemmas.{IsShort, sum_short, named_weaker, get_within}
 
 get_there : (xs : List Node) (k : ℕ) → k < length xs → (x : Node) × (slice_get xs k ≡ Some x)
 get_there [] k h = absurd (omega arith)
@@ -36,15 +37,15 @@ tight_from f worth shorter nothing k (Lower (Some c) r x y) (Lower None r' x' y'
 tight_from f worth shorter nothing k (Lower (Some c) r x y) (Lower (Some d) r' x' y') b same named h = λ e. h (sym same ∙ e ∙ ap shorter b ∙ named.0)
 
 module _ {W Map : Type 0} (s : Operations W Map) (value : List ℕ → W) (side : Side) where
-  tight_short : (pre new : List Node) (stands : List ℕ) → IsShort side pre new stands → IsTight s value side pre → IsTight s value side new
-  tight_short pre new stands short tight = record { each = λ k m e. at k m e (get_there pre k (let h = get_within new k m e in omega (arith, short.new_len))) }
+  tight_short : (g : ℕ) (pre new : List Node) (stands : List ℕ) → IsShort g side pre new stands → IsTight s value side pre → IsTight s value side new
+  tight_short g pre new stands short tight = record { each = λ k m e. at k m e (get_there pre k (let h = get_within new k m e in omega (arith, short.new_len))) }
     where
       at : (k : ℕ) (m : Node) → slice_get new k ≡ Some m → (n : Node) × (slice_get pre k ≡ Some n) → IsTightNode (worth_of s value side new) s.zero k m
       at k m e (n, f) =
           let within = get_within pre k n f in
-          tight_from (stand stands) (worth_of s value side pre) (worth_of s value side new) s.zero k n m (short.before k n m f e)
+          tight_from (stand g stands) (worth_of s value side pre) (worth_of s value side new) s.zero k n m (short.before k n m f e)
           (ap (λ rs. combination s (map value rs)) (short.same k within))
-          (named_weaker (λ j. j < k) (λ j. worth_of s value side new (stand stands j) ≡ worth_of s value side pre j) (λ j l. ap (λ rs. combination s (map value rs)) (short.stood j (omega arith))) n (each_earlier k n (short.known.each k n f).orderly))
+          (named_weaker (λ j. j < k) (λ j. worth_of s value side new (stand g stands j) ≡ worth_of s value side pre j) (λ j l. ap (λ rs. combination s (map value rs)) (short.stood j (omega arith))) n (each_earlier k n (short.known.each k n f).orderly))
           (tight.each k n f)
 
   tight_all : (nodes : List Node) (order : List ℕ) → IsTight s value side nodes → AreTight s value side nodes order
@@ -54,14 +55,11 @@ module _ {W Map : Type 0} (s : Operations W Map) (value : List ℕ → W) (side 
       at k (inl e) = tight.each k (node_at nodes k) e
       at k (inr e) = subst (IsTightNode (worth_of s value side nodes) s.zero k) (sym e) tt
 
-  pub stays_tight : (nodes : List Node) → IsListing nodes → IsTight s value side nodes → IsTight s value side (shortened nodes)
-  stays_tight nodes listing tight = go (begins_empty nodes) refl
-    where
-      go : (b : Bool) → begins_empty nodes ≡ b → IsTight s value side (cond b (listing_of (shorten [] [] nodes).0 (stand (shorten [] [] nodes).1 (length nodes - 1))) nodes)
-      go false e = tight
-      go true e =
-          let made = shorten [] [] nodes in
-          let short = all_short side nodes [] [] [] (nothing_short side) listing.all e in
-          let some = listing.some in
-          let low = short.low (length nodes - 1) (omega arith) in
-          listing_tight s value side made.0 (stand made.1 (length nodes - 1)) short.valid (omega (arith, short.new_len)) (tight_all made.0 (post_order made.0 (stand made.1 (length nodes - 1))) (tight_short nodes made.0 made.1 short tight))
+  pub stays_tight : (graph added : List Node) (root : ℕ) → AreNodes (graph ++ added) → BeginsEmpty added → root < length (graph ++ added) → IsTight s value side (graph ++ added)
+      → IsTight s value side (shortened graph added root)
+  stays_tight graph added root all begins within tight =
+      let made = made_short graph added in
+      let short = sum_short side graph added all begins in
+      let at = stand (length graph) made.1 root in
+      let low = short.low root within in
+      listing_tight s value side made.0 at short.valid (omega (arith, short.new_len)) (tight_all made.0 (post_order made.0 at) (tight_short (length graph) (graph ++ added) made.0 made.1 short tight))

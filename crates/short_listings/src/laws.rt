@@ -1,19 +1,38 @@
-ghost use Rattle.std.specs.Prelude.{◌≤◌, ℕ, List, length};
+ghost use Rattle.std.specs.Prelude.{◌≡◌, ◌<◌, ◌≤◌, ◌-◌, ◌++◌, ℕ, List, length};
 ghost use Rattle.witness_graph.specs.declared.node.Node.{Node as NodeValue};
 ghost use Rattle.witness_graph.specs.declared.node.Side.{Side as SideValue};
-ghost use Rattle.witness_graph.specs.Nodes.{IsListing};
+ghost use Rattle.witness_graph.specs.Nodes.{AreNodes};
+ghost use Rattle.witness_graph.specs.Runs.{runs_of};
 ghost use Rattle.witness_graph.specs.Tight.{IsTight};
-ghost use Rattle.short_listings.specs.Shorter.{shortened};
+ghost use Rattle.short_listings.specs.Shorter.{BeginsEmpty, made_short, shortened};
 
 use semiring_laws::Semiring;
 
-/// A listing that is tight is tight when it is made shorter, for whatever its runs are worth.
-pub fn shorter_stays_tight<S: Semiring>()
-    ensures { (semiring : S) (value : List ℕ → S.W) (side : SideValue) (nodes : List NodeValue) → IsListing nodes → IsTight (S.operations semiring) value side nodes
-        → IsTight (S.operations semiring) value side (shortened nodes) }
+/// What is made shorter has the same runs, whichever way they go.
+pub fn shorter_has_the_same_runs()
+    ensures { (side : SideValue) (graph added : List NodeValue) (root : ℕ) →
+        AreNodes (graph ++ added) → BeginsEmpty added → root < length (graph ++ added) →
+        let nodes = shortened graph added root in
+        runs_of side nodes (length nodes - 1) ≡ runs_of side (graph ++ added) root }
 {}
 
-/// A listing that is made shorter has no more nodes than it had.
+/// If the nodes of a sum are tight, the listing that is made shorter is tight, for whatever its runs are worth.
+pub fn shorter_stays_tight<S: Semiring>()
+    ensures { (semiring : S) → let s = S.operations semiring in (value : List ℕ → S.W)
+        (side : SideValue) (graph added : List NodeValue) (root : ℕ) →
+        AreNodes (graph ++ added) → BeginsEmpty added → root < length (graph ++ added) →
+        IsTight s value side (graph ++ added) → IsTight s value side (shortened graph added root) }
+{}
+
+/// A listing that is made shorter has no more nodes than there are.
 pub fn shorter_has_no_more_nodes()
-    ensures { (nodes : List NodeValue) → IsListing nodes → length (shortened nodes) ≤ length nodes }
+    ensures { (graph added : List NodeValue) (root : ℕ) →
+        AreNodes (graph ++ added) → BeginsEmpty added → root < length (graph ++ added) →
+        length (shortened graph added root) ≤ length (graph ++ added) }
+{}
+
+/// The nodes of the graph stay as they are, under their own numbers.
+pub fn nodes_of_the_graph_stay()
+    ensures { (graph added : List NodeValue) →
+        (more : List NodeValue) × ((made_short graph added).0 ≡ graph ++ more) }
 {}

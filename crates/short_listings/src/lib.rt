@@ -1,10 +1,13 @@
-//! Listings made shorter, with the same runs.
+//! Sums made shorter, with the same runs.
 #![tactic(auto)]
 
 mod laws;
 mod shortening;
 
-pub use laws::{shorter_has_no_more_nodes, shorter_stays_tight};
+pub use laws::{
+    nodes_of_the_graph_stay, shorter_has_no_more_nodes, shorter_has_the_same_runs,
+    shorter_stays_tight,
+};
 pub use shortening::shorter;
 
 #[cfg(test)]

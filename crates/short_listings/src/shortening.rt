@@ -1,33 +1,25 @@
-ghost use Rattle.std.specs.Prelude.{◌≡◌, ◌-◌, false, length, IsOk, IfOk};
-ghost use Rattle.witness_graph.specs.Runs.{runs_of};
+ghost use Rattle.std.specs.Prelude.{◌≡◌, ◌-◌, ◌<◌, ◌++◌, length, IfOk};
+ghost use Rattle.witness_graph.specs.Nodes.{AreNodes};
+ghost use Rattle.witness_graph.specs.Runs.{runs_of, listing_runs};
 ghost use Rattle.short_listings.specs.Shorter as shorter;
 
 use std::alloc::Global;
-use witness_graph::{Graph, Listing, Node};
+use witness_graph::{Graph, Listing, Node, Overlay};
 use wpds_base::OutOfMemory;
 
-fn begins_empty(nodes: &[Node]) -> bool
-    ensures { result ≡ shorter.begins_empty nodes.now }
-{
-    match nodes {
-        [Node::Start, ..] => true,
-        _ => false,
-    }
-}
-
-// The part, unless it is the node that stands first.
-fn but_first(part: Option<u64>) -> Option<u64>
-    ensures { result ≡ shorter.but_first part }
+// The part, unless it is the node with this number.
+fn but(first: u64, part: Option<u64>) -> Option<u64>
+    ensures { result ≡ shorter.but first part }
 {
     match part {
-        Some(0) => None,
-        other => other,
+        Some(number) => { if number == first { None } else { Some(number) } }
+        None => None,
     }
 }
 
 // The node without that part, unless it has no other.
-fn pruned(node: Node) -> Node
-    ensures { result ≡ shorter.pruned node }
+fn pruned(first_added: u64, node: Node) -> Node
+    ensures { result ≡ shorter.pruned first_added node }
 {
     let Node::Lower {
         before,
@@ -38,7 +30,7 @@ fn pruned(node: Node) -> Node
     else {
         return node;
     };
-    let (left, right) = (but_first(first), but_first(second));
+    let (left, right) = (but(first_added, first), but(first_added, second));
     if rule.is_some() || left.is_some() || right.is_some() {
         Node::Lower {
             before,
@@ -72,28 +64,31 @@ fn only_part(node: Node) -> Option<u64>
     }
 }
 
-// The number that stands for a node.
-fn stand(stands: &[u64], number: u64) -> u64
-    ensures { result ≡ shorter.stand stands.now number }
+// The number that stands for a node: its own if it is one of the graph's.
+fn stand(graph: u64, stands: &[u64], number: u64) -> u64
+    ensures { result ≡ shorter.stand graph stands.now number }
 {
-    match stands.get(number as usize) {
+    if number < graph {
+        return number;
+    }
+    match stands.get((number - graph) as usize) {
         Some(other) => *other,
         None => number,
     }
 }
 
-fn stand_for(stands: &[u64], part: Option<u64>) -> Option<u64>
-    ensures { result ≡ shorter.stand_for stands.now part }
+fn stand_for(graph: u64, stands: &[u64], part: Option<u64>) -> Option<u64>
+    ensures { result ≡ shorter.stand_for graph stands.now part }
 {
     match part {
-        Some(number) => Some(stand(stands, number)),
+        Some(number) => Some(stand(graph, stands, number)),
         None => None,
     }
 }
 
 // The node by what stands for those that it names.
-fn by_stands(stands: &[u64], node: Node) -> Node
-    ensures { result ≡ shorter.by_stands stands.now node }
+fn by_stands(graph: u64, stands: &[u64], node: Node) -> Node
+    ensures { result ≡ shorter.by_stands graph stands.now node }
 {
     match node {
         Node::Start => Node::Start,
@@ -103,32 +98,37 @@ fn by_stands(stands: &[u64], node: Node) -> Node
             first,
             second,
         } => Node::Lower {
-            before: stand_for(stands, before),
+            before: stand_for(graph, stands, before),
             rule,
-            first: stand_for(stands, first),
-            second: stand_for(stands, second),
+            first: stand_for(graph, stands, first),
+            second: stand_for(graph, stands, second),
         },
     }
 }
 
-/// The listing made shorter. Its runs are the same list. It is refused only for want of memory, and never where the
-/// empty run does not stand first: such a listing stays as it is.
-pub fn shorter(alloc: Global, listing: Listing) -> Result<Listing, OutOfMemory>
-    ensures side { IfOk result (λ l. l.side ≡ listing.side) }
-    ensures nodes { IfOk result (λ l. l.nodes ≡ shorter.shortened listing.nodes) }
-    ensures runs { IfOk result (λ l. runs_of l.side l.nodes (length l.nodes - 1) ≡ runs_of listing.side listing.nodes (length listing.nodes - 1)) }
-    ensures given { shorter.begins_empty listing.nodes ≡ false → IsOk result }
+/// The listing of a node of a sum, made shorter: of a graph's nodes and those that the sum added, of which the first is
+/// the empty run. Only the added nodes are touched. The runs are the same list. Refused only when out of memory.
+pub fn shorter(
+    alloc: Global,
+    graph: &Graph,
+    added: &[Node],
+    root: u64,
+) -> Result<Listing, OutOfMemory>
+    requires nodes { AreNodes (graph.now.nodes ++ added.now) }
+    requires begins { shorter.BeginsEmpty added.now }
+    requires root { root < length (graph.now.nodes ++ added.now) }
+    ensures side { IfOk result (λ l. l.side ≡ graph.now.side) }
+    ensures nodes { IfOk result (λ l. l.nodes ≡ shorter.shortened graph.now.nodes added.now root) }
+    ensures runs { IfOk result (λ l.
+        listing_runs l ≡ runs_of graph.now.side (graph.now.nodes ++ added.now) root) }
 {
-    let nodes = listing.nodes.as_slice();
-    if !begins_empty(nodes) {
-        return Ok(listing);
-    }
-    let mut graph = Graph::new(alloc, listing.side);
+    let first = graph.len();
+    let mut whole = Overlay::new(alloc, graph);
     let mut stands = Vec::new(alloc);
-    for node in nodes {
-        let node = pruned(by_stands(&stands, *node));
-        let number = graph.push_node(alloc, node)?;
+    for node in added {
+        let node = pruned(first, by_stands(first, &stands, *node));
+        let number = whole.push_node(alloc, node)?;
         stands.push(only_part(node).unwrap_or(number))?;
     }
-    graph.listing(alloc, stand(&stands, nodes.len() as u64 - 1))
+    whole.listing(alloc, stand(first, &stands, root))
 }

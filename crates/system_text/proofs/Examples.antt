@@ -2,12 +2,16 @@
 use Rattle.std.proofs.Common.{◌≡◌, ℕ, true, false, List, [], ◌∷◌, ◌++◌, refl, arith}
 use Rattle.std.specs.Prelude.{codes, None, Some}
 use Rattle.std.specs.List.{list_all}
+use Rattle.std.proofs.lemmas.List.Elements.{All-from_recursion}
 use Rattle.system_text.specs.declared.document.Document.{Document}
+use Rattle.system_text.specs.declared.document.ConfigText.{ConfigText}
+use Rattle.system_text.specs.declared.document.QueryLine.{QueryLine}
+use Rattle.system_text.specs.Documents.{IsConfigText, IsQueryLine}
 use Rattle.system_text.specs.declared.document.WeightsLine.TheVariants.{Reach}
 use Rattle.system_text.specs.declared.document.WeightText.TheVariants.{One}
 use Rattle.system_text.specs.Lines.{line_words}
 use Rattle.system_text.specs.Names.{is_name, has_twice}
-use Rattle.system_text.specs.Numbers.{number_of}
+use Rattle.system_text.specs.private.Numbers.{number_of}
 use Rattle.system_text.specs.FirstForm.{document_words, IsFirstForm}
 
 abbrev text : List ℕ
@@ -20,13 +24,15 @@ read = record {
   weights = Reach;
   controls = codes "p" ∷ codes "q" ∷ [];
   symbols = codes "a" ∷ codes "b" ∷ [];
+  items = [];
   rules =
-      record { control = 0; symbol = 0; to = 0; right = 1 ∷ 0 ∷ []; weight = One }
-      ∷ record { control = 0; symbol = 1; to = 1; right = []; weight = One } ∷ [];
-  query = record {
-    from = record { control = 0; stack = 0 ∷ [] };
-    to = record { control = 1; stack = [] };
-  };
+      record { control = 0; symbol = 0; to = 0; right = 1 ∷ 0 ∷ []; weight = One; map = None }
+      ∷ record { control = 0; symbol = 1; to = 1; right = []; weight = One; map = None } ∷ [];
+  queries =
+      record {
+        from = record { control = 0; stack = 0 ∷ [] };
+        to = record { control = 1; stack = [] };
+      } ∷ [];
 }
 
 written : line_words text ≡ document_words read ++ ([] ∷ []) ∷ []
@@ -53,25 +59,40 @@ abbrev small_text : List ℕ
 small_text =
     codes "wpds 1" ++ 10 ∷ codes "weights reach" ++ 10 ∷ codes "controls p" ++ 10 ∷ codes "symbols a" ++ 10 ∷ codes "query p: => p:" ++ 10 ∷ []
 
+abbrev nowhere : ConfigText
+nowhere = record { control = 0; stack = [] }
+
+abbrev asked : QueryLine
+asked = record { from = nowhere; to = nowhere }
+
 abbrev small : Document
 small = record {
   weights = Reach;
   controls = codes "p" ∷ [];
   symbols = codes "a" ∷ [];
+  items = [];
   rules = [];
-  query = record { from = record { control = 0; stack = [] }; to = record { control = 0; stack = [] } };
+  queries = asked ∷ [];
 }
+
+fits : IsConfigText 1 1 nowhere
+fits = record { control = omega arith; stack = λ k d within. absurd (omega arith); short = omega arith }
 
 is_small : IsFirstForm small_text small
 is_small = record {
   written = refl;
-  weights = tt;
-  controls = record { some = omega arith; few = omega arith; each = refl; once = refl };
-  symbols = record { some = omega arith; few = omega arith; each = refl; once = refl };
-  rules = λ k d within. absurd (omega arith);
-  few = omega arith;
-  from = record { control = omega arith; stack = λ k d within. absurd (omega arith); short = omega arith };
-  to = record { control = omega arith; stack = λ k d within. absurd (omega arith); short = omega arith };
+  one = refl;
+  document = record {
+    weights = tt;
+    controls = record { some = omega arith; few = omega arith; each = refl; once = refl };
+    symbols = record { some = omega arith; few = omega arith; each = refl; once = refl };
+    items = refl;
+    rules = λ k d within. absurd (omega arith);
+    few = omega arith;
+    queries = All-from_recursion (IsQueryLine 1 1) (asked ∷ []) (record { from = fits; to = fits }, tt);
+    asks = omega arith;
+    few_queries = omega arith;
+  };
 }
 
 two_blanks : (d : Document) → IsFirstForm (codes "wpds  1" ++ 10 ∷ []) d → ⊥

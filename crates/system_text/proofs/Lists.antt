@@ -4,7 +4,7 @@ use Rattle.system_text.proofs.Options.{bind-parts}
 use Rattle.std.specs.Prelude.{position, option_map, option_and_then}
 use Rattle.std.specs.List.{list_any, prefix_len, AllByRecursion}
 use Rattle.std.proofs.lemmas.List.{length-map, take_more, map-append, drop_more, length-take-le, take-append-drop, drop_all, drop-drop, length-append}
-use Rattle.system_text.specs.Reading.{each}
+use Rattle.system_text.specs.private.Reading.{each}
 
 module _ {A B : Type 0} (f : A → B) where
   prefix_len-map : (test : B → Bool) (xs : List A) → prefix_len test (map f xs) ≡ prefix_len (λ x. test (f x)) xs

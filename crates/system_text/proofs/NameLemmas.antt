@@ -10,7 +10,7 @@ use Rattle.system_text.specs.Lines.{texts}
 use Rattle.system_text.proofs.Lists.{map-take_more, map-cut}
 use denote.Ref.{Bor}
 use Rattle.system_text.specs.Names.{is_among, is_name, has_twice}
-use Rattle.system_text.specs.Reading.{are_names}
+use Rattle.system_text.specs.private.Reading.{are_names}
 
 pub bytes_eq-comm : (x y : List ℕ) → bytes_eq x y ≡ bytes_eq y x
 bytes_eq-comm x y =

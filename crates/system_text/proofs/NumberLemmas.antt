@@ -11,7 +11,7 @@ use Rattle.std.proofs.lemmas.Fmt.{decimal_nonempty, first_decimal, decimal_digit
 use Rattle.std.specs.List.{list_all}
 use Rattle.wpds_port.specs.Tokens.{is_digit}
 use Rattle.std.specs.Str.Parse.{digits_value}
-use Rattle.system_text.specs.Numbers.{leads_lawfully, is_number, number_of}
+use Rattle.system_text.specs.private.Numbers.{leads_lawfully, is_number, number_of}
 
 tells : IsDigitsTest (λ ds. list_all is_digit ds ≡ true)
 tells = search rules

@@ -1,7 +1,7 @@
 -- Options that are something.
 use Rattle.std.proofs.Common.{◌≡◌, Bool, true, false, Option, Some, None, refl}
 use Rattle.std.specs.Prelude.{option_and_then}
-use Rattle.system_text.specs.Reading.{guarded}
+use Rattle.system_text.specs.private.Reading.{guarded}
 
 pub guarded-parts : {A : Type 0} (b : Bool) (o : Option A) (x : A) → guarded b o ≡ Some x → (b ≡ true) × (o ≡ Some x)
 guarded-parts true o x e = (refl, e)

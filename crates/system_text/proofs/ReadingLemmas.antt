@@ -6,7 +6,7 @@ use denote.Ref.{Bor}
 use Rattle.system_text.specs.declared.document.ConfigText.{ConfigText}
 use Rattle.system_text.specs.declared.document.QueryLine.{QueryLine}
 use Rattle.system_text.specs.Lines.{texts}
-use Rattle.system_text.specs.Reading.{config_of, sides_of}
+use Rattle.system_text.specs.private.Reading.{config_of, sides_of}
 
 abbrev both : Option ConfigText → Option ConfigText → Option QueryLine
 both o p = option_and_then (λ from. option_and_then (λ to. Some (record { from = from; to = to })) p) o

@@ -12,9 +12,10 @@ use Rattle.system_text.specs.declared.document.WeightText.TheVariants.{One, Numb
 use denote.Ref.{Bor}
 use Rattle.system_text.specs.Lines.{texts}
 use Rattle.system_text.specs.Names.{is_name, begins_name, reserved, is_among}
-use Rattle.system_text.specs.Numbers.{number_of}
-use Rattle.system_text.specs.FirstForm.{weights_words, weight_words, IsWeightsLine, IsWeightText}
-use Rattle.system_text.specs.Reading.{cost_up_to, weights_named, weights_of, number_weight, has_weight, right_of}
+use Rattle.system_text.specs.private.Numbers.{number_of}
+use Rattle.system_text.specs.Documents.{IsWeightsLine, IsWeightText}
+use Rattle.system_text.specs.FirstForm.{weights_words, weight_words}
+use Rattle.system_text.specs.private.Reading.{cost_up_to, weights_named, weights_of, number_weight, has_weight, right_of}
 use Rattle.system_text.proofs.NumberLemmas.{number-back, number-written}
 use Rattle.system_text.proofs.Options.{guarded-parts, guarded-true, bind-parts, bind-some}
 use Rattle.system_text.proofs.Written.{bytes_eq-same, equal}
@@ -54,16 +55,16 @@ weights-written (Cost cap) h =
 
 -- ---- a rule's weight
 
-number-weight-back : (weights : WeightsLine) (text : List ℕ) (t : WeightText) → number_weight weights text ≡ Some t → (weight_words t ≡ codes ":" ∷ text ∷ []) × IsWeightText weights t
-number-weight-back Reach text t e = cc
-number-weight-back (Cost cap) text t e = go (number_of text) refl e
+number-weight-back : (weights : WeightsLine) (items : ℕ) (text : List ℕ) (t : WeightText) → number_weight weights text ≡ Some t → (weight_words t ≡ codes ":" ∷ text ∷ []) × IsWeightText weights items t
+number-weight-back Reach items text t e = cc
+number-weight-back (Cost cap) items text t e = go (number_of text) refl e
   where
-    go : (o : Option ℕ) → number_of text ≡ o → option_map Number o ≡ Some t → (weight_words t ≡ codes ":" ∷ text ∷ []) × IsWeightText (Cost cap) t
+    go : (o : Option ℕ) → number_of text ≡ o → option_map Number o ≡ Some t → (weight_words t ≡ codes ":" ∷ text ∷ []) × IsWeightText (Cost cap) items t
     go None is e = cc
     go (Some n) is e =
         let back = number-back text n is in
         let same : Number n ≡ t = cc in
-        (ap weight_words (sym same) ∙ ap (λ x. codes ":" ∷ x ∷ []) back.0, subst (IsWeightText (Cost cap)) same back.1)
+        (ap weight_words (sym same) ∙ ap (λ x. codes ":" ∷ x ∷ []) back.0, subst (IsWeightText (Cost cap) items) same back.1)
 
 -- two texts stand last
 last_two : (ws : List (List ℕ)) → 2 ≤ length ws → ws ≡ take (length ws - 2) ws ++ (slice_index_or ws (length ws - 2) [] ∷ slice_index_or ws (length ws - 1) [] ∷ [])
@@ -74,25 +75,25 @@ last_two ws h =
     ∙ ap (λ l. take i ws ++ l) (drop_more ws i [] (omega arith)
     ∙ ap (λ l. get_or ws i [] ∷ l) (drop_more ws (i + 1) [] (omega arith) ∙ ap (λ l. get_or ws (i + 1) [] ∷ l) (drop_all (i + 1 + 1) ws (omega arith)) ∙ ap (λ k. get_or ws k [] ∷ []) j))
 
-pub right-back : (weights : WeightsLine) (ws : List (List ℕ)) (parts : List (List ℕ) × WeightText) → right_of weights ws ≡ Some parts → (parts.0 ++ weight_words parts.1 ≡ ws) × IsWeightText weights parts.1
-right-back weights ws parts e = go (has_weight ws) refl e
+pub right-back : (weights : WeightsLine) (items : ℕ) (ws : List (List ℕ)) (parts : List (List ℕ) × WeightText) → right_of weights ws ≡ Some parts → (parts.0 ++ weight_words parts.1 ≡ ws) × IsWeightText weights items parts.1
+right-back weights items ws parts e = go (has_weight ws) refl e
   where
-    split : has_weight ws ≡ true → (o : Option WeightText) → number_weight weights (slice_index_or ws (length ws - 1) []) ≡ o → option_map (λ t. (take (length ws - 2) ws, t)) o ≡ Some parts → (parts.0 ++ weight_words parts.1 ≡ ws) × IsWeightText weights parts.1
+    split : has_weight ws ≡ true → (o : Option WeightText) → number_weight weights (slice_index_or ws (length ws - 1) []) ≡ o → option_map (λ t. (take (length ws - 2) ws, t)) o ≡ Some parts → (parts.0 ++ weight_words parts.1 ≡ ws) × IsWeightText weights items parts.1
     split is None number e = cc
     split is (Some t) number e =
         let two = and_parts (nat_le 2 (length ws)) (bytes_eq (slice_index_or ws (length ws - 2) []) (codes ":")) is in
-        let back = number-weight-back weights _ t number in
+        let back = number-weight-back weights items _ t number in
         let colon = equal (slice_index_or ws (length ws - 2) []) (codes ":") two.1 in
         let first : take (length ws - 2) ws ≡ parts.0 = cc in
         let second : t ≡ parts.1 = cc in
-        (ap (λ l. l ++ weight_words parts.1) (sym first) ∙ ap (λ w. take (length ws - 2) ws ++ weight_words w) (sym second) ∙ ap (λ l. take (length ws - 2) ws ++ l) (back.0 ∙ ap (λ x. x ∷ slice_index_or ws (length ws - 1) [] ∷ []) (sym colon)) ∙ sym (last_two ws (leb-true 2 (length ws) two.0)), subst (IsWeightText weights) second back.1)
+        (ap (λ l. l ++ weight_words parts.1) (sym first) ∙ ap (λ w. take (length ws - 2) ws ++ weight_words w) (sym second) ∙ ap (λ l. take (length ws - 2) ws ++ l) (back.0 ∙ ap (λ x. x ∷ slice_index_or ws (length ws - 1) [] ∷ []) (sym colon)) ∙ sym (last_two ws (leb-true 2 (length ws) two.0)), subst (IsWeightText weights items) second back.1)
 
-    go : (b : Bool) → has_weight ws ≡ b → cond b (option_map (λ t. (take (length ws - 2) ws, t)) (number_weight weights (slice_index_or ws (length ws - 1) []))) (Some (ws, One)) ≡ Some parts → (parts.0 ++ weight_words parts.1 ≡ ws) × IsWeightText weights parts.1
+    go : (b : Bool) → has_weight ws ≡ b → cond b (option_map (λ t. (take (length ws - 2) ws, t)) (number_weight weights (slice_index_or ws (length ws - 1) []))) (Some (ws, One)) ≡ Some parts → (parts.0 ++ weight_words parts.1 ≡ ws) × IsWeightText weights items parts.1
     go true is e = split is (number_weight weights (slice_index_or ws (length ws - 1) [])) refl e
     go false is e =
         let first : ws ≡ parts.0 = cc in
         let second : One ≡ parts.1 = cc in
-        (ap (λ l. l ++ weight_words parts.1) (sym first) ∙ ap (λ w. ws ++ weight_words w) (sym second) ∙ append-nil ws, subst (IsWeightText weights) second tt)
+        (ap (λ l. l ++ weight_words parts.1) (sym first) ∙ ap (λ w. ws ++ weight_words w) (sym second) ∙ append-nil ws, subst (IsWeightText weights items) second tt)
 
 -- no name is a colon
 name-no_colon : (x : List ℕ) → is_name x ≡ true → bytes_eq x (codes ":") ≡ false
@@ -125,10 +126,10 @@ at_last ws x y i e =
     ap (λ l. slice_index_or l i []) (sym (append_assoc ws (x ∷ []) (y ∷ [])))
     ∙ at_end (ws ++ x ∷ []) y [] i (omega (arith, length-append ws (x ∷ [])))
 
-pub right-written : (weights : WeightsLine) (ws : List (List ℕ)) (t : WeightText) → list_all is_name ws ≡ true → IsWeightText weights t → right_of weights (ws ++ weight_words t) ≡ Some (ws, t)
-right-written weights ws One all h = rw (append-nil ws) (cond-false _ _ _ (names-no_weight ws all))
-right-written Reach ws (Number n) all h = absurd h
-right-written (Cost cap) ws (Number n) all h =
+pub right-written : (weights : WeightsLine) (items : ℕ) (ws : List (List ℕ)) (t : WeightText) → list_all is_name ws ≡ true → IsWeightText weights items t → right_of weights (ws ++ weight_words t) ≡ Some (ws, t)
+right-written weights items ws One all h = rw (append-nil ws) (cond-false _ _ _ (names-no_weight ws all))
+right-written Reach items ws (Number n) all h = absurd h
+right-written (Cost cap) items ws (Number n) all h =
     let colon = codes ":" in
     let line = ws ++ colon ∷ decimal n ∷ [] in
     let l : length line ≡ length ws + 2 = length-append ws (colon ∷ decimal n ∷ []) in

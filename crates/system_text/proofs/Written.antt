@@ -11,8 +11,9 @@ use Rattle.std.proofs.lemmas.Slice.Eq.{bytes_eq-Decides}
 use Rattle.system_text.specs.declared.document.ConfigText.{ConfigText}
 use Rattle.system_text.specs.declared.document.QueryLine.{QueryLine}
 use Rattle.system_text.specs.Names.{is_among, is_name, has_twice, name, number_in, begins_name, goes_on_name, reserved, AreNames}
-use Rattle.system_text.specs.FirstForm.{config_words, query_words, IsConfigText}
-use Rattle.system_text.specs.Reading.{each, are_names, names_of, number_before_colon, config_of, sides_of, query_of}
+use Rattle.system_text.specs.Documents.{IsConfigText, IsQueryLine}
+use Rattle.system_text.specs.FirstForm.{config_words, query_words}
+use Rattle.system_text.specs.private.Reading.{each, are_names, names_of, number_before_colon, config_of, sides_of, query_of}
 use Rattle.system_text.proofs.Lists.{each-back, each-written, each-all}
 use Rattle.system_text.proofs.Options.{guarded-parts, guarded-true, bind-parts, bind-some}
 
@@ -178,12 +179,8 @@ drop_behind xs y ys = ap (drop (length xs + 1)) (sym (append_assoc xs (y ∷ [])
 
 -- ---- queries
 
--- both configurations fit
-abbrev pub FitsQuery : (controls symbols : List (List ℕ)) → QueryLine → Type 0
-FitsQuery controls symbols q = IsConfigText (length controls) (length symbols) q.from × IsConfigText (length controls) (length symbols) q.to
-
 module _ (controls symbols : List (List ℕ)) where
-  sides-back : (ws : List (List ℕ)) (q : QueryLine) → sides_of controls symbols ws ≡ Some q → (config_words controls symbols q.from ++ arrow ∷ config_words controls symbols q.to ≡ ws) × FitsQuery controls symbols q
+  sides-back : (ws : List (List ℕ)) (q : QueryLine) → sides_of controls symbols ws ≡ Some q → (config_words controls symbols q.from ++ arrow ∷ config_words controls symbols q.to ≡ ws) × IsQueryLine (length controls) (length symbols) q
   sides-back ws q e =
       let b1 = bind-parts _ (position (bytes_eq arrow) ws) q e in
       let at = b1.0 in
@@ -201,10 +198,10 @@ module _ (controls symbols : List (List ℕ)) where
       ∙ ap (λ l. take at ws ++ l) (sym (drop_more ws at [] p.0))
       ∙ take-append-drop at ws in (
         ap (λ r. config_words controls symbols r.from ++ arrow ∷ config_words controls symbols r.to) (sym same) ∙ is,
-        subst (FitsQuery controls symbols) same (c2.1, c3.1),
+        subst (IsQueryLine (length controls) (length symbols)) same (record { from = c2.1; to = c3.1 }),
       )
 
-  pub query-back : (ws : List (List ℕ)) (q : QueryLine) → query_of controls symbols ws ≡ Some q → (query_words controls symbols q.from q.to ≡ ws) × FitsQuery controls symbols q
+  pub query-back : (ws : List (List ℕ)) (q : QueryLine) → query_of controls symbols ws ≡ Some q → (query_words controls symbols q ≡ ws) × IsQueryLine (length controls) (length symbols) q
   query-back [] q e = cc
   query-back (w ∷ ws) q e =
       let k = guarded-parts (bytes_eq w (codes "query")) (sides_of controls symbols ws) q e in
@@ -218,13 +215,13 @@ module _ (controls symbols : List (List ℕ)) where
         (name-no_arrow (name controls c.control) (codes ":") (declared-name controls c.control one.0 h.control))
         (names-no_arrow symbols c.stack two.0 (recursion_from_All (λ g. g < length symbols) c.stack h.stack))
 
-    sides-written : (q : QueryLine) → FitsQuery controls symbols q → sides_of controls symbols (config_words controls symbols q.from ++ arrow ∷ config_words controls symbols q.to) ≡ Some q
+    sides-written : (q : QueryLine) → IsQueryLine (length controls) (length symbols) q → sides_of controls symbols (config_words controls symbols q.from ++ arrow ∷ config_words controls symbols q.to) ≡ Some q
     sides-written q h =
         let xs = config_words controls symbols q.from in
         let ys = config_words controls symbols q.to in
-        bind-some _ _ (length xs) _ (position-first (bytes_eq arrow) xs arrow ys (config-no_arrow q.from h.0) (bytes_eq-same arrow))
-        (bind-some _ _ q.from _ (ap (config_of controls symbols) (take_at xs (arrow ∷ ys) (length xs) refl) ∙ config-written controls symbols one.1 two.1 q.from h.0)
-        (bind-some _ _ q.to _ (ap (config_of controls symbols) (drop_behind xs arrow ys) ∙ config-written controls symbols one.1 two.1 q.to h.1) refl))
+        bind-some _ _ (length xs) _ (position-first (bytes_eq arrow) xs arrow ys (config-no_arrow q.from h.from) (bytes_eq-same arrow))
+        (bind-some _ _ q.from _ (ap (config_of controls symbols) (take_at xs (arrow ∷ ys) (length xs) refl) ∙ config-written controls symbols one.1 two.1 q.from h.from)
+        (bind-some _ _ q.to _ (ap (config_of controls symbols) (drop_behind xs arrow ys) ∙ config-written controls symbols one.1 two.1 q.to h.to) refl))
 
-    pub query-written : (q : QueryLine) → FitsQuery controls symbols q → query_of controls symbols (query_words controls symbols q.from q.to) ≡ Some q
+    pub query-written : (q : QueryLine) → IsQueryLine (length controls) (length symbols) q → query_of controls symbols (query_words controls symbols q) ≡ Some q
     query-written q h = sides-written q h

@@ -1,5 +1,5 @@
+pub mod Documents
 pub mod FirstForm
 pub mod Lines
 pub mod Names
-pub mod Numbers
-pub mod Reading
+pub mod private

@@ -1,6 +1,7 @@
 -- Names, and what they are the names of.
 use Rattle.std.specs.Prelude.{ℕ, ◌<◌, ◌≤◌, Bool, false, not, ◌||◌, ◌&&◌, nat_le, List, [], ◌∷◌, length, position, slice_index_or, Option, codes, bytes_eq, IsTrue}
 use Rattle.std.specs.List.{list_any, list_all}
+use Rattle.wpds_base.specs.Limits.{longest_name}
 pub use Rattle.wpds_port.specs.Tokens.{begins_name, goes_on_name}
 
 abbrev pub is_among : List (List ℕ) → List ℕ → Bool
@@ -20,7 +21,7 @@ is_name_text [] = false
 is_name_text (b ∷ bs) = begins_name b && list_all goes_on_name (b ∷ bs)
 
 abbrev pub is_name : List ℕ → Bool
-is_name x = is_name_text x && nat_le (length x) 64 && not (is_among reserved x)
+is_name x = is_name_text x && nat_le (length x) longest_name && not (is_among reserved x)
 
 -- some text stands in the list a second time
 abbrev pub has_twice : List (List ℕ) → Bool

@@ -3,14 +3,14 @@
 ghost use Rattle.std.specs.Prelude.{◌≡◌, ◌<◌, ◌++◌, ◌∷◌, [], List, ℕ, length, map, IfOk, IfSome, Some, MatchOption};
 ghost use Rattle.std.specs.Cmp.Lexicographic.{pointwise};
 ghost use Rattle.system_text.specs.Lines.{words, texts};
-ghost use Rattle.system_text.specs.Reading.{document_of, is_framed};
+ghost use Rattle.system_text.specs.private.Reading.{document_of, is_framed};
 ghost use Rattle.system_text.specs.FirstForm.{IsFirstForm};
 ghost use Rattle.system_text.specs.declared.document.Document.{Document as DocumentValue};
 
-use crate::Document;
 use crate::cut::lines_of;
 use crate::reading::{names, query, rules, says};
 use crate::weights::weights;
+use crate::{Document, Names, QueryLines};
 use std::alloc::Global;
 use wpds_base::OutOfMemory;
 
@@ -40,7 +40,11 @@ struct Lines<'t, 'l> {
 }
 
 fn in_order<'t, 'l>(lines: &'l [&'t [u8]]) -> Option<Lines<'t, 'l>>
-    ensures { MatchOption result (length lines.now < 6) (λ l. texts lines.now ≡ l.header.now ∷ l.weights.now ∷ l.controls.now ∷ l.symbols.now ∷ (texts l.rules.now ++ l.query.now ∷ l.last.now ∷ [])) }
+    ensures { MatchOption result
+        (length lines.now < 6)
+        (λ l. texts lines.now ≡
+        l.header.now ∷ l.weights.now ∷ l.controls.now ∷ l.symbols.now
+        ∷ (texts l.rules.now ++ l.query.now ∷ l.last.now ∷ [])) }
 {
     match lines {
         [header, weights, controls, symbols, rules @ .., query, last] => Some(Lines {
@@ -58,7 +62,9 @@ fn in_order<'t, 'l>(lines: &'l [&'t [u8]]) -> Option<Lines<'t, 'l>>
 
 // Whether the lines whose words are fixed are as they should be, and the rules not too many.
 fn framed(alloc: Global, lines: &Lines) -> Result<bool, OutOfMemory>
-    ensures { IfOk result (λ b. b ≡ is_framed (words lines.now.header.now) (words lines.now.last.now) (length lines.now.rules.now)) }
+    ensures { let l = lines.now in
+        IfOk result (λ b.
+        b ≡ is_framed (words l.header.now) (words l.last.now) (length l.rules.now)) }
 {
     if !lines.last.is_empty() {
         return Ok(false);
@@ -71,7 +77,11 @@ fn framed(alloc: Global, lines: &Lines) -> Result<bool, OutOfMemory>
 
 // The document with these lines.
 fn document(alloc: Global, lines: &Lines) -> Result<Option<Document>, OutOfMemory>
-    ensures { let l = lines.now in IfOk result (λ o. o ≡ document_of (words l.header.now) (words l.weights.now) (words l.controls.now) (words l.symbols.now) (map (λ line. words line.now) l.rules.now) (words l.query.now) (words l.last.now)) }
+    ensures { let l = lines.now in
+        let rules = map (λ line. words line.now) l.rules.now in
+        IfOk result (λ o. o ≡ document_of
+        (words l.header.now) (words l.weights.now) (words l.controls.now) (words l.symbols.now)
+        rules (words l.query.now) (words l.last.now)) }
 {
     if !framed(alloc, lines)? {
         return Ok(None);
@@ -93,8 +103,9 @@ fn document(alloc: Global, lines: &Lines) -> Result<Option<Document>, OutOfMemor
             weights,
             controls,
             symbols,
+            items: Names::new(alloc),
             rules,
-            query,
+            queries: QueryLines::from_vec(vec![in alloc; query]?),
         })),
         None => Ok(None),
     }
@@ -115,5 +126,6 @@ pub fn read_first_form(alloc: Global, bytes: &[u8]) -> Result<Option<Document>, 
 
 /// A text is at most one document of the first form.
 pub fn one_document()
-    ensures { (bytes : List ℕ) (d e : DocumentValue) → IsFirstForm bytes d → IsFirstForm bytes e → d ≡ e }
+    ensures { (bytes : List ℕ) (d e : DocumentValue)
+        → IsFirstForm bytes d → IsFirstForm bytes e → d ≡ e }
 {}

@@ -10,7 +10,8 @@ mod weights;
 mod words;
 
 pub use document::{
-    ConfigText, Document, QueryLine, RuleLine, RuleLines, Symbols, WeightText, WeightsLine,
+    ConfigText, Document, MapText, Numbers, QueryLine, QueryLines, Renaming, Renamings, RuleLine,
+    RuleLines, Symbols, WeightText, WeightsLine,
 };
 pub use first_form::{one_document, read_first_form};
 pub use names::Names;

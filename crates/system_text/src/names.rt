@@ -1,4 +1,5 @@
 ghost use Rattle.std.specs.Prelude.{◌≡◌, ◌<◌, ◌≤◌, ◌++◌, ◌∷◌, [], length, not, if◌then◌else◌, IfOk, OnErr};
+ghost use Rattle.wpds_base.specs.Limits.{most_bytes};
 ghost use Rattle.system_text.specs.Names.{is_among, name as name_at, number_in};
 
 use indexmap::IndexSet;
@@ -6,8 +7,10 @@ use std::alloc::Global;
 use std::marker::Model;
 use wpds_base::OutOfMemory;
 
-/// The names of one class, at most 40,000, each once, in the order in which they were declared. A name's number is its place,
-/// from 0.
+/// The names of one class, each once, in the order in which they were declared. A name's number is how many stand before it.
+///
+/// There may be as many as a text of 4,194,304 bytes can declare, which is more than a document may have: a line that
+/// passes the limit of its class declares its names too.
 #[derive(Drop)]
 pub struct Names {
     texts: IndexSet<Vec<u8>>,
@@ -15,12 +18,13 @@ pub struct Names {
 
 impl Model for Names {
     ghost use Rattle.std.specs.Prelude.{List, ℕ, ◌≤◌, length, map};
+    ghost use Rattle.wpds_base.specs.Limits.{most_bytes};
 
     ghost Value = { List (List ℕ) };
 
     ghost view = { λ n. map (λ text. text.items) n.texts.keys };
 
-    ghost invariant = { λ n. length n.texts.keys ≤ 40000 };
+    ghost invariant = { λ n. length n.texts.keys ≤ most_bytes };
 }
 
 impl Names {
@@ -36,7 +40,7 @@ impl Names {
     /// How many names there are.
     pub fn len(&self) -> usize
         ensures number { result ≡ length self.now }
-        ensures few { result ≤ 40000 }
+        ensures few { result ≤ most_bytes }
     {
         self.texts.len()
     }
@@ -49,11 +53,12 @@ impl Names {
         Some(number as u32)
     }
 
-    /// Adds a name, unless it is there, and answers whether it was added.
+    /// Adds a name, unless it is there, and returns whether it was added.
     pub fn add(&mut self, alloc: Global, name: &[u8]) -> Result<bool, OutOfMemory>
-        requires { length self.old < 40000 }
+        requires { length self.old < most_bytes }
         ensures added { IfOk result (λ added. added ≡ not (is_among self.old name.now)) }
-        ensures names { IfOk result (λ added. self.new ≡ (if added then self.old ++ name.now ∷ [] else self.old)) }
+        ensures names { IfOk result (λ added.
+            self.new ≡ (if added then self.old ++ name.now ∷ [] else self.old)) }
         ensures err { OnErr result (self.new ≡ self.old) }
     {
         let (_, added) = self.texts.insert_full(Vec::from_slice(alloc, name)?)?;

@@ -2,8 +2,9 @@
 
 ghost use Rattle.std.specs.Prelude.{◌≡◌, ◌<◌, ◌≤◌, length, map, position, codes, bytes_eq, IfOk, IfSome, option_map, if◌then◌else◌, Some, None};
 ghost use Rattle.system_text.specs.Lines.{words, texts};
+ghost use Rattle.wpds_base.specs.Limits.{most_symbols};
 ghost use Rattle.system_text.specs.Names.{number_in};
-ghost use Rattle.system_text.specs.Reading.{each, same_words, are_names, names_of, number_before_colon, rule_with as rule_of_parts, rule_of, config_of, sides_of, query_of};
+ghost use Rattle.system_text.specs.private.Reading.{each, same_words, are_names, names_of, number_before_colon, rule_with as rule_of_parts, rule_of, config_of, sides_of, query_of};
 
 use crate::cut::words_of;
 use crate::weights::right_side;
@@ -34,8 +35,9 @@ pub(crate) fn says(alloc: Global, line: &[u8], expected: &[&[u8]]) -> Result<boo
 
 // These words as names, if they are names and none stands twice.
 fn declared(alloc: Global, words: &[&[u8]]) -> Result<Option<Names>, OutOfMemory>
-    requires { length words.now ≤ 40000 }
-    ensures { IfOk result (λ o. o ≡ (if are_names (texts words.now) then Some (texts words.now) else None)) }
+    requires { length words.now ≤ most_symbols }
+    ensures { let ws = texts words.now in
+        IfOk result (λ o. o ≡ (if are_names ws then Some ws else None)) }
 {
     let mut names = Names::new(alloc);
     for word in words {
@@ -57,7 +59,7 @@ pub(crate) fn names(
     most: usize,
     line: &[u8],
 ) -> Result<Option<Names>, OutOfMemory>
-    requires { most ≤ 40000 }
+    requires { most ≤ most_symbols }
     ensures { IfOk result (λ o. o ≡ names_of class.now most (words line.now)) }
 {
     let words = words_of(alloc, line)?;
@@ -94,24 +96,27 @@ fn control_before_colon(controls: &Names, word: &[u8]) -> Option<u32>
     controls.number_of(word.strip_suffix(b":")?)
 }
 
-/// The words of a rule, by what they say, and its weight.
+/// The words of a rule, by what they say.
 #[derive(Drop)]
 struct RuleWords<'t, 'a> {
     control: &'t [u8],
     symbol: &'t [u8],
     to: &'t [u8],
     right: &'a [&'t [u8]],
-    weight: WeightText,
 }
 
-// The rule that these words are.
+// The rule with these words, and a weight.
 fn rule_with(
     alloc: Global,
     controls: &Names,
     symbols: &Names,
     words: &RuleWords,
+    weight: WeightText,
 ) -> Result<Option<RuleLine>, OutOfMemory>
-    ensures { let w = words.now in IfOk result (λ o. o ≡ rule_of_parts controls.now symbols.now w.control.now w.symbol.now w.to.now (texts w.right.now) w.weight) }
+    ensures { let w = words.now in
+        let right = texts w.right.now in
+        IfOk result (λ o. o ≡ rule_of_parts controls.now symbols.now
+        w.control.now w.symbol.now w.to.now right weight) }
 {
     if words.right.len() > MOST_PUSHED {
         return Ok(None);
@@ -131,7 +136,8 @@ fn rule_with(
             symbol,
             to,
             right,
-            weight: words.weight,
+            weight,
+            map: None,
         })),
         None => Ok(None),
     }
@@ -161,9 +167,8 @@ fn rule_from(
         symbol,
         to,
         right,
-        weight,
     };
-    rule_with(alloc, controls, symbols, &words)
+    rule_with(alloc, controls, symbols, &words, weight)
 }
 
 /// The rules of these lines, if each is a rule.
@@ -174,7 +179,8 @@ pub(crate) fn rules(
     symbols: &Names,
     lines: &[&[u8]],
 ) -> Result<Option<RuleLines>, OutOfMemory>
-    ensures { IfOk result (λ o. o ≡ each (rule_of weights controls.now symbols.now) (map (λ line. words line.now) lines.now)) }
+    ensures { let rule = rule_of weights controls.now symbols.now in
+        IfOk result (λ o. o ≡ each rule (map (λ line. words line.now) lines.now)) }
 {
     let mut rules = Vec::new(alloc);
     for line in lines {

@@ -1,4 +1,4 @@
-use crate::{WeightText, WeightsLine, read_first_form};
+use crate::{Names, WeightText, WeightsLine, read_first_form};
 use std::alloc::{AllocError, Global};
 use std::test::Fail;
 use wpds_base::OutOfMemory;
@@ -303,6 +303,21 @@ fn limits(rt: HostRuntime) -> Result<(), Fail> {
 }
 
 #[test]
+fn more_names_than_a_document_has(rt: HostRuntime) -> Result<(), Fail> {
+    let alloc = rt.alloc();
+    let mut names = Names::new(alloc);
+    for k in 0..40_001u32 {
+        assert!(rt; names.len() < 4_194_304);
+        let name = format!(in alloc; "s{k}")?;
+        assert!(rt; names.add(alloc, name.as_bytes())?, "{k}");
+    }
+    assert_eq!(rt; names.len(), 40_001);
+    assert_eq!(rt; names.number_of(b"s40000"), Some(40_000));
+    assert!(rt; !names.add(alloc, b"s7")?);
+    Ok(())
+}
+
+#[test]
 fn long_names(rt: HostRuntime) -> Result<(), Fail> {
     for (length, expected) in [(64, true), (65, false)] {
         let mut text = String::from_str(rt.alloc(), "wpds 1\nweights reach\ncontrols p ")?;
@@ -350,9 +365,13 @@ fn numbers_for_names(rt: HostRuntime) -> Result<(), Fail> {
     assert_eq!(rt; rules[0].right.as_slice(), [1, 2].as_slice());
     assert_eq!(rt; rules[1].control, 1);
     assert_eq!(rt; rules[1].right.as_slice().len(), 0);
-    assert_eq!(rt; document.query.from.control, 1);
-    assert_eq!(rt; document.query.from.stack.as_slice(), [2, 0].as_slice());
-    assert_eq!(rt; document.query.to.control, 0);
-    assert_eq!(rt; document.query.to.stack.as_slice(), [1].as_slice());
+    assert!(rt; rules.iter().all(|rule| rule.map.is_none()));
+    assert_eq!(rt; document.items.len(), 0);
+    let queries = document.queries.as_slice();
+    assert_eq!(rt; queries.len(), 1);
+    assert_eq!(rt; queries[0].from.control, 1);
+    assert_eq!(rt; queries[0].from.stack.as_slice(), [2, 0].as_slice());
+    assert_eq!(rt; queries[0].to.control, 0);
+    assert_eq!(rt; queries[0].to.stack.as_slice(), [1].as_slice());
     Ok(())
 }

@@ -4,8 +4,8 @@ ghost use Rattle.std.specs.Prelude.{◌≡◌, IfOk, option_map};
 ghost use Rattle.system_text.specs.Lines.{words, texts};
 ghost use Rattle.std.specs.List.{list_all};
 ghost use Rattle.wpds_port.specs.Tokens.{is_digit};
-ghost use Rattle.system_text.specs.Numbers.{leads_lawfully, number_of};
-ghost use Rattle.system_text.specs.Reading.{cost_up_to, weights_named, weights_of, number_weight, right_of};
+ghost use Rattle.system_text.specs.private.Numbers.{leads_lawfully, number_of};
+ghost use Rattle.system_text.specs.private.Reading.{cost_up_to, weights_named, weights_of, number_weight, right_of};
 
 use crate::cut::words_of;
 use crate::{WeightText, WeightsLine};

@@ -14,7 +14,7 @@ use Rattle.truth_tables.specs.Grammar.{operator_level, table_of, least_left, The
 use Rattle.truth_tables.specs.Stacks.{operator_of}
 use Rattle.truth_tables.specs.Machine.{Unclosed, Progress, closed, behind_comma, behind_close, behind_mark, operator_waits, after_operator, only, at_last, Wanted, Operand}
 use Rattle.truth_tables.specs.Operands.{Made, operand_of, bracketed, opposite, two_made, three_made, parts}
-use Rattle.truth_tables.specs.Positions.{open_of, stack_of, part_pushed}
+use Rattle.truth_tables.specs.private.Positions.{open_of, stack_of, part_pushed}
 
 pub top_first : (old rest : List OpenPart) (p : OpenPart) → old ≡ rest ++ p ∷ [] → stack_of old ≡ open_of p ∷ stack_of rest
 top_first old rest p h = ap (map open_of) (ap reverse h ∙ reverse-append rest (p ∷ []))

@@ -5,6 +5,7 @@ use Rattle.wpds_port.specs.declared.Mark.{Mark}
 use Rattle.wpds_port.specs.declared.Mark.TheVariants.{Implies, Equal, Differs, Or, Xor, And, Not, Open, Close, Comma}
 use Rattle.wpds_port.specs.declared.Word.{Word}
 use Rattle.wpds_port.specs.declared.Word.TheVariants.{Name, Number, Mark as Sign}
+use Rattle.wpds_base.specs.Limits.{most_table2, most_table3}
 use Rattle.wpds_port.specs.Tokens.{is_lawful_word}
 use Rattle.truth_tables.specs.Formulas.{Formula, Constant as Const, Variable as Var, Opposite, Binary, Ternary}
 pub use Rattle.truth_tables.specs.declared.operator.Operator.{Operator}
@@ -116,8 +117,8 @@ has_large_table (Variable x) = false
 has_large_table (Bracket e) = has_large_table e
 has_large_table (Inverse e) = has_large_table e
 has_large_table (Two o a b) = has_large_table a || has_large_table b
-has_large_table (Table2 n a b) = nat_lt 15 (number_of n) || (has_large_table a || has_large_table b)
-has_large_table (Table3 n a b c) = nat_lt 255 (number_of n) || (has_large_table a || (has_large_table b || has_large_table c))
+has_large_table (Table2 n a b) = nat_lt most_table2 (number_of n) || (has_large_table a || has_large_table b)
+has_large_table (Table3 n a b c) = nat_lt most_table3 (number_of n) || (has_large_table a || (has_large_table b || has_large_table c))
 
 -- ---- the operator tables
 

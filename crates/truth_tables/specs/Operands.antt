@@ -1,6 +1,7 @@
 -- What is made of an expression while it is read: its formula and its depth, as long as it is not too deep.
 use Rattle.std.specs.Prelude.{ℕ, ◌+◌, nat_le, nat_lt, max, if◌then◌else◌, List, Result, Ok, Err}
 pub use Rattle.truth_tables.specs.Formulas.{Formula, Constant as Const, Variable as Var, Opposite, Binary, Ternary}
+use Rattle.wpds_base.specs.Limits.{most_table2, most_table3}
 use Rattle.truth_tables.specs.Grammar.{table_of, number_of}
 use Rattle.truth_tables.specs.Machine.{Parts}
 use Rattle.truth_tables.specs.declared.operand.Unread.{Unread}
@@ -75,8 +76,8 @@ parts limit = record {
   bracket = bracketed limit;
   inverse = opposite limit;
   two = λ o a b. two_made limit (Ok (table_of o)) a b;
-  number2 = table_at_most 15;
-  number3 = table_at_most 255;
+  number2 = table_at_most most_table2;
+  number3 = table_at_most most_table3;
   table2 = two_made limit;
   table3 = three_made limit;
 }

@@ -1,5 +1,5 @@
 -- The text of an expression among the tokens of a line, and what reading it answers.
-use Rattle.std.specs.Prelude.{◌≡◌, IsTrue, ℕ, ◌+◌, ◌-◌, ◌<◌, ◌≤◌, Bool, true, false, not, ◌||◌, ◌&&◌, ◌==◌, List, [], ◌∷◌, drop, map, codes, bytes_eq, Option, Some, None, Result, Ok, Err}
+use Rattle.std.specs.Prelude.{◌≡◌, IsTrue, ℕ, ◌+◌, ◌-◌, ◌<◌, ◌≤◌, Bool, true, false, not, ◌||◌, ◌&&◌, ◌==◌, List, [], ◌∷◌, length, drop, map, codes, bytes_eq, Option, Some, None, Result, Ok, Err}
 use Rattle.wpds_port.specs.declared.Mark.TheVariants.{Comma, Semicolon, Arrow, Open, Close}
 use Rattle.wpds_port.specs.declared.Word.{Word}
 use Rattle.wpds_port.specs.declared.Word.TheVariants.{Name, Mark as Sign}
@@ -58,6 +58,10 @@ IsAnswer text end limit (Read expr next) =
 IsAnswer text end limit Form = (e : Tree) → ¬ IsExpression text e
 IsAnswer text end limit Table = (e : Tree) × IsExpression text e × IsTrue (has_large_table e)
 IsAnswer text end limit Deep = (e : Tree) × IsExpression text e × IsTrue (not (has_large_table e)) × (limit < depth e)
+
+-- the answer on the text that begins at a place
+abbrev pub IsAnswerAt : List Word → ℕ → ℕ → ExprRead → Type 0
+IsAnswerAt words at limit r = let text = text_at words at in IsAnswer text (at + length text) limit r
 
 -- the answer where this was made of a text
 abbrev pub answer_on : Option (Result Built Unread) → ℕ → ExprRead

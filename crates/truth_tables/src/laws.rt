@@ -6,12 +6,15 @@ ghost use Rattle.truth_tables.specs.Grammar.{Tree, Writes};
 ghost use Rattle.truth_tables.specs.Stacks.{tree_of};
 ghost use Rattle.truth_tables.specs.Machine.{Parts, folded, made_of};
 
-/// Words are read as a tree exactly where it groups as the levels say and writes these words. So they are one tree at most.
+/// Words are read as a tree exactly where it groups as the levels say and writes these words. So
+/// they are one tree at most.
 pub fn one_tree()
     ensures { (words : List Word) (e : Tree) → (tree_of words ≡ Some e) ↔ Writes e words }
 {}
 
-/// What is made of words a word at a time is what is made of the tree that they are, whatever is made of its parts.
+/// What is made of words a word at a time is what is made of the tree that they are, whatever is
+/// made of its parts.
 pub fn one_making<X, N>()
-    ensures { (p : Parts X N) (words : List Word) → made_of p words ≡ option_map (folded p) (tree_of words) }
+    ensures { (p : Parts X N) (words : List Word) → made_of p words
+        ≡ option_map (folded p) (tree_of words) }
 {}

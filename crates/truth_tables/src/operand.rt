@@ -100,7 +100,8 @@ pub(crate) fn two(
     left: Operand,
     right: Operand,
 ) -> Result<Operand, OutOfMemory>
-    ensures { IfOk result (λ e. operand_of e ≡ two_made limit table (operand_of left) (operand_of right)) }
+    ensures { IfOk result (λ e. operand_of e
+        ≡ two_made limit table (operand_of left) (operand_of right)) }
 {
     match both(table, both(left, right)) {
         Ok((table, (left, right))) => {
@@ -125,7 +126,8 @@ pub(crate) fn three(
     b: Operand,
     c: Operand,
 ) -> Result<Operand, OutOfMemory>
-    ensures { IfOk result (λ e. operand_of e ≡ three_made limit table (operand_of a) (operand_of b) (operand_of c)) }
+    ensures { IfOk result (λ e. operand_of e
+        ≡ three_made limit table (operand_of a) (operand_of b) (operand_of c)) }
 {
     match both(table, both(a, both(b, c))) {
         Ok((table, (a, (b, c)))) => {

@@ -4,7 +4,7 @@ ghost use Rattle.wpds_port.specs.Tokens.{is_lawful_word};
 ghost use Rattle.truth_tables.specs.Formulas.{has_small_tables};
 ghost use Rattle.truth_tables.specs.Machine.{made_of};
 ghost use Rattle.truth_tables.specs.Operands.{operand_of, parts, raw_formula};
-ghost use Rattle.truth_tables.specs.Texts.{words_of, is_name, brackets_after, is_end_mark, ends_text as ends_text_of, text_within, text_at, IsAnswer, IfRead, answer_on};
+ghost use Rattle.truth_tables.specs.Texts.{words_of, is_name, brackets_after, is_end_mark, ends_text as ends_text_of, text_within, IsAnswer, IsAnswerAt, IfRead, answer_on};
 
 use crate::RawExpr;
 use crate::operand::{Operand, Unread};
@@ -14,7 +14,7 @@ use std::alloc::Global;
 use wpds_base::OutOfMemory;
 use wpds_port::{Mark, Token, Word};
 
-/// What reading an expression answers.
+/// What reading an expression returns.
 #[derive(Debug, Drop)]
 pub enum ExprRead {
     /// The expression, and the place of the first token behind its text.
@@ -93,8 +93,9 @@ fn all_lawful(text: &[Token]) -> bool
 }
 
 // What is made of a text, if it is an expression.
-fn made(alloc: Global, limit: u32, text: &[Token]) -> Result<Option<Operand>, OutOfMemory>
-    ensures { IfOk result (λ o. option_map operand_of o ≡ made_of (parts limit) (words_of text.now)) }
+fn make_operand(alloc: Global, limit: u32, text: &[Token]) -> Result<Option<Operand>, OutOfMemory>
+    ensures { IfOk result (λ o. option_map operand_of o
+        ≡ made_of (parts limit) (words_of text.now)) }
 {
     let mut stack = Vec::new(alloc);
     let mut position = Position::Wanted;
@@ -130,7 +131,7 @@ fn answer(alloc: Global, text: &[Token], next: usize, depth: u32) -> Result<Expr
     if !all_lawful(text) {
         return Ok(ExprRead::Form);
     }
-    let made = made(alloc, depth, text)?;
+    let made = make_operand(alloc, depth, text)?;
     Ok(answer_made(made, next))
 }
 
@@ -140,8 +141,8 @@ fn answer(alloc: Global, text: &[Token], next: usize, depth: u32) -> Result<Expr
 /// word `return`, and at the last token. An expression may be `depth` deep: an atom is 1 deep, and an
 /// operator, `!`, a table and a pair of brackets is 1 deeper than its deepest part.
 ///
-/// A text that is no expression is answered before a table number that is too large, and that before
-/// an expression that is too deep.
+/// A text that is no expression is told before a table number that is too large, and that before an
+/// expression that is too deep.
 pub fn read_expr(
     alloc: Global,
     tokens: &[Token],
@@ -149,7 +150,7 @@ pub fn read_expr(
     depth: u32,
 ) -> Result<ExprRead, OutOfMemory>
     requires { at ≤ length tokens.now }
-    ensures answer { IfOk result (λ r. let text = text_at (words_of tokens.now) at in IsAnswer text (at + length text) depth r) }
+    ensures answer { IfOk result (IsAnswerAt (words_of tokens.now) at depth) }
     ensures tables { IfOk result (λ r. IfRead r (λ e. IsTrue (has_small_tables (raw_formula e)))) }
 {
     let rest = &tokens[at..];

@@ -1,7 +1,7 @@
 ghost use Rattle.std.specs.Prelude.{◌≡◌, IfOk, option_map};
 ghost use Rattle.truth_tables.specs.Machine.{closed, behind_comma, behind_close, behind_mark, behind_name, progress, at_last, Wanted};
 ghost use Rattle.truth_tables.specs.Operands.{operand_of, parts};
-ghost use Rattle.truth_tables.specs.Positions.{stack_of, position_of};
+ghost use Rattle.truth_tables.specs.private.Positions.{stack_of, position_of};
 
 use crate::Operator;
 use crate::operand::{

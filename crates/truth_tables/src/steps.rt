@@ -2,7 +2,7 @@ ghost use Rattle.std.specs.Prelude.{◌≡◌, ℕ, IfOk, List, option_map};
 ghost use Rattle.wpds_port.specs.declared.Mark.TheVariants.{Comma, Close};
 ghost use Rattle.truth_tables.specs.Machine.{behind_comma, behind_close, behind_mark, after_operator, behind_name, behind_number, progress, at_last, Wanted};
 ghost use Rattle.truth_tables.specs.Operands.{operand_of, parts};
-ghost use Rattle.truth_tables.specs.Positions.{stack_of, position_of, part_pushed};
+ghost use Rattle.truth_tables.specs.private.Positions.{stack_of, position_of, progress_of, part_pushed};
 ghost use Rattle.truth_tables.specs.declared.stack.OpenPart.{OpenPart as OpenPartValue};
 
 use crate::Operator;
@@ -14,7 +14,8 @@ use wpds_port::{Mark, Text, Word};
 
 // A name where an operand is wanted.
 fn at_name(alloc: Global, limit: u32, name: &Text) -> Result<Option<Position>, OutOfMemory>
-    ensures { IfOk result (λ o. (ps : List OpenPartValue) → option_map (λ q. position_of q ps) o ≡ behind_name (parts limit) (stack_of ps) name.now) }
+    ensures { IfOk result (λ o. (ps : List OpenPartValue) → progress_of o ps
+        ≡ behind_name (parts limit) (stack_of ps) name.now) }
 {
     let bytes = name.as_bytes();
     if bytes == b"return".as_slice() {
@@ -31,7 +32,8 @@ fn at_name(alloc: Global, limit: u32, name: &Text) -> Result<Option<Position>, O
 
 // A number where an operand is wanted.
 fn at_number(limit: u32, number: &Text) -> Option<Position>
-    ensures { (ps : List OpenPartValue) → option_map (λ q. position_of q ps) result ≡ behind_number (parts limit) (stack_of ps) number.now }
+    ensures { (ps : List OpenPartValue) → progress_of result ps
+        ≡ behind_number (parts limit) (stack_of ps) number.now }
 {
     let digits = number.as_bytes();
     if digits == b"0".as_slice() {
@@ -46,7 +48,8 @@ fn at_number(limit: u32, number: &Text) -> Option<Position>
 // Leaves a part open, behind which an operand is wanted.
 #[tactic(auto, using(crate::proofs::StackLemmas::pushed))]
 fn open(stack: &mut Vec<OpenPart>, part: OpenPart) -> Result<Option<Position>, OutOfMemory>
-    ensures { IfOk result (λ o. option_map (λ q. position_of q stack.new.items) o ≡ part_pushed (stack_of stack.old.items) part) }
+    ensures { IfOk result (λ o. progress_of o stack.new.items
+        ≡ part_pushed (stack_of stack.old.items) part) }
 {
     stack.push(part)?;
     Ok(Some(Position::Wanted))
@@ -59,7 +62,7 @@ fn at_operand(
     stack: &mut Vec<OpenPart>,
     word: &Word,
 ) -> Result<Option<Position>, OutOfMemory>
-    ensures { IfOk result (λ o. option_map (λ q. position_of q stack.new.items) o
+    ensures { IfOk result (λ o. progress_of o stack.new.items
         ≡ progress (parts limit) (Wanted (stack_of stack.old.items)) word.now) }
 {
     match word {
@@ -74,7 +77,7 @@ fn at_operand(
 // A comma behind an operand that is joined.
 #[tactic(auto, using(crate::proofs::StackLemmas::comma_none, crate::proofs::StackLemmas::comma_first2, crate::proofs::StackLemmas::comma_first3, crate::proofs::StackLemmas::comma_second3, crate::proofs::StackLemmas::comma_other))]
 fn at_comma(stack: &mut Vec<OpenPart>, operand: Operand) -> Result<Option<Position>, OutOfMemory>
-    ensures { (limit : ℕ) → IfOk result (λ o. option_map (λ q. position_of q stack.new.items) o
+    ensures { (limit : ℕ) → IfOk result (λ o. progress_of o stack.new.items
         ≡ behind_comma (parts limit) (stack_of stack.old.items) (operand_of operand)) }
 {
     let Some(top) = stack.pop() else {
@@ -96,7 +99,7 @@ fn at_close(
     stack: &mut Vec<OpenPart>,
     operand: Operand,
 ) -> Result<Option<Position>, OutOfMemory>
-    ensures { IfOk result (λ o. option_map (λ q. position_of q stack.new.items) o
+    ensures { IfOk result (λ o. progress_of o stack.new.items
         ≡ behind_close (parts limit) (stack_of stack.old.items) (operand_of operand)) }
 {
     let Some(top) = stack.pop() else {
@@ -120,7 +123,7 @@ fn at_operator(
     operand: Operand,
     operator: Operator,
 ) -> Result<Option<Position>, OutOfMemory>
-    ensures { IfOk result (λ o. option_map (λ q. position_of q stack.new.items) o
+    ensures { IfOk result (λ o. progress_of o stack.new.items
         ≡ after_operator (parts limit) operator (stack_of stack.old.items) (operand_of operand)) }
 {
     let joined = join(alloc, limit, stack, operator.least_left(), operand)?;
@@ -136,7 +139,7 @@ fn behind_operand(
     operand: Operand,
     mark: Mark,
 ) -> Result<Option<Position>, OutOfMemory>
-    ensures { IfOk result (λ o. option_map (λ q. position_of q stack.new.items) o
+    ensures { IfOk result (λ o. progress_of o stack.new.items
         ≡ behind_mark (parts limit) mark (stack_of stack.old.items) (operand_of operand)) }
 {
     if let Some(operator) = Operator::of(mark) {
@@ -163,7 +166,7 @@ pub(crate) fn step(
     position: Position,
     word: &Word,
 ) -> Result<Option<Position>, OutOfMemory>
-    ensures { IfOk result (λ o. option_map (λ q. position_of q stack.new.items) o
+    ensures { IfOk result (λ o. progress_of o stack.new.items
         ≡ progress (parts limit) (position_of position stack.old.items) word.now) }
 {
     match (position, word) {
@@ -197,7 +200,8 @@ pub(crate) fn finish(
     mut stack: Vec<OpenPart>,
     position: Position,
 ) -> Result<Option<Operand>, OutOfMemory>
-    ensures { IfOk result (λ o. option_map operand_of o ≡ at_last (parts limit) (position_of position stack.items)) }
+    ensures { IfOk result (λ o. option_map operand_of o
+        ≡ at_last (parts limit) (position_of position stack.items)) }
 {
     let Position::Behind(operand) = position else {
         return Ok(None);

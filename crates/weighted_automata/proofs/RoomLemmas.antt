@@ -4,12 +4,13 @@ use Rattle.std.specs.Prelude.{Option, None, Some, cond, option_map, ◌||◌, �
 use Rattle.std.proofs.Common.{inl, inr}
 use Rattle.std.proofs.lemmas.Bool.{cond-true, cond-false, cond_both, cases_Bool, or_left, or_right, or_cases}
 use Rattle.std.proofs.lemmas.Option.{same_Some}
-use Rattle.std.proofs.lemmas.List.{append_assoc, take_more}
+use Rattle.std.proofs.lemmas.List.{append_assoc, append_cancel_left, take_more}
+use Rattle.std.proofs.Math.Seq.{take-append_seam}
 use Rattle.weighted_automata.specs.declared.place.Place.{Place}
 use Rattle.weighted_automata.specs.declared.transitions.Entry.{Entry}
 use Rattle.weighted_automata.specs.Places.{same_place, has_place}
 use Rattle.weighted_automata.specs.Entries.{index_where, lowered, places_of, entry_at}
-use Rattle.weighted_automata.specs.Room.{without}
+use Rattle.weighted_automata.specs.private.Room.{without}
 use Rattle.weighted_automata.proofs.PlaceLemmas.{same_place_is, same_place_itself}
 
 -- a place that is found is there, and the list without it is what is left
@@ -285,3 +286,13 @@ module _ {S W Map : Type 0} (x : Place) (ts : List (Entry S W Map)) (waiting : L
   pub room_if_missed : is_some (index_where (λ (t : Entry S W Map). same_place t.place x) ts) ≡ false → has_place x (places_of ts ++ waiting) ≡ is_some (index_where (λ y. same_place y x) waiting)
   room_if_missed e = has_place-append x (places_of ts) waiting
       ∙ ap (λ b. b || has_place x waiting) (sym (some_index (λ (t : Entry S W Map). t.place) x ts) ∙ e) ∙ sym (some_waiting x waiting)
+
+-- places added behind places added
+pub then_more : (xs ys zs : List Place) → (more : List Place) × (ys ≡ xs ++ more) → (more : List Place) × (zs ≡ ys ++ more) → (more : List Place) × (zs ≡ xs ++ more)
+then_more xs ys zs first second = (first.0 ++ second.0, second.1 ∙ ap (λ l. l ++ second.0) first.1 ∙ append_assoc xs first.0 second.0)
+
+-- what waited before is what waits at first
+pub waited_before : (places waiting before : List Place) → (more : List Place) × (places ++ waiting ≡ (places ++ before) ++ more) → take (length before) waiting ≡ before
+waited_before places waiting before added =
+    let same : waiting ≡ before ++ added.0 = append_cancel_left places waiting (before ++ added.0) (added.1 ∙ append_assoc places before added.0) in
+    ap (take (length before)) same ∙ take-append_seam before added.0

@@ -1,3 +1,3 @@
 pub mod Places
 pub mod Entries
-pub mod Room
+pub mod private

@@ -1,6 +1,6 @@
 ghost use Rattle.std.specs.Prelude.{◌≡◌, ◌+◌, ◌≤◌, ◌⊎◌, ◌++◌, [], ◌∷◌, length, vec_len, vec_capacity, IsTrue, IsOk, OnOk, OnErr, option_map, slice_set};
 ghost use Rattle.weighted_automata.specs.Places.{same_place, has_place};
-ghost use Rattle.weighted_automata.specs.Room.{without};
+ghost use Rattle.weighted_automata.specs.private.Room.{without};
 ghost use Rattle.weighted_automata.specs.Entries.{index_where};
 
 use crate::{Entry, Place};
@@ -41,14 +41,15 @@ fn make_space<S: Semiring>(
     ensures entries { entries.new.items ≡ entries.old.items }
     ensures len { vec_len entries.new ≡ vec_len entries.old }
     ensures capacity { vec_capacity entries.old ≤ vec_capacity entries.new }
-    ensures ok { OnOk result (vec_len entries.new + length waiting.now.items + 1 ≤ vec_capacity entries.new) }
+    ensures ok { OnOk result (
+        vec_len entries.new + length waiting.now.items + 1 ≤ vec_capacity entries.new) }
 {
     let wanted = waiting.len().checked_add(1).ok_or(OutOfMemory)?;
     entries.reserve(wanted)?;
     Ok(())
 }
 
-/// Adds a transition, and keeps room for each place that waits. Where its own place waited, there is room.
+/// Adds a transition, and keeps room for each place that waits. If its own place waited, there is room.
 pub(crate) fn add<S: Semiring>(
     entries: &mut Vec<Entry<S>>,
     waiting: &mut Vec<Place>,

@@ -1,5 +1,6 @@
 use crate::{
-    Label, Place, Transitions, lowering_changes_one_place, places_are_told_apart, places_stand_once,
+    Label, Place, Transitions, lowering_changes_one_place, places_are_told_apart,
+    places_stand_once, transitions_stand_at_their_places,
 };
 use semiring_laws::Reach;
 use std::test::Fail;
@@ -75,6 +76,7 @@ fn room_first(rt: HostRuntime) -> Result<(), Fail> {
     assert!(rt; !transitions.has_room(place(0, B, 1)));
     places_are_told_apart();
     places_stand_once::<Reach>();
+    transitions_stand_at_their_places::<Reach>();
     lowering_changes_one_place::<Reach>();
     Ok(())
 }

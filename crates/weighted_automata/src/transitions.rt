@@ -1,6 +1,6 @@
-ghost use Rattle.std.specs.Prelude.{◌≡◌, ◌<◌, ◌++◌, [], ◌∷◌, length, slice_get, filter, IsTrue, IsOk, IsSome, IfOk, OnOk, OnErr, IfSome, option_and_then};
+ghost use Rattle.std.specs.Prelude.{◌≡◌, ◌<◌, ◌++◌, List, [], ◌∷◌, length, slice_get, filter, IsTrue, IsOk, IsSome, IfOk, OnOk, OnErr, IfSome, option_and_then};
 ghost use Rattle.weighted_automata.specs.declared.place.Place.{Place as PlaceValue};
-ghost use Rattle.weighted_automata.specs.Places.{has_place};
+ghost use Rattle.weighted_automata.specs.Places.{has_place, AreAmong};
 ghost use Rattle.weighted_automata.specs.Entries.{entry_at, index_at, lowered, indices_from, is_from, is_into, HasDistinctPlaces};
 
 use crate::room::{add, position, replace, wait};
@@ -35,9 +35,13 @@ impl<S: Semiring> Model for Transitions<S> {
 
     ghost Value = { TransitionList S S.W S.Ret };
 
-    ghost view = { λ t. record { transitions = t.entries.items; room = places_of t.entries.items ++ t.waiting.items } };
+    ghost view = { λ t. record {
+      transitions = t.entries.items;
+      room = places_of t.entries.items ++ t.waiting.items;
+    } };
 
-    ghost invariant = { λ t. HasDistinctPlaces t.entries.items × (vec_len t.entries + length t.waiting.items ≤ vec_capacity t.entries) };
+    ghost invariant = { λ t. HasDistinctPlaces t.entries.items
+        × (vec_len t.entries + length t.waiting.items ≤ vec_capacity t.entries) };
 }
 
 impl<S: Semiring> Transitions<S> {
@@ -70,7 +74,8 @@ impl<S: Semiring> Transitions<S> {
     /// Where the transition at a place stands.
     pub fn find(&self, place: Place) -> Option<u64>
         ensures index { result ≡ index_at place self.now.transitions }
-        ensures entry { option_and_then (slice_get self.now.transitions) result ≡ entry_at place self.now.transitions }
+        ensures entry { option_and_then (slice_get self.now.transitions) result
+            ≡ entry_at place self.now.transitions }
     {
         for (i, entry) in self.entries.iter().enumerate() {
             if entry.place.is(place) {
@@ -82,8 +87,10 @@ impl<S: Semiring> Transitions<S> {
 
     /// Where the `k`-th transition stands, counted from 0, of those that go from a state and read a label.
     pub fn from_state(&self, state: u32, label: Label, k: usize) -> Option<u64>
-        ensures index { result ≡ slice_get (indices_from (is_from state label) 0 self.now.transitions) k }
-        ensures entry { option_and_then (slice_get self.now.transitions) result ≡ slice_get (filter (is_from state label) self.now.transitions) k }
+        ensures index { result
+            ≡ slice_get (indices_from (is_from state label) 0 self.now.transitions) k }
+        ensures entry { option_and_then (slice_get self.now.transitions) result
+            ≡ slice_get (filter (is_from state label) self.now.transitions) k }
     {
         let mut left = k;
         for (i, entry) in self.entries.iter().enumerate() {
@@ -100,7 +107,8 @@ impl<S: Semiring> Transitions<S> {
     /// Where the `k`-th transition stands, counted from 0, of those that go to a state.
     pub fn into_state(&self, state: u32, k: usize) -> Option<u64>
         ensures index { result ≡ slice_get (indices_from (is_into state) 0 self.now.transitions) k }
-        ensures entry { option_and_then (slice_get self.now.transitions) result ≡ slice_get (filter (is_into state) self.now.transitions) k }
+        ensures entry { option_and_then (slice_get self.now.transitions) result
+            ≡ slice_get (filter (is_into state) self.now.transitions) k }
     {
         let mut left = k;
         for (i, entry) in self.entries.iter().enumerate() {
@@ -115,7 +123,7 @@ impl<S: Semiring> Transitions<S> {
     }
 
     /// Replaces the weight and the node of a place, or adds the place last, and says where it stands.
-    /// It is refused only for want of memory, and never at a place that has a transition or room.
+    /// It is refused only when out of memory, and never at a place that has a transition or room.
     pub fn lower(
         &mut self,
         _alloc: Global,
@@ -123,13 +131,14 @@ impl<S: Semiring> Transitions<S> {
         weight: S::W,
         node: u64,
     ) -> Result<u64, OutOfMemory>
-        ensures ok { OnOk result (self.new.transitions ≡ lowered place weight node self.old.transitions) }
+        ensures ok { OnOk result (
+            self.new.transitions ≡ lowered place weight node self.old.transitions) }
         ensures index { IfOk result (λ k. index_at place self.new.transitions ≡ Some k) }
         ensures err { OnErr result (self.new.transitions ≡ self.old.transitions) }
-        ensures kept { (x : PlaceValue) → IsTrue (has_place x self.old.room) → IsTrue (has_place x self.new.room) }
+        ensures kept { AreAmong self.old.room self.new.room }
         ensures present { IsSome (entry_at place self.old.transitions) → IsOk result }
         ensures room { IsTrue (has_place place self.old.room) → IsOk result }
-        ensures only { (x : PlaceValue) → IsTrue (has_place x self.new.room) → IsTrue (has_place x (place ∷ self.old.room)) }
+        ensures only { AreAmong self.new.room (place ∷ self.old.room) }
         ensures room_stays { OnErr result (self.new.room ≡ self.old.room) }
     {
         let entry = Entry {
@@ -150,12 +159,29 @@ impl<S: Semiring> Transitions<S> {
         }
     }
 
-    /// Makes room for these places. It is refused only for want of memory; some of them may have room then.
+    /// Makes room for these places. It is refused only when out of memory, and changes nothing then.
     pub fn reserve(&mut self, _alloc: Global, places: &[Place]) -> Result<(), OutOfMemory>
         ensures transitions { self.new.transitions ≡ self.old.transitions }
-        ensures named { OnOk result ((x : PlaceValue) → IsTrue (has_place x places.now) → IsTrue (has_place x self.new.room)) }
-        ensures kept { (x : PlaceValue) → IsTrue (has_place x self.old.room) → IsTrue (has_place x self.new.room) }
-        ensures only { (x : PlaceValue) → IsTrue (has_place x self.new.room) → IsTrue (has_place x (places.now ++ self.old.room)) }
+        ensures named { OnOk result (AreAmong places.now self.new.room) }
+        ensures kept { AreAmong self.old.room self.new.room }
+        ensures only { AreAmong self.new.room (places.now ++ self.old.room) }
+        ensures room_stays { OnErr result (self.new.room ≡ self.old.room) }
+    {
+        let before = self.waiting.len();
+        let reserved = self.make_rooms(places);
+        if reserved.is_err() {
+            self.waiting.truncate(before);
+        }
+        reserved
+    }
+
+    // Makes room for these places, up to the first that is refused.
+    fn make_rooms(&mut self, places: &[Place]) -> Result<(), OutOfMemory>
+        ensures transitions { self.new.transitions ≡ self.old.transitions }
+        ensures named { OnOk result (AreAmong places.now self.new.room) }
+        ensures kept { AreAmong self.old.room self.new.room }
+        ensures only { AreAmong self.new.room (places.now ++ self.old.room) }
+        ensures more { (more : List PlaceValue) × (self.new.room ≡ self.old.room ++ more) }
     {
         for place in places {
             self.make_room(*place)?;
@@ -174,8 +200,9 @@ impl<S: Semiring> Transitions<S> {
     fn make_room(&mut self, place: Place) -> Result<(), OutOfMemory>
         ensures transitions { self.new.transitions ≡ self.old.transitions }
         ensures named { OnOk result (IsTrue (has_place place self.new.room)) }
-        ensures kept { (x : PlaceValue) → IsTrue (has_place x self.old.room) → IsTrue (has_place x self.new.room) }
-        ensures only { (x : PlaceValue) → IsTrue (has_place x self.new.room) → IsTrue (has_place x (place ∷ self.old.room)) }
+        ensures more { (more : List PlaceValue) × (self.new.room ≡ self.old.room ++ more) }
+        ensures kept { AreAmong self.old.room self.new.room }
+        ensures only { AreAmong self.new.room (place ∷ self.old.room) }
     {
         if self.has_room(place) {
             return Ok(());

@@ -4,7 +4,7 @@ use Rattle.std.specs.Prelude.{Option, None, Some, IfSome, is_some, ◌||◌, opt
 use Rattle.std.specs.List.{AllByRecursion}
 use Rattle.std.specs.Prelude.{All}
 use Rattle.std.proofs.lemmas.List.Elements.{All-from_recursion}
-use Rattle.witness_graph.specs.Walking.{KnowsPlaces}
+use Rattle.witness_graph.specs.private.Walking.{KnowsPlaces}
 use Rattle.std.proofs.lemmas.List.{append-nil, append_assoc, length_push, length-take-le, take-append-drop, take_more, map-append, length-map, get_or_append_left, get_or_push}
 use Rattle.std.proofs.lemmas.Bool.{cases_lt, cases_eq}
 use Rattle.std.proofs.lemmas.Option.{same_Some, slice_get-map, slice_get_within, slice_get-get_or}

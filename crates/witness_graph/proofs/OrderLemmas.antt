@@ -1,5 +1,5 @@
 -- The post-order has each node that is reached, once.
-use Rattle.std.proofs.Common.{◌≡◌, ℕ, zero, suc, ◌<◌, true, false, List, [], ◌∷◌, ◌++◌, fold, refl, sym, ap, ◌∙◌, subst, inl, inr, arith}
+use Rattle.std.proofs.Common.{◌≡◌, ℕ, zero, suc, ◌<◌, true, false, List, [], ◌∷◌, ◌++◌, fold, refl, sym, ap, ◌∙◌, subst, ◌⊎◌, inl, inr, arith}
 use Rattle.std.specs.Prelude.{None, Some, is_some, option_map, nat_eq}
 use Rattle.std.specs.List.{AllByRecursion}
 use Rattle.std.proofs.lemmas.Bool.{cond_both, cond-true, cond-false, cases_Bool, cases_eq, eqb-true, eq-eqb}
@@ -8,7 +8,8 @@ use Rattle.witness_graph.specs.declared.node.Side.TheVariants.{Pre}
 use Rattle.witness_graph.specs.Nodes.{node_at, named, AreNodes}
 use Rattle.std.specs.Prelude.{length, slice_get, ◌+◌, ◌-◌}
 use Rattle.std.proofs.lemmas.List.{length_push}
-use Rattle.witness_graph.specs.Order.{place_of, is_listed, walk, post_order, Reaches, itself, along, IsOnce}
+use Rattle.witness_graph.specs.Order.{place_of, is_listed, walk, post_order, Reaches, itself, along}
+use Rattle.wpds_base.specs.Lists.{IsIn, IsOnce}
 use Rattle.witness_graph.proofs.NodeLemmas.{all_weaker}
 use Rattle.witness_graph.proofs.PlaceLemmas.{place_push_other}
 use Rattle.witness_graph.proofs.WalkLemmas.{names, walk_step, walk_none, walk_lists, walk_by, fold_keeps}
@@ -31,13 +32,26 @@ all_listed Q (x ∷ xs) k h e = elim (cases_Bool (nat_eq x k)) [
       (sym (some_next (place_of k xs)) ∙ ap is_some (sym (cond-false (nat_eq x k) (Some 0) (option_map (λ i. i + 1) (place_of k xs)) differs)) ∙ e)
 ]
 
+-- one of a list with one number more is one of the list, or that number
+in_push : (xs : List ℕ) (k j : ℕ) → IsIn j (xs ++ k ∷ []) → IsIn j xs ⊎ (k ≡ j)
+in_push [] k j (inl same) = inr same
+in_push [] k j (inr none) = absurd none
+in_push (x ∷ xs) k j (inl here) = inl (inl here)
+in_push (x ∷ xs) k j (inr more) = elim (in_push xs k j more) [
+  | inl there ↦ inl (inr there)
+  | inr same ↦ inr same
+]
+
 -- a list with one more number that it lacks
 once_push : (xs : List ℕ) (k : ℕ) → IsOnce xs → place_of k xs ≡ None → IsOnce (xs ++ k ∷ [])
-once_push [] k once new = (refl, tt)
+once_push [] k once new = (λ none. none, tt)
 once_push (x ∷ xs) k once new = elim (cases_Bool (nat_eq x k)) [
   | inl is ↦ let f : Some 0 ≡ None = sym (cond-true (nat_eq x k) (Some 0) (option_map (λ i. i + 1) (place_of k xs)) is) ∙ new in cc
   | inr differs ↦ (
-    ap is_some (place_push_other x k xs (λ e. let f : true ≡ false = sym (eq-eqb x k (sym e)) ∙ differs in cc)) ∙ once.0,
+    λ more. elim (in_push xs k x more) [
+      | inl before ↦ once.0 before
+      | inr same ↦ let f : true ≡ false = sym (eq-eqb x k (sym same)) ∙ differs in cc
+    ],
     once_push xs k once.1 (none_next (place_of k xs) (sym (cond-false (nat_eq x k) (Some 0) (option_map (λ i. i + 1) (place_of k xs)) differs) ∙ new)),
   )
 ]

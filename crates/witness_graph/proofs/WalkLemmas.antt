@@ -8,7 +8,7 @@ use Rattle.std.proofs.lemmas.List.{length_push}
 use Rattle.witness_graph.specs.declared.node.Node.{Node}
 use Rattle.witness_graph.specs.Nodes.{node_at, named, AreNodes}
 use Rattle.witness_graph.specs.Order.{place_of, is_listed, walk, post_order}
-use Rattle.witness_graph.specs.Walking.{first_new, finished, Falls, IsWalking, lacks, unlisted}
+use Rattle.witness_graph.specs.private.Walking.{first_new, finished, Falls, IsWalking, lacks, unlisted}
 use Rattle.witness_graph.proofs.NodeLemmas.{all_weaker, names_earlier}
 use Rattle.witness_graph.proofs.PlaceLemmas.{place_push_new, place_push_other, none_is, listed_more, listed_new}
 

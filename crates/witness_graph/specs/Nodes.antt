@@ -10,6 +10,11 @@ pub record Nodes : Type 0 where
   pub nodes : List Node
   pub spare : ℕ
 
+-- what an overlay is seen as: its graph, and the graph's nodes with those that were added
+pub record Overlaid : Type 0 where
+  pub graph : Nodes
+  pub nodes : List Node
+
 -- a node, the empty run past the end
 abbrev pub node_at : List Node → ℕ → Node
 node_at nodes k = slice_index_or nodes k Start

@@ -1,5 +1,5 @@
 -- The nodes reached from one, in post-order, and their listing.
-use Rattle.std.specs.Prelude.{◌≡◌, ℕ, zero, suc, ◌+◌, Bool, false, IsTrue, List, [], ◌∷◌, ◌++◌, map, fold, nat_eq, Option, None, Some, is_some, option_map, option_and_then, if◌then◌else◌}
+use Rattle.std.specs.Prelude.{ℕ, zero, suc, ◌+◌, Bool, IsTrue, List, [], ◌∷◌, ◌++◌, map, fold, nat_eq, Option, None, Some, is_some, option_map, option_and_then, if◌then◌else◌}
 use Rattle.witness_graph.specs.declared.node.Node.{Node}
 use Rattle.witness_graph.specs.declared.node.Node.TheVariants.{Start, Lower}
 use Rattle.witness_graph.specs.Nodes.{node_at, named}
@@ -38,8 +38,3 @@ listing_of nodes root = listed nodes (post_order nodes root)
 pub data Reaches (nodes : List Node) (root : ℕ) : ℕ → Type 0 where
   itself : Reaches nodes root root
   along : (j k : ℕ) → Reaches nodes root j → IsTrue (is_listed (named (node_at nodes j)) k) → Reaches nodes root k
-
--- no number stands twice
-abbrev pub IsOnce : List ℕ → Type 0
-IsOnce [] = Unit {0}
-IsOnce (x ∷ xs) = (is_listed xs x ≡ false) × IsOnce xs

@@ -6,7 +6,7 @@ ghost use Rattle.witness_graph.specs.Order.{renamed, listing_of};
 ghost use Rattle.witness_graph.specs.Runs.{runs_of};
 ghost use Rattle.witness_graph.specs.declared.node.Side.{Side as SideValue};
 ghost use Rattle.witness_graph.specs.Order as order;
-ghost use Rattle.witness_graph.specs.Walking.{KnowsPlaces, first_new};
+ghost use Rattle.witness_graph.specs.private.Walking.{KnowsPlaces, first_new};
 
 use crate::Node;
 use crate::parts::NodeParts;
@@ -105,7 +105,8 @@ pub(crate) fn list_nodes(
     requires nodes { AreNodes nodes.now }
     ensures list { IfOk result (λ v. v.items ≡ listing_of nodes.now root) }
     ensures listing { IfOk result (λ v. IsListing v.items) }
-    ensures runs { IfOk result (λ v. (side : SideValue) → runs_of side v.items (length v.items - 1) ≡ runs_of side nodes.now root) }
+    ensures runs { IfOk result (λ v. (side : SideValue) →
+        runs_of side v.items (length v.items - 1) ≡ runs_of side nodes.now root) }
 {
     let visited = post_order(alloc, nodes, root)?;
     let list = renumber(alloc, nodes, &visited.order, &visited.places)?;
@@ -120,7 +121,8 @@ fn renumber(
     places: &HashMap<u64, u64>,
 ) -> Result<Vec<Node>, OutOfMemory>
     requires { All (λ k. k < length nodes.now) order.now }
-    ensures { IfOk result (λ v. v.items ≡ map (λ k. renamed (λ j. get nat_eq places.now j) (node_at nodes.now k)) order.now) }
+    ensures { IfOk result (λ v. v.items
+        ≡ map (λ k. renamed (λ j. get nat_eq places.now j) (node_at nodes.now k)) order.now) }
 {
     let mut list = Vec::new(alloc);
     for number in order {

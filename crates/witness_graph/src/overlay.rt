@@ -1,7 +1,7 @@
 ghost use Rattle.std.specs.Prelude.{◌≡◌, ◌<◌, ◌-◌, ◌++◌, [], ◌∷◌, length, IfOk, OnOk, OnErr};
 ghost use Rattle.witness_graph.specs.Nodes.{AreNodes, IsNodeAt};
 ghost use Rattle.witness_graph.specs.Order.{listing_of};
-ghost use Rattle.witness_graph.specs.Runs.{runs_of};
+ghost use Rattle.witness_graph.specs.Runs.{runs_of, listing_runs};
 
 use crate::order::list_nodes;
 use crate::parts::NodeParts;
@@ -18,12 +18,12 @@ pub struct Overlay<'g> {
 }
 
 impl<'g> Model for Overlay<'g> {
-    ghost use Rattle.std.specs.Prelude.{◌-◌, ◌++◌, vec_len, vec_capacity};
-    ghost use Rattle.witness_graph.specs.Nodes.{AreNodes, Nodes};
+    ghost use Rattle.std.specs.Prelude.{◌++◌};
+    ghost use Rattle.witness_graph.specs.Nodes.{AreNodes, Overlaid};
 
-    ghost Value = { Nodes };
+    ghost Value = { Overlaid };
 
-    ghost view = { λ o. record { side = o.base.now.side; nodes = o.base.now.nodes ++ o.added.items; spare = vec_capacity o.added - vec_len o.added } };
+    ghost view = { λ o. record { graph = o.base.now; nodes = o.base.now.nodes ++ o.added.items } };
 
     ghost invariant = { λ o. AreNodes (o.base.now.nodes ++ o.added.items) };
 }
@@ -31,9 +31,10 @@ impl<'g> Model for Overlay<'g> {
 impl<'g> Overlay<'g> {
     /// The graph's nodes alone. It takes no memory.
     pub fn new(alloc: Global, base: &'g Graph) -> Overlay<'g>
-        ensures side { result.side ≡ base.now.side }
+        ensures graph { result.graph ≡ base.now }
         ensures nodes { result.nodes ≡ base.now.nodes }
     {
+        // brings the fact that the graph's nodes are nodes
         let _count = base.len();
         Overlay {
             base,
@@ -41,20 +42,35 @@ impl<'g> Overlay<'g> {
         }
     }
 
+    /// The graph.
+    pub fn graph(&self) -> &'g Graph
+        ensures { result.now ≡ self.now.graph }
+    {
+        self.base
+    }
+
+    /// The nodes that were added.
+    pub fn added(&self) -> &[Node]
+        ensures added { self.now.nodes ≡ self.now.graph.nodes ++ result.now }
+        ensures nodes { AreNodes self.now.nodes }
+    {
+        &self.added
+    }
+
     /// Which way its runs go.
     pub fn side(&self) -> Side
-        ensures { result ≡ self.now.side }
+        ensures { result ≡ self.now.graph.side }
     {
         self.base.side()
     }
 
-    /// Adds a node, and answers its number. It is refused only for want of memory.
+    /// Adds a node, and returns its number. It is refused only when out of memory.
     pub fn push_node(&mut self, _alloc: Global, node: Node) -> Result<u64, OutOfMemory>
         requires { IsNodeAt (length self.old.nodes) node }
         ensures number { IfOk result (λ k. k ≡ length self.old.nodes) }
         ensures ok { OnOk result (self.new.nodes ≡ self.old.nodes ++ node ∷ []) }
         ensures err { OnErr result (self.new.nodes ≡ self.old.nodes) }
-        ensures side { self.new.side ≡ self.old.side }
+        ensures graph { self.new.graph ≡ self.old.graph }
     {
         let before = self.added.len() as u64;
         let number = self.base.len().checked_add(before).ok_or(OutOfMemory)?;
@@ -65,9 +81,10 @@ impl<'g> Overlay<'g> {
     /// The listing of a node, as [`Graph::listing`] gives it.
     pub fn listing(&self, alloc: Global, root: u64) -> Result<Listing, OutOfMemory>
         requires { root < length self.now.nodes }
-        ensures side { IfOk result (λ l. l.side ≡ self.now.side) }
+        ensures side { IfOk result (λ l. l.side ≡ self.now.graph.side) }
         ensures nodes { IfOk result (λ l. l.nodes ≡ listing_of self.now.nodes root) }
-        ensures runs { IfOk result (λ l. runs_of l.side l.nodes (length l.nodes - 1) ≡ runs_of self.now.side self.now.nodes root) }
+        ensures runs { IfOk result (λ l.
+            listing_runs l ≡ runs_of self.now.graph.side self.now.nodes root) }
     {
         let parts = NodeParts::new(self.base.as_slice(), &self.added);
         let nodes = list_nodes(alloc, &parts, root)?;

@@ -7,14 +7,14 @@ use Rattle.semiring_laws.specs.Semiring.{Operations}
 use Rattle.weighted_automata.specs.declared.place.Place.{Place}
 use Rattle.weighted_automata.proofs.CallerLemmas.{same_place_is}
 use Rattle.pushdown_rules.specs.Pushdown.{Pushdown}
-use Rattle.saturation_core.specs.declared.event.Event.{Event}
-use Rattle.saturation_core.specs.declared.event.Event.TheVariants.{Take, Settle}
-use Rattle.saturation_core.specs.declared.opening.Opening.{Opening}
-use Rattle.saturation_core.specs.Jobs.{Tables}
-use Rattle.saturation_core.specs.States.{CoreState, step, replay, is_front, can_take, take, hand_at}
-use Rattle.saturation_core.specs.Books.{BookValue, opened_by, replayed}
+use Rattle.saturation_laws.specs.declared.event.Event.{Event}
+use Rattle.saturation_laws.specs.declared.event.Event.TheVariants.{Take, Settle}
+use Rattle.saturation_laws.specs.declared.opening.Opening.{Opening}
+use Rattle.saturation_laws.specs.Jobs.{Tables}
+use Rattle.saturation_laws.specs.States.{CoreState, step, replay, is_front, can_take, take, hand_at}
+use Rattle.saturation_laws.specs.Books.{BookValue, opened_by, replayed}
 use Rattle.worker_pool.specs.Alone.{HasBase, IsAlone, turns_of}
-use Rattle.saturation_core.specs.Ways.{Way}
+use Rattle.saturation_laws.specs.Ways.{Way}
 
 -- what comes first, and what comes of it
 then_parts : {A B : Type 0} (f : A → Option B) (o : Option A) (y : B) → option_and_then f o ≡ Some y → (x : A) × (o ≡ Some x) × (f x ≡ Some y)

@@ -10,21 +10,21 @@ use Rattle.semiring_laws.specs.Semiring.{Operations, IsSemiring}
 use Rattle.weighted_automata.specs.declared.place.Place.{Place}
 use Rattle.weighted_automata.specs.Entries.{entry_at}
 use Rattle.pushdown_rules.specs.Pushdown.{Pushdown}
-use Rattle.saturation_core.specs.declared.event.Event.TheVariants.{Take, Settle}
-use Rattle.saturation_core.specs.declared.job.Job.{Job}
-use Rattle.saturation_core.specs.declared.hand.Holding.{Holding}
-use Rattle.saturation_core.specs.Jobs.{Tables}
-use Rattle.saturation_core.specs.States.{CoreState, Change, hand_at, weight_at, lower_state, apply, apply_all, change_of, apply_jobs, jobs_at, settle, step, replay, is_front}
-use Rattle.saturation_core.specs.Openings.{pops, with_edge, with_edges, bare, opening_state}
-use Rattle.saturation_core.specs.Directions.{AgreeOn}
-use Rattle.saturation_core.specs.Bound.{takes, gives}
-use Rattle.saturation_core.specs.Books.{BookValue, NoHand, Makes, IsBook, opened_by}
-use Rattle.saturation_core.specs.Worked.{Worked}
-use Rattle.saturation_core.specs.Settled.{jobs_of, jobs_out, IsWorkedBy, CanSettle}
-use Rattle.saturation_core.proofs.CallerLemmas.{none_out, event_keeps, book_takes}
+use Rattle.saturation_laws.specs.declared.event.Event.TheVariants.{Take, Settle}
+use Rattle.saturation_laws.specs.declared.job.Job.{Job}
+use Rattle.saturation_laws.specs.declared.holding.Holding.{Holding}
+use Rattle.saturation_laws.specs.Jobs.{Tables}
+use Rattle.saturation_laws.specs.States.{CoreState, Change, hand_at, weight_at, lower_state, apply, apply_all, change_of, apply_jobs, jobs_at, settle, step, replay, is_front}
+use Rattle.saturation_laws.specs.Openings.{pops, with_edge, with_edges, bare, opening_state}
+use Rattle.saturation_laws.specs.Directions.{AgreeOn}
+use Rattle.saturation_laws.specs.Bound.{takes, gives}
+use Rattle.saturation_laws.specs.Books.{BookValue, NoHand, Makes, IsBook, opened_by}
+use Rattle.saturation_core.specs.DoneValue.{DoneValue}
+use Rattle.saturation_core.specs.Settled.{jobs_of, jobs_out, CanSettle}
+use Rattle.saturation_laws.proofs.CallerLemmas.{none_out, event_keeps, book_takes}
 use Rattle.worker_pool.specs.Alone.{HasTurned, HasBase, IsAlone, turns_of}
 use Rattle.worker_pool.proofs.AloneLemmas.{took}
-use Rattle.saturation_core.specs.Ways.{Way, IsLawful}
+use Rattle.saturation_laws.specs.Ways.{Way, IsLawful}
 
 set_none : {X : Type 0} (hs : List (Option X)) (i : ℕ) → get_or (set hs i None) i None ≡ None
 set_none hs i = elim (cases_lt i (length hs)) [
@@ -112,15 +112,15 @@ falls n m t u same more within = omega arith
 
 module _ {S W Map D : Type 0} (operations : S → Operations W Map) (way : Way S W Map D) where
   -- a book can settle what was worked out of the hand that it gave last
-  pub can_settle : (old mid : BookValue S W Map D) (x : Place) → Makes operations way old (Take 0 x) mid → (w : Worked S W Map) → w.seat ≡ 0
+  pub can_settle : (old mid : BookValue S W Map D) (x : Place) → Makes operations way old (Take 0 x) mid → (w : DoneValue S W Map D) → w.seat ≡ 0
       → w.jobs ≡ jobs_at (operations old.system.semiring) (way.tables old.direction old.system) (entry_at x old.state.transitions) old.state.transitions
-      → w.system ≡ mid.system → (e : D) → e ≡ mid.direction → IsWorkedBy way e w → CanSettle way mid w
-  can_settle old mid x made w seat jobs system e direction worked =
+      → w.system ≡ mid.system → w.direction ≡ mid.direction → CanSettle way mid w
+  can_settle old mid x made w seat jobs system direction =
       let P : Pushdown S W Map → Type 0 = λ p. AllByRecursion (AgreeOn mid.system p) w.jobs in
       record {
         hand = ap (λ k. jobs_out k mid.state.hands) seat ∙ ap (λ (b : BookValue S W Map D). jobs_out 0 b.state.hands) made.2
             ∙ ap (option_map jobs_of) (hand_taken (operations old.system.semiring) (way.tables old.direction old.system) 0 x old.state made.0 made.1) ∙ ap Some (sym jobs);
-        side = worked.side ∙ ap₂ (λ f p. (way.tables f p).side) direction system;
+        side = ap₂ (λ f p. (way.tables f p).side) direction system;
         semiring = ap (λ (p : Pushdown S W Map). p.semiring) (sym system);
         rules = All-from_recursion (AgreeOn mid.system w.system) w.jobs (subst P (sym system) (agrees mid.system w.jobs));
       }

@@ -1,9 +1,10 @@
 ghost use Rattle.std.specs.Prelude.{◌≡◌, [], IfOk, OnOk};
-ghost use Rattle.saturation_core.specs.Books.{IsBook, IsClosed, NoHand};
+ghost use Rattle.saturation_laws.specs.Books.{IsBook, IsClosed, NoHand};
 ghost use Rattle.worker_pool.specs.Alone.{HasTurned, HasBase, IsAlone};
 
 use pushdown_rules::System;
-use saturation_core::{Book, Direction, Taken};
+use saturation_core::{Book, Taken};
+use saturation_laws::Direction;
 use semiring_laws::Semiring;
 use std::alloc::Global;
 use wpds_base::OutOfMemory;
@@ -34,7 +35,7 @@ fn turn<S: Semiring, D: Direction<S>>(
 }
 
 /// Saturates a book by seat 0 alone, which settles each hand before it takes the next, until nothing waits. It is refused
-/// only for want of memory, and then the book is gone.
+/// only when out of memory, and then the book is gone.
 pub fn saturate_alone<'s, S: Semiring, D: Direction<S>>(
     alloc: Global,
     book: Book<'s, S, D>,

@@ -1,18 +1,32 @@
 //! The program `wpds`: hands its words, standard input and standard output to the top call.
 #![tactic(auto)]
 
+ghost use Rattle.std.specs.Prelude.{◌≡◌};
+ghost use Rattle.std.specs.Process.{exit_status as exit_status_of};
+ghost use Rattle.wpds_app.specs.Statuses.{status_code};
+
+mod later_words;
+
+use later_words::words;
 use std::process::ExitCode;
-use std::{env, io};
 use wpds_app::{Status, run};
 use wpds_base::OutOfMemory;
 use wpds_port::{StdSink, StdSource};
 
-// The words after the program's name. Where one of them is no text, there are none, which is no command either.
-fn words(rt: &HostRuntime) -> Result<Vec<String>, OutOfMemory> {
-    match env::args(rt) {
-        Ok(args) => Ok(args.skip(1).collect(rt.alloc())?),
-        Err(error) if error.kind() == io::ErrorKind::OutOfMemory => Err(OutOfMemory),
-        Err(_) => Ok(Vec::new(rt.alloc())),
+// The exit status of a status.
+fn exit_status(status: Status) -> ExitCode
+    ensures { exit_status_of result ≡ status_code status }
+{
+    ExitCode::from(status.code())
+}
+
+// What standard error is told of a status that leaves nothing, or a part alone, on standard output.
+fn complaint(status: Status) -> Option<&'static str> {
+    match status {
+        Status::ReadFault => Some("standard input cannot be read"),
+        Status::WriteFault => Some("standard output cannot be written"),
+        Status::OutOfMemory => Some("out of memory"),
+        Status::Answered | Status::WordsRefused | Status::DocumentRefused => None,
     }
 }
 
@@ -25,5 +39,9 @@ fn main(rt: HostRuntime) -> ExitCode {
         }
         Err(OutOfMemory) => Status::OutOfMemory,
     };
-    ExitCode::from(status.code())
+    if let Some(text) = complaint(status) {
+        // A standard error that fails too changes no status.
+        let _ = eprintln!(rt; "wpds: {text}");
+    }
+    exit_status(status)
 }

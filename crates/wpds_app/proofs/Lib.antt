@@ -1,5 +1,6 @@
+mod PartLemmas
+mod QueryLemmas
 mod ReplyLemmas
-mod WordLemmas
 mod ReportLemmas
 mod ReportingLemmas
-mod QueryLemmas
+mod WordLemmas

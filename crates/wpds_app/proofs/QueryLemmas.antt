@@ -1,9 +1,9 @@
 -- What the text of a query tells.
-use Rattle.std.proofs.Common.{◌≡◌, ◌⊎◌, inl, inr, ℕ, ◌<◌, ◌≤◌, min, Bool, true, false, List, [], ◌∷◌, ◌++◌, map, Option, Some, None, refl, sym, ap, subst, ◌∙◌, append-nil, append_assoc, decimal, arith}
+use Rattle.std.proofs.Common.{◌≡◌, inl, inr, ℕ, ◌≤◌, min, Bool, true, false, List, [], ◌∷◌, ◌++◌, map, Option, Some, None, refl, sym, ap, subst, ◌∙◌, append-nil, append_assoc, decimal, arith}
 use Rattle.std.specs.Prelude.{codes, nat_eq, nat_le, IsTrue, if◌then◌else◌}
 use Rattle.std.specs.List.{AllByRecursion}
 use Rattle.std.proofs.lemmas.List.{append_cancel_left}
-use Rattle.std.proofs.lemmas.Bool.{cases_lt, eqb-true, eq-eqb, cases_Bool}
+use Rattle.std.proofs.lemmas.Bool.{cases_lt, eqb-true, eq-eqb}
 use Rattle.std.proofs.lemmas.Bool.Decides.{nat_tests}
 use Rattle.semiring_laws.specs.declared.reach.NoMap.{NoMap}
 use Rattle.semiring_laws.specs.Semiring.{Fits, Below}
@@ -16,7 +16,8 @@ use Rattle.config_patterns.specs.Membership.{PatternValue, has_member}
 use Rattle.witness_graph.specs.declared.listing.Listing.{Listing}
 use Rattle.document_systems.specs.Weights.{cost_text}
 use Rattle.report_text.specs.Listings.{query_line}
-use Rattle.wpds_app.specs.Reports.{shown, query_text, IsQueryText, IsCheapest, TellsCost}
+use Rattle.wpds_app.specs.declared.words.Options.{Options}
+use Rattle.wpds_app.specs.Reports.{shown, query_text, IsCheapest, TellsCost}
 
 -- ---- a line tells its value
 
@@ -53,12 +54,15 @@ same_line i w u rest clean e =
 pub clean_unreachable : IsClean (codes "unreachable")
 clean_unreachable = (refl, (refl, (refl, (refl, (refl, (refl, (refl, (refl, (refl, (refl, (refl, tt)))))))))))
 
-pub told_unreachable : (i : ℕ) (brief : Bool) (w text : List ℕ) (listing : Option Listing) → text ≡ query_text i brief w listing → text ≡ query_line i (codes "unreachable") → w ≡ codes "unreachable"
-told_unreachable i brief w text listing told e = same_line i w (codes "unreachable") (if brief then [] else shown listing) clean_unreachable (sym told ∙ e)
+pub told_unreachable : (i : ℕ) (options : Options) (w text : List ℕ) (listing : Option Listing) → text ≡ query_text i options w listing → text ≡ query_line i (codes "unreachable") → w ≡ codes "unreachable"
+told_unreachable i options w text listing told e = same_line i w (codes "unreachable") (if options.brief then [] else shown listing) clean_unreachable (sym told ∙ e)
 
-pub unlisted_line : (i : ℕ) (brief : Bool) (w : List ℕ) (listing : Option Listing) → listing ≡ None → query_text i brief w listing ≡ query_line i w
-unlisted_line i true w listing none = append-nil (query_line i w)
-unlisted_line i false w listing none = ap (λ l. query_line i w ++ shown l) none ∙ append-nil (query_line i w)
+pub unlisted_line : (i : ℕ) (options : Options) (w : List ℕ) (listing : Option Listing) → listing ≡ None → query_text i options w listing ≡ query_line i w
+unlisted_line i options w listing none = go options.brief
+  where
+    go : (brief : Bool) → query_line i w ++ (if brief then [] else shown listing) ≡ query_line i w
+    go true = append-nil (query_line i w)
+    go false = ap (λ l. query_line i w ++ shown l) none ∙ append-nil (query_line i w)
 
 -- ---- costs
 
@@ -100,18 +104,18 @@ module _ (p : Pushdown ℕ (Option ℕ) NoMap) (from to : PatternValue) where
         dearer n m (subst Q costs (subst P is low)),
   )
 
-  pub some_cost : (i n : ℕ) (brief : Bool) (text : List ℕ) (listing : Option Listing) → n ≤ p.semiring → IsCheapest p from to n
-      → text ≡ query_text i brief (cost_text p.semiring (Some n)) listing → TellsCost p i from to text
-  some_cost i n brief text listing low cheap told = go (nat_eq n p.semiring) refl
+  pub some_cost : (i n : ℕ) (options : Options) (text : List ℕ) (listing : Option Listing) → n ≤ p.semiring → IsCheapest p from to n
+      → text ≡ query_text i options (cost_text p.semiring (Some n)) listing → TellsCost p i from to text
+  some_cost i n options text listing low cheap told = go (nat_eq n p.semiring) refl
     where
       go : (b : Bool) → nat_eq n p.semiring ≡ b → TellsCost p i from to text
       go true is =
           let same = eqb-true n p.semiring is in
           inr (inr (
             subst (IsCheapest p from to) same cheap,
-            (if brief then [] else shown listing),
-            told ∙ ap (λ b. query_text i brief (decimal n ++ (if b then codes " or more" else codes "")) listing) is
-                ∙ ap (λ k. query_text i brief (decimal k ++ codes " or more") listing) same,
+            (if options.brief then [] else shown listing),
+            told ∙ ap (λ b. query_text i options (decimal n ++ (if b then codes " or more" else codes "")) listing) is
+                ∙ ap (λ k. query_text i options (decimal k ++ codes " or more") listing) same,
           ))
       go false is =
           inr (inl (
@@ -121,16 +125,16 @@ module _ (p : Pushdown ℕ (Option ℕ) NoMap) (from to : PatternValue) where
               | inr more ↦ (let f : true ≡ false = sym (eq-eqb n p.semiring (omega (arith, low, more))) ∙ is in cc)
             ],
             cheap,
-            (if brief then [] else shown listing),
-            told ∙ ap (λ b. query_text i brief (decimal n ++ (if b then codes " or more" else codes "")) listing) is
-                ∙ ap (λ l. query_text i brief l listing) (append-nil (decimal n)),
+            (if options.brief then [] else shown listing),
+            told ∙ ap (λ b. query_text i options (decimal n ++ (if b then codes " or more" else codes "")) listing) is
+                ∙ ap (λ l. query_text i options l listing) (append-nil (decimal n)),
           ))
 
   within : (n : ℕ) → IsTrue (nat_le n p.semiring) → n ≤ p.semiring
   within n fit = grind (arith, nat_tests)
 
-  pub told_cost : (i : ℕ) (brief : Bool) (text : List ℕ) (listing : Option Listing) (v : Option ℕ) → Fits (cost_operations p.semiring) v
+  pub told_cost : (i : ℕ) (options : Options) (text : List ℕ) (listing : Option Listing) (v : Option ℕ) → Fits (cost_operations p.semiring) v
       → (v ≡ None → HasNoFeasibleRun (cost_operations p.semiring) p (has_member from) (has_member to)) → (v ≡ None → listing ≡ None)
-      → ((n : ℕ) → v ≡ Some n → IsCheapest p from to n) → text ≡ query_text i brief (cost_text p.semiring v) listing → TellsCost p i from to text
-  told_cost i brief text listing None fit none unlisted cheap told = inl (none refl, told ∙ unlisted_line i brief (cost_text p.semiring None) listing (unlisted refl))
-  told_cost i brief text listing (Some n) fit none unlisted cheap told = some_cost i n brief text listing (within n fit) (cheap n refl) told
+      → ((n : ℕ) → v ≡ Some n → IsCheapest p from to n) → text ≡ query_text i options (cost_text p.semiring v) listing → TellsCost p i from to text
+  told_cost i options text listing None fit none unlisted cheap told = inl (none refl, told ∙ unlisted_line i options (cost_text p.semiring None) listing (unlisted refl))
+  told_cost i options text listing (Some n) fit none unlisted cheap told = some_cost i n options text listing (within n fit) (cheap n refl) told

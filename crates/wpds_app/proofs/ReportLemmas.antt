@@ -1,8 +1,7 @@
 -- Reports on reachability.
-use Rattle.std.proofs.Common.{◌≡◌, inl, inr, ℕ, zero, suc, Bool, true, false, ◌&&◌, ◌||◌, List, [], ◌∷◌, ◌++◌, map, length, Option, Some, None, refl, sym, ap, subst, ◌∙◌, append-nil, arith}
+use Rattle.std.proofs.Common.{◌≡◌, inl, inr, ℕ, zero, suc, Bool, true, false, ◌&&◌, ◌||◌, List, [], ◌∷◌, map, length, Option, Some, None, refl, sym, ap, subst, ◌∙◌}
 use Rattle.std.specs.Prelude.{codes, slice_get, unwrap_or, if◌then◌else◌}
 use Rattle.std.specs.List.{AllByRecursion}
-use Rattle.std.proofs.lemmas.Fmt.{decimal_digit}
 use Rattle.semiring_laws.specs.declared.reach.Reach.{Reach as ReachValue}
 use Rattle.semiring_laws.specs.declared.reach.NoMap.{NoMap}
 use Rattle.semiring_laws.specs.Reach.{reach_operations}
@@ -16,14 +15,18 @@ use Rattle.pushdown_rules.specs.Answers.{Answers, Leads}
 use Rattle.config_patterns.specs.Membership.{has_member}
 use Rattle.system_text.specs.declared.document.Document.{Document}
 use Rattle.system_text.specs.declared.document.RuleLine.{RuleLine}
+use Rattle.system_text.specs.declared.document.QueryLine.{QueryLine}
+use Rattle.system_text.specs.declared.document.ConfigText.{ConfigText}
+use Rattle.pushdown_rules.specs.Configuration.{Configuration}
 use Rattle.system_text.specs.declared.document.WeightsLine.TheVariants.{Reach}
-use Rattle.witness_graph.specs.declared.listing.Listing.{Listing}
-use Rattle.document_systems.specs.Weights.{reach_weight, reach_text}
-use Rattle.document_systems.specs.Systems.{rule_of, system_of, configuration_of, pattern_of}
+use Rattle.document_systems.specs.Weights.{reach_kind, reach_text}
+use Rattle.document_systems.specs.Systems.{rule_of, system_of, configuration_of, side_of}
 use Rattle.document_systems.proofs.CallerLemmas.{one_member}
-use Rattle.report_text.specs.Listings.{query_line}
 use Rattle.path_sum.specs.Answers.{listed_runs}
-use Rattle.wpds_app.specs.Reports.{shown, query_text, IsReported, IsReportBy, IsReport, IsReachable, TellsReachability}
+use Rattle.wpds_app.specs.declared.words.Options.{Options}
+use Rattle.wpds_app.specs.Reports.{ByQuery, shown, query_text, IsQueryText, IsReportBy, IsReport, IsReachable, TellsReachability}
+use Rattle.wpds_app.proofs.QueryLemmas.{unlisted_line}
+use Rattle.wpds_app.proofs.PartLemmas.{of_each}
 
 -- ---- with reachability each run of a document's rules has the value one
 
@@ -69,14 +72,14 @@ value_one [] m all good = product_one m.frames m.accumulator good.1 good.0
 value_one (r ∷ rs) m all good = value_one rs (machine_after reach_operations r m) all.1 (by_right_one r.right r m all.0 good)
 
 -- the rules that a document's lines make
-line_one : (lines : List RuleLine) (k : ℕ) (r : Rule ReachValue Bool NoMap) → slice_get (map (rule_of reach_operations reach_weight) lines) k ≡ Some r → IsOneRule r
+line_one : (lines : List RuleLine) (k : ℕ) (r : Rule ReachValue Bool NoMap) → slice_get (map (rule_of reach_kind (record {})) lines) k ≡ Some r → IsOneRule r
 line_one [] k r e = cc
-line_one (l ∷ ls) zero r e = let q : rule_of reach_operations reach_weight l ≡ r = cc in ap (λ x. x.weight) (sym q)
+line_one (l ∷ ls) zero r e = let q : rule_of reach_kind (record {}) l ≡ r = cc in ap (λ x. x.weight) (sym q)
 line_one (l ∷ ls) (suc k) r e = line_one ls k r e
 
 module _ (d : Document) where
   abbrev system : Pushdown ReachValue Bool NoMap
-  system = system_of reach_operations reach_weight (record {}) d
+  system = system_of reach_kind (record {}) d
 
   rules_one : (run : List ℕ) → AllByRecursion IsOneRule (rules_of reach_operations system run)
   rules_one [] = tt
@@ -89,54 +92,47 @@ module _ (d : Document) where
   run_one : (run : List ℕ) → value_of reach_operations system run ≡ true
   run_one run = value_one (rules_of reach_operations system run) (starting reach_operations) (rules_one run) (refl, tt)
 
-  -- ---- what a report says
+  -- ---- what the text of a query says
 
-  reached : (runs : List (List ℕ)) → AllByRecursion (Leads reach_operations system (has_member (pattern_of (length d.symbols) d.query.from)) (has_member (pattern_of (length d.symbols) d.query.to))) runs
-      → true ≡ combination reach_operations (map (value_of reach_operations system) runs) → IsReachable d
-  reached [] lead some = cc
-  reached (r ∷ rs) lead some =
-      let first = lead.0 in
-      let from = (one_member (length d.symbols) d.query.from first.0).0 first.2 in
-      let to = (one_member (length d.symbols) d.query.to first.1).0 first.3 in
-      let run = first.4 in
-      (r, subst (λ c. Run system c r (configuration_of d.query.to)) from (subst (λ e. Run system first.0 r e) to run))
+  module _ (q : QueryLine) where
+    abbrev side : ConfigText → Configuration → Bool
+    side c = has_member (side_of d c)
 
-  never : (value : Bool) → value ≡ false → (runs : List (List ℕ)) → Answers reach_operations system (has_member (pattern_of (length d.symbols) d.query.from)) (has_member (pattern_of (length d.symbols) d.query.to)) value runs
-      → IsReachable d → ⊥
-  never value nothing runs answers (run, leads) =
-      let from = (one_member (length d.symbols) d.query.from (configuration_of d.query.from)).1 refl in
-      let to = (one_member (length d.symbols) d.query.to (configuration_of d.query.to)).1 refl in
-      let below : (value || value_of reach_operations system run) ≡ value = answers.below run (configuration_of d.query.from, configuration_of d.query.to, from, to, leads) in
-      let one = run_one run in
-      cc (below, nothing, one)
+    reached : (runs : List (List ℕ)) → AllByRecursion (Leads reach_operations system (side q.from) (side q.to)) runs
+        → true ≡ combination reach_operations (map (value_of reach_operations system) runs) → IsReachable d q
+    reached [] lead some = cc
+    reached (r ∷ rs) lead some =
+        let first = lead.0 in
+        let from = (one_member (length d.symbols) q.from first.0).0 first.2 in
+        let to = (one_member (length d.symbols) q.to first.1).0 first.3 in
+        let run = first.4 in
+        (r, subst (λ c. Run system c r (configuration_of q.to)) from (subst (λ e. Run system first.0 r e) to run))
 
-line_is : (value : List ℕ) → query_line 1 value ≡ codes "query 1: " ++ value ++ 10 ∷ []
-line_is value = ap (λ n. codes "query " ++ n ++ codes ": " ++ value ++ 10 ∷ []) (decimal_digit 1 (omega arith))
+    never : (value : Bool) → value ≡ false → (runs : List (List ℕ)) → Answers reach_operations system (side q.from) (side q.to) value runs → IsReachable d q → ⊥
+    never value nothing runs answers (run, leads) =
+        let from = (one_member (length d.symbols) q.from (configuration_of q.from)).1 refl in
+        let to = (one_member (length d.symbols) q.to (configuration_of q.to)).1 refl in
+        let below : (value || value_of reach_operations system run) ≡ value = answers.below run (configuration_of q.from, configuration_of q.to, from, to, leads) in
+        let one = run_one run in
+        cc (below, nothing, one)
 
-unlisted_text : (brief : Bool) (value : List ℕ) (listing : Option Listing) → listing ≡ None → query_text 1 brief value listing ≡ query_line 1 value
-unlisted_text true value listing none = append-nil (query_line 1 value)
-unlisted_text false value listing none = ap (λ l. query_line 1 value ++ shown l) none ∙ append-nil (query_line 1 value)
+    told : (options : Options) (i : ℕ) (text : List ℕ) → IsQueryText reach_kind options system d.items i (side_of d q.from) (side_of d q.to) text → TellsReachability d i q text
+    told options i text is = go is.answer.value refl
+      where
+        go : (value : Bool) → is.answer.value ≡ value → TellsReachability d i q text
+        go true e =
+            inl (
+              reached (listed_runs is.answer.listing) is.is_answer.shows.answers.lead (sym e ∙ is.is_answer.shows.answers.combined),
+              (if options.brief then [] else shown is.answer.listing),
+              is.told ∙ ap (λ v. query_text i options (reach_text v) is.answer.listing) e,
+            )
+        go false e =
+            inr (
+              never is.answer.value e (listed_runs is.answer.listing) is.is_answer.shows.answers,
+              is.told
+                  ∙ ap (λ v. query_text i options (reach_text v) is.answer.listing) e
+                  ∙ unlisted_line i options (codes "unreachable") is.answer.listing (is.is_answer.shows.unlisted.1 e),
+            )
 
-told : (d : Document) (brief : Bool) (report : List ℕ) → IsReported {S = ReachValue} {W = Bool} {Map = NoMap} (λ _. reach_operations) (λ _. reach_weight) (λ _. reach_text) (record {}) d brief report → TellsReachability d report
-told d brief report reported = go reported.answer.value refl
-  where
-    go : (value : Bool) → reported.answer.value ≡ value → TellsReachability d report
-    go true e =
-        inl (
-          reached d (listed_runs reported.answer.listing) reported.is_answer.answers.lead (sym e ∙ reported.is_answer.answers.combined),
-          (if brief then [] else shown reported.answer.listing),
-          reported.text
-              ∙ ap (λ v. query_text 1 brief (reach_text v) reported.answer.listing) e
-              ∙ ap (λ l. l ++ (if brief then [] else shown reported.answer.listing)) (line_is (codes "reachable")),
-        )
-    go false e =
-        inr (
-          never d reported.answer.value e (listed_runs reported.answer.listing) reported.is_answer.answers,
-          reported.text
-              ∙ ap (λ v. query_text 1 brief (reach_text v) reported.answer.listing) e
-              ∙ unlisted_text brief (codes "unreachable") reported.answer.listing (reported.is_answer.unlisted.1 e)
-              ∙ line_is (codes "unreachable"),
-        )
-
-pub tells : (d : Document) (brief : Bool) (report : List ℕ) → d.weights ≡ Reach → IsReport d brief report → TellsReachability d report
-tells d brief report reach is = told d brief report (subst (λ w. IsReportBy w d brief report) reach is)
+pub tells : (d : Document) (options : Options) (report : List ℕ) → d.weights ≡ Reach → IsReport options d report → ByQuery (TellsReachability d) 1 d.queries report
+tells d options report reach is = of_each (λ i q text h. told d q options i text h) 1 d.queries report (subst (λ w. IsReportBy w options d report) reach is)

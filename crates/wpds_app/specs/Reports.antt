@@ -1,9 +1,6 @@
 -- The report on a document.
-use Rattle.std.specs.Prelude.{◌≡◌, ◌⊎◌, ℕ, ◌<◌, ◌≤◌, Bool, List, [], ◌++◌, length, Option, None, Some, codes, decimal, if◌then◌else◌}
-use Rattle.semiring_laws.specs.Semiring.{Operations}
-use Rattle.semiring_laws.specs.declared.reach.Reach.{Reach as ReachValue}
+use Rattle.std.specs.Prelude.{◌≡◌, ◌⊎◌, ◌↔◌, ℕ, ◌+◌, ◌<◌, ◌≤◌, List, [], ◌∷◌, ◌++◌, Option, None, Some, codes, decimal, if◌then◌else◌}
 use Rattle.semiring_laws.specs.declared.reach.NoMap.{NoMap}
-use Rattle.semiring_laws.specs.Reach.{reach_operations}
 use Rattle.cost_weights.specs.Cost.{cost_operations}
 use Rattle.pushdown_rules.specs.Firing.{Run}
 use Rattle.pushdown_rules.specs.Pushdown.{Pushdown}
@@ -12,55 +9,75 @@ use Rattle.pushdown_rules.specs.Answers.{Leads, HasNoFeasibleRun}
 use Rattle.config_patterns.specs.Membership.{PatternValue, has_member}
 use Rattle.witness_graph.specs.declared.listing.Listing.{Listing}
 use Rattle.system_text.specs.declared.document.Document.{Document}
-use Rattle.system_text.specs.declared.document.WeightText.{WeightText}
+use Rattle.system_text.specs.declared.document.QueryLine.{QueryLine}
 use Rattle.system_text.specs.declared.document.WeightsLine.{WeightsLine}
 use Rattle.system_text.specs.declared.document.WeightsLine.TheVariants.{Reach, Cost}
-use Rattle.document_systems.specs.Weights.{reach_weight, reach_text, cost_weight, cost_text}
-use Rattle.document_systems.specs.Systems.{system_of, configuration_of, pattern_of}
+use Rattle.document_systems.specs.Kinds.{Kind}
+use Rattle.document_systems.specs.Weights.{reach_kind, cost_kind}
+use Rattle.document_systems.specs.Systems.{system_of, configuration_of, side_of}
 use Rattle.report_text.specs.Listings.{query_line, listing_text}
 use Rattle.path_sum.specs.declared.answer.Answer.{Answer}
 use Rattle.query_answers.specs.Answering.{IsAnswer}
+use Rattle.wpds_app.specs.declared.words.Options.{Options}
+
+-- The text is a part for each query, one after the other, numbered from here on, and this holds of each number, query and part.
+abbrev pub ByQuery : (ℕ → QueryLine → List ℕ → Type 0) → ℕ → List QueryLine → List ℕ → Type 0
+ByQuery holds i [] text = text ≡ []
+ByQuery holds i (q ∷ qs) text = (part : List ℕ) × (rest : List ℕ) × (text ≡ part ++ rest) × holds i q part × ByQuery holds (i + 1) qs rest
 
 abbrev pub shown : Option Listing → List ℕ
 shown None = []
 shown (Some l) = listing_text l.side l.nodes
 
 -- the lines of a query: its value, and its listing unless that is left out
-abbrev pub query_text : ℕ → Bool → List ℕ → Option Listing → List ℕ
-query_text i brief value listing = query_line i value ++ (if brief then [] else shown listing)
+abbrev pub query_text : ℕ → Options → List ℕ → Option Listing → List ℕ
+query_text i options value listing = query_line i value ++ (if options.brief then [] else shown listing)
 
-module _ {S W Map : Type 0} (operations : S → Operations W Map) (written : S → W → List ℕ) where
+module _ {S W Map : Type 0} (kind : Kind S W Map) (options : Options) where
   -- The text tells an answer to the query with a number, for runs of a system from a pattern to a pattern.
-  pub record IsQueryText (p : Pushdown S W Map) (i : ℕ) (from to : PatternValue) (brief : Bool) (text : List ℕ) : Type 0 where
+  pub record IsQueryText (p : Pushdown S W Map) (items : List (List ℕ)) (i : ℕ) (from to : PatternValue) (text : List ℕ) : Type 0 where
     pub answer : Answer S W Map
-    pub is_answer : IsAnswer operations p from to answer
-    pub told : text ≡ query_text i brief (written p.semiring answer.value) answer.listing
+    pub is_answer : IsAnswer kind.operations p from to answer
+    pub told : text ≡ query_text i options (kind.written p.semiring items answer.value) answer.listing
 
-module _ {S W Map : Type 0} (operations : S → Operations W Map) (weight : S → WeightText → W) (written : S → W → List ℕ) where
-  -- The report tells an answer to the document's query over its system.
-  pub record IsReported (semiring : S) (d : Document) (brief : Bool) (report : List ℕ) : Type 0 where
-    pub answer : Answer S W Map
-    pub is_answer : IsAnswer operations (system_of (operations semiring) (weight semiring) semiring d) (pattern_of (length d.symbols) d.query.from) (pattern_of (length d.symbols) d.query.to) answer
-    pub text : report ≡ query_text 1 brief (written semiring answer.value) answer.listing
+  -- the report tells an answer to each query of the document, over its system
+  abbrev pub IsReported : S → Document → List ℕ → Type 0
+  IsReported semiring d report =
+      ByQuery (λ i q. IsQueryText (system_of kind semiring d) d.items i (side_of d q.from) (side_of d q.to)) 1 d.queries report
 
 -- the report on a document over the semiring of some weights
-abbrev pub IsReportBy : WeightsLine → Document → Bool → List ℕ → Type 0
-IsReportBy Reach d brief report = IsReported {S = ReachValue} {W = Bool} {Map = NoMap} (λ _. reach_operations) (λ _. reach_weight) (λ _. reach_text) (record {}) d brief report
-IsReportBy (Cost most) d brief report = IsReported {S = ℕ} {W = Option ℕ} {Map = NoMap} cost_operations cost_weight cost_text most d brief report
+abbrev pub IsReportBy : WeightsLine → Options → Document → List ℕ → Type 0
+IsReportBy Reach options d report = IsReported reach_kind options (record {}) d report
+IsReportBy (Cost most) options d report = IsReported cost_kind options most d report
 
 -- the report on a document, over the semiring of its own
-abbrev pub IsReport : Document → Bool → List ℕ → Type 0
-IsReport d brief report = IsReportBy d.weights d brief report
+abbrev pub IsReport : Options → Document → List ℕ → Type 0
+IsReport options d report = IsReportBy d.weights options d report
 
--- with reachability a run leads from the first configuration of the query to the second
-abbrev pub IsReachable : Document → Type 0
-IsReachable d = (run : List ℕ) × Run (system_of {S = ReachValue} reach_operations reach_weight (record {}) d) (configuration_of d.query.from) run (configuration_of d.query.to)
+-- ---- what the text of a query tells
 
--- the report says that it does, or that it does not, and that is so
-abbrev pub TellsReachability : Document → List ℕ → Type 0
-TellsReachability d report =
-    (IsReachable d × (rest : List ℕ) × (report ≡ codes "query 1: reachable\n" ++ rest))
-    ⊎ ((IsReachable d → ⊥) × (report ≡ codes "query 1: unreachable\n"))
+-- no feasible run leads from the query's first pattern to its second
+abbrev pub IsInfeasible : {S W Map : Type 0} → Kind S W Map → S → Document → QueryLine → Type 0
+IsInfeasible kind semiring d q =
+    HasNoFeasibleRun (kind.operations semiring) (system_of kind semiring d) (has_member (side_of d q.from)) (has_member (side_of d q.to))
+
+abbrev pub IsInfeasibleBy : WeightsLine → Document → QueryLine → Type 0
+IsInfeasibleBy Reach d q = IsInfeasible reach_kind (record {}) d q
+IsInfeasibleBy (Cost most) d q = IsInfeasible cost_kind most d q
+
+-- `unreachable` is written exactly when there is none
+abbrev pub TellsFeasibility : WeightsLine → Document → ℕ → QueryLine → List ℕ → Type 0
+TellsFeasibility weights d i q text = (text ≡ query_line i (codes "unreachable")) ↔ IsInfeasibleBy weights d q
+
+-- with reachability a run leads from the query's first configuration to its second
+abbrev pub IsReachable : Document → QueryLine → Type 0
+IsReachable d q = (run : List ℕ) × Run (system_of reach_kind (record {}) d) (configuration_of q.from) run (configuration_of q.to)
+
+-- the text says that one does, or that none does, and that is so
+abbrev pub TellsReachability : Document → ℕ → QueryLine → List ℕ → Type 0
+TellsReachability d i q text =
+    (IsReachable d q × (rest : List ℕ) × (text ≡ query_line i (codes "reachable") ++ rest))
+    ⊎ ((IsReachable d q → ⊥) × (text ≡ query_line i (codes "unreachable")))
 
 -- a run leads from a member to a member at this cost, and each such run that has a cost has no smaller one
 abbrev pub IsCheapest : Pushdown ℕ (Option ℕ) NoMap → PatternValue → PatternValue → ℕ → Type 0
@@ -74,3 +91,7 @@ TellsCost p i from to text =
     (HasNoFeasibleRun (cost_operations p.semiring) p (has_member from) (has_member to) × (text ≡ query_line i (codes "unreachable")))
     ⊎ (((n : ℕ) × (n < p.semiring) × IsCheapest p from to n × (rest : List ℕ) × (text ≡ query_line i (decimal n) ++ rest))
     ⊎ (IsCheapest p from to p.semiring × (rest : List ℕ) × (text ≡ query_line i (decimal p.semiring ++ codes " or more") ++ rest)))
+
+-- with costs up to this cap the text of a query of the document says so
+abbrev pub TellsCosts : ℕ → Document → ℕ → QueryLine → List ℕ → Type 0
+TellsCosts cap d i q text = TellsCost (system_of cost_kind cap d) i (side_of d q.from) (side_of d q.to) text

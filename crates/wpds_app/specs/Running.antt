@@ -1,62 +1,80 @@
 -- What a run of the program reads and writes.
-use Rattle.std.specs.Prelude.{◌≡◌, ℕ, ◌<◌, ◌≤◌, ◌⊎◌, ◌↔◌, Bool, List, [], ◌∷◌, ◌++◌, Option, length}
+use Rattle.std.specs.Prelude.{◌≡◌, ℕ, ◌+◌, ◌<◌, ◌≤◌, ◌⊎◌, ◌↔◌, List, [], ◌∷◌, ◌++◌, Option, length}
 use Rattle.std.specs.Io.KnownBytes.{Appends, Consumes, IsAtEnd}
 use Rattle.wpds_port.specs.Writing.{AppendsPart}
 use Rattle.wpds_port.specs.Refusals.{refusal_text}
 use Rattle.wpds_port.specs.declared.refusal.Refusal.{Refusal}
 use Rattle.wpds_port.specs.declared.refusal.Kind.TheVariants.{TooLong, NotBuilt}
 use Rattle.system_text.specs.FirstForm.{IsFirstForm}
-use Rattle.system_text.specs.declared.document.Document.{Document}
+use Rattle.wpds_port.specs.declared.refusal.ReadFault.{ReadFault as ReadFaultValue}
+use Rattle.wpds_port.specs.declared.refusal.ReadFault.TheVariants.{Refused, Memory}
+use Rattle.wpds_base.specs.Limits.{most_bytes}
 use Rattle.wpds_app.specs.Commands.{IsCheck, IsCommand, usage_text}
 use Rattle.wpds_app.specs.Reports.{IsReport}
+use Rattle.wpds_app.specs.declared.input.Input.{Input}
+use Rattle.wpds_app.specs.declared.input.Input.TheVariants.{System}
+use Rattle.wpds_app.specs.declared.words.Options.{Options}
 use Rattle.wpds_app.specs.declared.status.Status.{Status}
 use Rattle.wpds_app.specs.declared.status.Status.TheVariants.{Answered, WordsRefused, ReadFault, WriteFault, DocumentRefused, OutOfMemory}
 
--- The input is all that was left, or its first 4,194,305 bytes.
+-- The input is all that was left, or its first bytes, one more than a document has.
 pub record IsInput (left_before left_now : Option (List ℕ)) (input : List ℕ) : Type 0 where
   pub consumed : Consumes left_before left_now input
-  pub limit : length input ≤ 4194305
-  pub whole : length input < 4194305 → IsAtEnd left_now
+  pub limit : length input ≤ most_bytes + 1
+  pub whole : length input < most_bytes + 1 → IsAtEnd left_now
 
--- the input is a document that is answered, and which
-pub record IsAccepted (input : List ℕ) (d : Document) : Type 0 where
-  pub short : length input ≤ 4194304
-  pub form : IsFirstForm input d
+-- how an input is written that means this
+abbrev pub HasForm : List ℕ → Input → Type 0
+HasForm input (System d) = IsFirstForm input d
 
--- what the refusal of an input is: too many bytes, or no document of the first form
+-- the input is answered, and what it means
+pub record IsAccepted (input : List ℕ) (meaning : Input) : Type 0 where
+  pub short : length input ≤ most_bytes
+  pub form : HasForm input meaning
+
+-- what the refusal of an input is: too many bytes, or none of the forms
 abbrev pub IsRefused : List ℕ → Refusal → Type 0
 IsRefused input r =
-    ((4194304 < length input) × (r ≡ record { line = 0; kind = TooLong }))
-    ⊎ ((length input ≤ 4194304) × ((d : Document) → IsFirstForm input d → ⊥) × (r ≡ record { line = 0; kind = NotBuilt }))
+    ((most_bytes < length input) × (r ≡ record { line = 0; kind = TooLong }))
+    ⊎ ((length input ≤ most_bytes) × ((meaning : Input) → HasForm input meaning → ⊥) × (r ≡ record { line = 0; kind = NotBuilt }))
 
--- what is answered to an input
-abbrev pub IsReply : List ℕ → Bool → Status → List ℕ → Type 0
-IsReply input brief Answered text = (d : Document) × IsAccepted input d × IsReport d brief text
-IsReply input brief DocumentRefused text = (r : Refusal) × IsRefused input r × (text ≡ refusal_text r ++ 10 ∷ [])
-IsReply input brief WordsRefused text = ⊥
-IsReply input brief ReadFault text = ⊥
-IsReply input brief WriteFault text = ⊥
-IsReply input brief OutOfMemory text = ⊥
+-- why an input is not read: it is refused, or memory was short
+abbrev pub IsUnread : List ℕ → ReadFaultValue → Type 0
+IsUnread input (Refused r) = IsRefused input r
+IsUnread input Memory = Unit {0}
 
--- An input was read, and this is the answer to it.
-pub record HasReply (left_before left_now : Option (List ℕ)) (brief : Bool) (status : Status) (text : List ℕ) : Type 0 where
+-- the report on an input
+abbrev pub IsReportOn : Options → Input → List ℕ → Type 0
+IsReportOn options (System d) report = IsReport options d report
+
+-- the reply to an input
+abbrev pub IsReply : List ℕ → Options → Status → List ℕ → Type 0
+IsReply input options Answered text = (meaning : Input) × IsAccepted input meaning × IsReportOn options meaning text
+IsReply input options DocumentRefused text = (r : Refusal) × IsRefused input r × (text ≡ refusal_text r ++ 10 ∷ [])
+IsReply input options WordsRefused text = ⊥
+IsReply input options ReadFault text = ⊥
+IsReply input options WriteFault text = ⊥
+IsReply input options OutOfMemory text = ⊥
+
+-- An input was read, and this is the reply to it.
+pub record HasReply (left_before left_now : Option (List ℕ)) (options : Options) (status : Status) (text : List ℕ) : Type 0 where
   pub input : List ℕ
   pub read : IsInput left_before left_now input
-  pub reply : IsReply input brief status text
+  pub reply : IsReply input options status text
 
--- The words are a command, an input was read, and the answer to it was written.
+-- The words are a command, an input was read, and the reply to it was written.
 pub record Replies (words : List (List ℕ)) (left_before left_now written_before written_now : Option (List ℕ)) (status : Status) : Type 0 where
-  pub brief : Bool
-  pub command : IsCheck words brief
+  pub options : Options
+  pub command : IsCheck words options
   pub text : List ℕ
-  pub reply : HasReply left_before left_now brief status text
+  pub reply : HasReply left_before left_now options status text
   pub written : Appends written_before written_now text
 
--- what is written where no fault of the sink comes: the usage lines, or the answer to the input
+-- what is written if no fault of the sink comes: the usage lines, or the reply to the input
 abbrev pub IsText : List (List ℕ) → Option (List ℕ) → Option (List ℕ) → List ℕ → Type 0
 IsText words left_before left_now text =
     ((IsCommand words → ⊥) × (text ≡ usage_text))
-    ⊎ ((brief : Bool) × IsCheck words brief × (status : Status) × HasReply left_before left_now brief status text)
+    ⊎ ((options : Options) × IsCheck words options × (status : Status) × HasReply left_before left_now options status text)
 
 -- A beginning of that was written.
 pub record IsCutShort (words : List (List ℕ)) (left_before left_now written_before written_now : Option (List ℕ)) : Type 0 where
@@ -64,11 +82,11 @@ pub record IsCutShort (words : List (List ℕ)) (left_before left_now written_be
   pub whole : IsText words left_before left_now text
   pub written : AppendsPart written_before written_now text
 
--- the answer is one to a document
+-- the reply is one to an input
 abbrev pub IsDecided : Status → Type 0
 IsDecided status = (status ≡ Answered) ⊎ (status ≡ DocumentRefused)
 
--- the answer is that of this input: accepted documents are answered, and all other inputs refused
+-- the reply is that of this input: accepted ones are answered, and all others refused
 pub record IsDecidedBy (input : List ℕ) (status : Status) : Type 0 where
-  pub answered : (status ≡ Answered) ↔ ((d : Document) × IsAccepted input d)
+  pub answered : (status ≡ Answered) ↔ ((meaning : Input) × IsAccepted input meaning)
   pub refused : (status ≡ DocumentRefused) ↔ ((r : Refusal) × IsRefused input r)

@@ -1,31 +1,30 @@
-ghost use Rattle.std.specs.Prelude.{◌≡◌, ◌↔◌, ℕ, Bool, List, Option, codes};
+ghost use Rattle.std.specs.Prelude.{◌≡◌, ◌↔◌, ℕ, List, Option, codes};
 ghost use Rattle.semiring_laws.specs.declared.reach.NoMap.{NoMap as NoMapValue};
-ghost use Rattle.cost_weights.specs.Cost.{cost_operations};
 ghost use Rattle.pushdown_rules.specs.Pushdown.{Pushdown, IsSystem};
 ghost use Rattle.pushdown_rules.specs.Answers.{HasNoFeasibleRun};
 ghost use Rattle.config_patterns.specs.Membership.{PatternValue, has_member};
-ghost use Rattle.document_systems.specs.Weights.{cost_text};
+ghost use Rattle.document_systems.specs.Weights.{cost_kind};
 ghost use Rattle.report_text.specs.Listings.{query_line};
+ghost use Rattle.system_text.specs.Documents.{IsDocument};
 ghost use Rattle.system_text.specs.declared.document.Document.{Document};
-ghost use Rattle.system_text.specs.declared.document.WeightsLine.TheVariants.{Reach};
-ghost use Rattle.wpds_app.specs.Reports.{IsReport, IsQueryText, TellsReachability, TellsCost};
+ghost use Rattle.system_text.specs.declared.document.WeightsLine.TheVariants.{Reach as ReachLine, Cost as CostLine};
+ghost use Rattle.wpds_app.specs.declared.words.Options.{Options as OptionsValue};
+ghost use Rattle.wpds_app.specs.Reports.{ByQuery, IsReport, IsQueryText, TellsFeasibility, TellsReachability, TellsCost, TellsCosts};
 
 use cost_weights::{Cost, below_is_no_dearer};
-use document_systems::{DocumentWeights, unreachable_is_zero};
+use document_systems::{DocumentWeights, documents_are_systems, unreachable_is_zero};
 use pushdown_rules::{answers_are_greatest_below, zero_where_infeasible};
+use semiring_laws::Reach;
 
-/// What the report on a document with `weights reach` says is so: that some run leads from the first configuration of its
-/// query to the second, or that none does.
-pub fn reports_tell_reachability()
-    ensures { (d : Document) (brief : Bool) (report : List ℕ) → d.weights ≡ Reach → IsReport d brief report → TellsReachability d report }
-{}
-
-/// What is written for a query is `unreachable` exactly where no feasible run leads from its first pattern to its second,
+/// What is written for a query is `unreachable` exactly when no feasible run leads from its first pattern to its second,
 /// whatever its weights.
 pub fn unreachable_where_infeasible<S: DocumentWeights>()
-    ensures { (p : Pushdown S S.W S.Ret) (i : ℕ) (from to : PatternValue) (brief : Bool) (text : List ℕ) → S.named p.semiring → IsSystem S.operations p
-        → IsQueryText S.operations S.written p i from to brief text
-        → (text ≡ query_line i (codes "unreachable")) ↔ HasNoFeasibleRun (S.operations p.semiring) p (has_member from) (has_member to) }
+    ensures { (p : Pushdown S S.W S.Ret) (items : List (List ℕ)) (i : ℕ) (from to : PatternValue)
+        (options : OptionsValue) (text : List ℕ)
+        → S.kind.named p.semiring → IsSystem S.operations p
+        → IsQueryText S.kind options p items i from to text
+        → (text ≡ query_line i (codes "unreachable"))
+        ↔ HasNoFeasibleRun (S.operations p.semiring) p (has_member from) (has_member to) }
 {
     zero_where_infeasible::<S>();
     answers_are_greatest_below::<S>();
@@ -35,10 +34,44 @@ pub fn unreachable_where_infeasible<S: DocumentWeights>()
 /// What is written for a query with costs: a number below the cap is the cost of a cheapest run, and `CAP or more` says
 /// that a run leads there and that each costs at least the cap.
 pub fn costs_are_the_cheapest()
-    ensures { (p : Pushdown ℕ (Option ℕ) NoMapValue) (i : ℕ) (from to : PatternValue) (brief : Bool) (text : List ℕ) → IsSystem cost_operations p
-        → IsQueryText cost_operations cost_text p i from to brief text → TellsCost p i from to text }
+    ensures { (p : Pushdown ℕ (Option ℕ) NoMapValue) (items : List (List ℕ)) (i : ℕ)
+        (from to : PatternValue) (options : OptionsValue) (text : List ℕ)
+        → IsSystem cost_kind.operations p → IsQueryText cost_kind options p items i from to text
+        → TellsCost p i from to text }
 {
     zero_where_infeasible::<Cost>();
     answers_are_greatest_below::<Cost>();
     below_is_no_dearer();
+}
+
+/// What the report on a document with `weights reach` says of each query is so: that some run leads from its first
+/// configuration to its second, or that none does.
+pub fn reports_tell_reachability()
+    ensures { (d : Document) (options : OptionsValue) (report : List ℕ)
+        → d.weights ≡ ReachLine → IsReport options d report
+        → ByQuery (TellsReachability d) 1 d.queries report }
+{}
+
+/// The report on a document says `unreachable` of a query exactly when no feasible run leads from
+/// its first pattern to its second, whatever the weights are.
+pub fn reports_tell_feasibility()
+    ensures { (d : Document) (options : OptionsValue) (report : List ℕ)
+        → IsDocument d → IsReport options d report
+        → ByQuery (TellsFeasibility d.weights d) 1 d.queries report }
+{
+    unreachable_where_infeasible::<Reach>();
+    unreachable_where_infeasible::<Cost>();
+    documents_are_systems::<Reach>();
+    documents_are_systems::<Cost>();
+}
+
+/// The report on a document with `weights cost CAP` says of each query that no run leads there, or the cost of a
+/// cheapest run, or that each costs at least the cap.
+pub fn reports_tell_costs()
+    ensures { (d : Document) (cap : ℕ) (options : OptionsValue) (report : List ℕ)
+        → d.weights ≡ CostLine cap → IsDocument d → IsReport options d report
+        → ByQuery (TellsCosts cap d) 1 d.queries report }
+{
+    costs_are_the_cheapest();
+    documents_are_systems::<Cost>();
 }

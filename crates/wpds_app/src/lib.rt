@@ -1,6 +1,7 @@
 //! The top call: from the bytes that are read to the bytes that are written.
 #![tactic(auto)]
 
+mod input;
 mod laws;
 mod program;
 mod reply;
@@ -8,9 +9,14 @@ mod report;
 mod status;
 mod words;
 
-pub use laws::{costs_are_the_cheapest, reports_tell_reachability, unreachable_where_infeasible};
+pub use input::Input;
+pub use laws::{
+    costs_are_the_cheapest, reports_tell_costs, reports_tell_feasibility,
+    reports_tell_reachability, unreachable_where_infeasible,
+};
 pub use program::run;
 pub use status::Status;
+pub use words::Options;
 
 #[cfg(test)]
 mod tests;

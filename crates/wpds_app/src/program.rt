@@ -1,6 +1,7 @@
-ghost use Rattle.std.specs.Prelude.{◌≡◌, ◌≢◌, ◌↔◌, ℕ, List, Some, OnOk, OnErr, map, take};
+ghost use Rattle.std.specs.Prelude.{◌≡◌, ◌≢◌, ◌↔◌, ◌+◌, ℕ, List, Some, OnOk, OnErr, map, take};
 ghost use Rattle.std.specs.String.{string_bytes};
 ghost use Rattle.std.specs.Io.KnownBytes.{Appends};
+ghost use Rattle.wpds_base.specs.Limits.{most_bytes};
 ghost use Rattle.wpds_port.specs.Causes.{Rose};
 ghost use Rattle.wpds_port.specs.Reading.{ConsumesPart};
 ghost use Rattle.wpds_port.specs.Writing.{AppendsPart};
@@ -30,8 +31,10 @@ fn send<W: Sink>(sink: &mut W, text: &[u8]) -> Result<(), Failed>
 fn finish<W: Sink>(sink: &mut W, status: Status, text: &[u8]) -> Status
     requires { status ≢ Status.WriteFault }
     ensures status { result ≢ Status.WriteFault → result ≡ status }
-    ensures whole { result ≢ Status.WriteFault → Appends (W.written sink.old) (W.written sink.new) text.now }
-    ensures part { result ≡ Status.WriteFault → AppendsPart (W.written sink.old) (W.written sink.new) text.now }
+    ensures whole { result ≢ Status.WriteFault
+        → Appends (W.written sink.old) (W.written sink.new) text.now }
+    ensures part { result ≡ Status.WriteFault
+        → AppendsPart (W.written sink.old) (W.written sink.new) text.now }
     ensures cause { result ≡ Status.WriteFault → Rose (W.faults sink.old) (W.faults sink.new) }
 {
     match send(sink, text) {
@@ -42,8 +45,8 @@ fn finish<W: Sink>(sink: &mut W, status: Status, text: &[u8]) -> Status
 
 /// Does all that the program does: takes the words after its name, reads a document, and writes the answer to it.
 ///
-/// The only words so far are `check` and `check --brief`, which leaves out the listings. The document is read to its end, or to one byte more than a document has.
-/// It is refused whole unless it has the first form (docs/FORMATS.md). The report stands in memory before its first
+/// The only words so far are `check` and `check --brief`, which leaves out the listings. The document is read to its
+/// end, or to one byte more than a document has. It is refused whole unless it has the first form (docs/FORMATS.md). The report stands in memory before its first
 /// byte is written.
 pub fn run<R: Source, W: Sink>(
     alloc: Global,
@@ -51,35 +54,52 @@ pub fn run<R: Source, W: Sink>(
     source: &mut R,
     sink: &mut W,
 ) -> Status
-    // Words are refused exactly where they are no command and no write fault came. Nothing is read then.
-    ensures words_refused { (result ≡ Status.WordsRefused) ↔ ((IsCommand (map string_bytes words.now) → ⊥) × (result ≢ Status.WriteFault)) }
-    ensures words_accepted { result ≢ Status.WordsRefused → result ≢ Status.WriteFault → IsCommand (map string_bytes words.now) }
-    ensures usage { result ≡ Status.WordsRefused → Appends (W.written sink.old) (W.written sink.new) usage_text }
-    ensures unread { (IsCommand (map string_bytes words.now) → ⊥) → R.left source.new ≡ R.left source.old }
+    // Words are refused exactly if they are no command and no write fault came. Nothing is read then.
+    ensures words_refused { (result ≡ Status.WordsRefused)
+        ↔ ((IsCommand (map string_bytes words.now) → ⊥) × (result ≢ Status.WriteFault)) }
+    ensures words_accepted { result ≢ Status.WordsRefused → result ≢ Status.WriteFault
+        → IsCommand (map string_bytes words.now) }
+    ensures usage { result ≡ Status.WordsRefused
+        → Appends (W.written sink.old) (W.written sink.new) usage_text }
+    ensures unread { (IsCommand (map string_bytes words.now) → ⊥)
+        → R.left source.new ≡ R.left source.old }
 
     // Of what was left at most its first 4,194,305 bytes are read, whatever comes of it.
-    ensures read_at_most { ConsumesPart (R.left source.old) (R.left source.new) 4194305 }
+    ensures read_at_most { ConsumesPart (R.left source.old) (R.left source.new) (most_bytes + 1) }
 
-    // A fault comes only where its side failed in this call.
-    ensures read_fault { result ≡ Status.ReadFault → Rose (R.faults source.old) (R.faults source.new) }
-    ensures write_fault { result ≡ Status.WriteFault → Rose (W.faults sink.old) (W.faults sink.new) }
+    // A fault comes only if the count of its side's faults rose in this call, or stands at its end.
+    ensures read_fault { result ≡ Status.ReadFault
+        → Rose (R.faults source.old) (R.faults source.new) }
+    ensures write_fault { result ≡ Status.WriteFault
+        → Rose (W.faults sink.old) (W.faults sink.new) }
 
     // What is written: all of the answer, a beginning of it, or nothing.
-    ensures answered { result ≡ Status.Answered → Replies (map string_bytes words.now) (R.left source.old) (R.left source.new) (W.written sink.old) (W.written sink.new) Status.Answered }
-    ensures document_refused { result ≡ Status.DocumentRefused → Replies (map string_bytes words.now) (R.left source.old) (R.left source.new) (W.written sink.old) (W.written sink.new) Status.DocumentRefused }
-    ensures cut_short { result ≡ Status.WriteFault → IsCutShort (map string_bytes words.now) (R.left source.old) (R.left source.new) (W.written sink.old) (W.written sink.new) }
-    ensures read_fault_unwritten { result ≡ Status.ReadFault → W.written sink.new ≡ W.written sink.old }
-    ensures memory_unwritten { result ≡ Status.OutOfMemory → W.written sink.new ≡ W.written sink.old }
+    ensures answered { result ≡ Status.Answered
+        → Replies (map string_bytes words.now) (R.left source.old) (R.left source.new)
+        (W.written sink.old) (W.written sink.new) Status.Answered }
+    ensures document_refused { result ≡ Status.DocumentRefused
+        → Replies (map string_bytes words.now) (R.left source.old) (R.left source.new)
+        (W.written sink.old) (W.written sink.new) Status.DocumentRefused }
+    ensures cut_short { result ≡ Status.WriteFault
+        → IsCutShort (map string_bytes words.now) (R.left source.old) (R.left source.new)
+        (W.written sink.old) (W.written sink.new) }
+    ensures read_fault_unwritten { result ≡ Status.ReadFault
+        → W.written sink.new ≡ W.written sink.old }
+    ensures memory_unwritten { result ≡ Status.OutOfMemory
+        → W.written sink.new ≡ W.written sink.old }
 
-    // Accepted words, no fault and memory enough give an answer to the input. Where the source tells its bytes, it is
-    // exactly the answer to them.
-    ensures complete { IsCommand (map string_bytes words.now) → result ≢ Status.ReadFault → result ≢ Status.WriteFault → result ≢ Status.OutOfMemory → IsDecided result }
-    ensures exactly { (bytes : List ℕ) → R.left source.old ≡ Some bytes → IsDecided result → IsDecidedBy (take 4194305 bytes) result }
+    // Accepted words, no fault and memory enough give an answer to the input. If the source tells
+    // its bytes, it is exactly the answer to them.
+    ensures complete { IsCommand (map string_bytes words.now)
+        → result ≢ Status.ReadFault → result ≢ Status.WriteFault → result ≢ Status.OutOfMemory
+        → IsDecided result }
+    ensures exactly { (bytes : List ℕ) → R.left source.old ≡ Some bytes → IsDecided result
+        → IsDecidedBy (take (most_bytes + 1) bytes) result }
 {
-    let Some(command) = command_of(words) else {
+    let Some(options) = command_of(words) else {
         return finish(sink, Status::WordsRefused, USAGE.as_bytes());
     };
-    match read_and_reply(alloc, source, command.brief) {
+    match read_and_reply(alloc, source, options) {
         Ok(reply) => finish(sink, reply.status, reply.text.as_bytes()),
         Err(InputFault::Read) => Status::ReadFault,
         Err(InputFault::Memory) => Status::OutOfMemory,

@@ -1,19 +1,17 @@
-ghost use Rattle.std.specs.Prelude.{◌≡◌, ◌≤◌, ◌++◌, ◌∷◌, [], length, IfOk, IsErrOf};
+ghost use Rattle.std.specs.Prelude.{◌≡◌, ◌≤◌, ◌+◌, ◌++◌, ◌∷◌, [], IfOk, IsErrOf};
 ghost use Rattle.std.specs.String.{string_bytes};
+ghost use Rattle.wpds_base.specs.Limits.{most_bytes};
 ghost use Rattle.wpds_port.specs.Causes.{Rose};
 ghost use Rattle.wpds_port.specs.Reading.{ConsumesPart};
 ghost use Rattle.wpds_port.specs.Refusals.{refusal_text};
 ghost use Rattle.wpds_app.specs.Running.{HasReply, IsReply};
 
-use crate::Status;
+use crate::input::{MOST_BYTES, meaning_of};
 use crate::report::report;
+use crate::{Input, Options, Status};
 use std::alloc::Global;
-use system_text::read_first_form;
 use wpds_base::OutOfMemory;
-use wpds_port::{InputFault, Kind, Refusal, Source, read_up_to};
-
-/// The most bytes that a document has.
-const MOST_BYTES: usize = 4_194_304;
+use wpds_port::{InputFault, ReadFault, Refusal, Source, read_up_to};
 
 /// A status and the text that is written with it.
 #[derive(Drop)]
@@ -22,12 +20,12 @@ pub(crate) struct Reply {
     pub(crate) text: String,
 }
 
-// The line of a refusal that concerns the document as a whole.
-fn refused(alloc: Global, kind: Kind) -> Result<Reply, OutOfMemory>
+// The line of a refusal.
+fn refused(alloc: Global, refusal: Refusal) -> Result<Reply, OutOfMemory>
     ensures status { IfOk result (λ r. r.status ≡ Status.DocumentRefused) }
-    ensures text { IfOk result (λ r. string_bytes r.text ≡ refusal_text (record { line = 0; kind = kind }) ++ 10 ∷ []) }
+    ensures text { IfOk result (λ r. string_bytes r.text ≡ refusal_text refusal ++ 10 ∷ []) }
 {
-    let mut text = Refusal { line: 0, kind }.text(alloc)?;
+    let mut text = refusal.text(alloc)?;
     text.push_str("\n")?;
     Ok(Reply {
         status: Status::DocumentRefused,
@@ -36,21 +34,19 @@ fn refused(alloc: Global, kind: Kind) -> Result<Reply, OutOfMemory>
 }
 
 // What is answered to an input.
-fn reply_to(alloc: Global, input: &[u8], brief: bool) -> Result<Reply, OutOfMemory>
-    ensures { IfOk result (λ r. IsReply input.now brief r.status (string_bytes r.text)) }
+fn reply_to(alloc: Global, input: &[u8], options: Options) -> Result<Reply, OutOfMemory>
+    ensures { IfOk result (λ r. IsReply input.now options r.status (string_bytes r.text)) }
 {
-    if input.len() > MOST_BYTES {
-        return refused(alloc, Kind::TooLong);
-    }
-    match read_first_form(alloc, input)? {
-        None => refused(alloc, Kind::NotBuilt),
-        Some(document) => {
-            let text = report(alloc, &document, brief)?;
+    match meaning_of(alloc, input) {
+        Ok(Input::System(document)) => {
+            let text = report(alloc, &document, options)?;
             Ok(Reply {
                 status: Status::Answered,
                 text,
             })
         }
+        Err(ReadFault::Refused(refusal)) => refused(alloc, refusal),
+        Err(ReadFault::Memory) => Err(OutOfMemory),
     }
 }
 
@@ -58,12 +54,14 @@ fn reply_to(alloc: Global, input: &[u8], brief: bool) -> Result<Reply, OutOfMemo
 pub(crate) fn read_and_reply<R: Source>(
     alloc: Global,
     source: &mut R,
-    brief: bool,
+    options: Options,
 ) -> Result<Reply, InputFault>
-    ensures reply { IfOk result (λ r. HasReply (R.left source.old) (R.left source.new) brief r.status (string_bytes r.text)) }
-    ensures fault { IsErrOf result InputFault.Read → Rose (R.faults source.old) (R.faults source.new) }
-    ensures read_at_most { ConsumesPart (R.left source.old) (R.left source.new) 4194305 }
+    ensures reply { IfOk result (λ r.
+        HasReply (R.left source.old) (R.left source.new) options r.status (string_bytes r.text)) }
+    ensures fault { IsErrOf result InputFault.Read
+        → Rose (R.faults source.old) (R.faults source.new) }
+    ensures read_at_most { ConsumesPart (R.left source.old) (R.left source.new) (most_bytes + 1) }
 {
     let input = read_up_to(alloc, source, MOST_BYTES + 1)?;
-    Ok(reply_to(alloc, &input, brief)?)
+    Ok(reply_to(alloc, &input, options)?)
 }

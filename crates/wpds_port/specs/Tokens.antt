@@ -1,6 +1,7 @@
 -- How a line is cut into tokens.
 use Rattle.std.specs.Prelude.{◌≡◌, ◌++◌, IsTrue, ◌≢◌, ℕ, zero, suc, ◌+◌, ◌-◌, ◌≤◌, ◌<◌, Bool, true, false, not, ◌||◌, ◌&&◌, ◌==◌, nat_le, nat_eq, if◌then◌else◌, List, [], ◌∷◌, length, take, drop, find, Option, Some, None, option_map, codes, cond}
 use Rattle.std.specs.List.{starts_with, list_all}
+use Rattle.wpds_base.specs.Limits.{longest_name}
 pub use Rattle.wpds_port.specs.declared.token.Mark.{Mark}
 pub use Rattle.wpds_port.specs.declared.token.Mark.TheVariants.{Arrow, Implies, Becomes, Differs, Colon, Semicolon, Comma, Dot, Star, Plus, Minus, Equal, Question, Not, And, Or, Xor, Open, Close, OpenBrace, CloseBrace}
 pub use Rattle.wpds_port.specs.declared.token.Word.{Word}
@@ -90,9 +91,9 @@ abbrev pub has_leading_zero : List ℕ → Bool
 has_leading_zero (d ∷ e ∷ ds) = d == 48
 has_leading_zero _ = false
 
--- a name of at most 64 bytes, a number without a leading zero, or a mark
+-- a name that is not too long, a number without a leading zero, or a mark
 abbrev pub is_lawful_word : Word → Bool
-is_lawful_word (Name bytes) = nat_le (length bytes) 64
+is_lawful_word (Name bytes) = nat_le (length bytes) longest_name
 is_lawful_word (Number bytes) = not (has_leading_zero bytes)
 is_lawful_word (Sign m) = true
 

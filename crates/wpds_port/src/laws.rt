@@ -16,11 +16,13 @@ pub fn no_list_of_tokens()
 
 /// A word stops before a rest exactly where the text of both begins with no longer word.
 pub fn words_stop_at_their_longest()
-    ensures { (w : Word) (rest : List ℕ) → IsTrue (is_word w) → IsTrue (stops w rest) ↔ IsLongest w rest }
+    ensures { (w : Word) (rest : List ℕ)
+        → IsTrue (is_word w) → IsTrue (stops w rest) ↔ IsLongest w rest }
 {}
 
 /// Each token is the bytes of its line from its start up to its end, and they stand in order.
 pub fn tokens_stand_in_order()
-    ensures stand { (line : List ℕ) (ts : List Token) → AreTokens 0 line ts → AllByRecursion (StandsIn line) ts }
+    ensures stand { (line : List ℕ) (ts : List Token)
+        → AreTokens 0 line ts → AllByRecursion (StandsIn line) ts }
     ensures order { (line : List ℕ) (ts : List Token) → AreTokens 0 line ts → AreInOrder 0 ts }
 {}

@@ -25,9 +25,15 @@ impl Model for MemSink {
 
     ghost Value = { MemoryOutput };
 
-    ghost view = { λ s. record { written = s.bytes.items; room = s.room; piece = s.piece; calls = s.plan } };
+    ghost view = { λ s. record {
+      written = s.bytes.items;
+      room = s.room;
+      piece = s.piece;
+      calls = s.plan;
+    } };
 
-    ghost invariant = { λ s. (length s.bytes.items ≤ s.room) × (s.room ≤ vec_capacity s.bytes) × (1 ≤ s.piece) };
+    ghost invariant = { λ s.
+        (length s.bytes.items ≤ s.room) × (s.room ≤ vec_capacity s.bytes) × (1 ≤ s.piece) };
 }
 
 impl MemSink {
@@ -72,7 +78,8 @@ impl Sink for MemSink {
     fn write(&mut self, piece: &[u8]) -> Result<usize, Failed>
         ensures bound { IfOk result (λ n. n ≤ length piece.now) }
         ensures some { IfOk result (λ n. 0 < length piece.now → 0 < n) }
-        ensures bytes { WriteAppends (Some self.old.written) (Some self.new.written) result piece.now }
+        ensures bytes { WriteAppends
+            (Some self.old.written) (Some self.new.written) result piece.now }
         ensures cause { HasCause self.old.calls.faults self.new.calls.faults result }
         ensures outcome { MatchResult result
             (λ _. (¬ FailsNext self.old.calls) × HasRoomFor self.old (length piece.now))
@@ -92,7 +99,8 @@ impl Sink for MemSink {
     fn flush(&mut self) -> Result<(), Failed>
         ensures bytes { Keeps (Some self.old.written) (Some self.new.written) }
         ensures cause { HasCause self.old.calls.faults self.new.calls.faults result }
-        ensures outcome { MatchResult result (λ _. ¬ FailsNext self.old.calls) (λ _. FailsNext self.old.calls) }
+        ensures outcome { MatchResult result
+            (λ _. ¬ FailsNext self.old.calls) (λ _. FailsNext self.old.calls) }
         ensures flushed { OnOk result (self.new ≡ after_flush self.old) }
         ensures failed { OnErr result (self.new ≡ after_failure self.old) }
     {

@@ -23,7 +23,11 @@ impl Model for MemSource {
 
     ghost Value = { MemoryInput };
 
-    ghost view = { λ s. record { left = drop s.at s.bytes.items; piece = s.piece; calls = s.plan } };
+    ghost view = { λ s. record {
+      left = drop s.at s.bytes.items;
+      piece = s.piece;
+      calls = s.plan;
+    } };
 
     ghost invariant = { λ s. (s.at ≤ length s.bytes.items) × (1 ≤ s.piece) };
 }
@@ -56,7 +60,8 @@ impl Source for MemSource {
         ensures bound { ReadsAtMost result buf.new }
         ensures bytes { ReadConsumes (Some self.old.left) (Some self.new.left) result buf.new }
         ensures cause { HasCause self.old.calls.faults self.new.calls.faults result }
-        ensures outcome { MatchResult result (λ _. ¬ FailsNext self.old.calls) (λ _. FailsNext self.old.calls) }
+        ensures outcome { MatchResult result
+            (λ _. ¬ FailsNext self.old.calls) (λ _. FailsNext self.old.calls) }
         ensures count { IfOk result (λ n. n ≡ given_count self.old (length buf.old)) }
         ensures given { IfOk result (λ n. self.new ≡ after_read self.old n) }
         ensures failed { OnErr result (self.new ≡ after_failed_read self.old) }

@@ -1,5 +1,5 @@
 use Rattle.std.proofs.Common.{◌≡◌, ◌++◌, false, take, drop}
-use Rattle.config_patterns.specs.Places.{advanced}
+use Rattle.config_patterns.specs.private.Places.{advanced}
 use Rattle.config_patterns.proofs.matching.advance.Given as goal
 
 abbrev pub invariant-loop-i : goal.invariant-loop-i

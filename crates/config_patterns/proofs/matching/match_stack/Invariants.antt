@@ -1,6 +1,6 @@
 use Rattle.std.proofs.Common.{◌≡◌, length, drop}
 use Rattle.config_patterns.specs.Membership.{items_match}
-use Rattle.config_patterns.specs.Places.{place_matches}
+use Rattle.config_patterns.specs.private.Places.{place_matches}
 use Rattle.config_patterns.proofs.matching.match_stack.Given as goal
 
 abbrev pub invariant-loop-k : goal.invariant-loop-k

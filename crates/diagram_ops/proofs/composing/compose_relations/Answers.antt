@@ -1,7 +1,7 @@
 use Rattle.std.proofs.Common.{◌*◌, List}
 use Rattle.diagram_store.specs.declared.branch.Branch.{Branch}
 use Rattle.diagram_store.specs.Nodes.{IsAbove}
-use Rattle.diagram_ops.specs.Images.{IsValue}
+use Rattle.diagram_ops.specs.private.Images.{IsValue}
 use Rattle.diagram_ops.proofs.KeepingLemmas.{keeps_within, keeps_both, stands_kept}
 use Rattle.diagram_ops.proofs.VariableLemmas.{composed_below}
 use Rattle.diagram_ops.proofs.RelationLemmas.{relates_composed}
@@ -18,11 +18,8 @@ returns-clause-relates c =
     let x = stands_kept c.load.new.scratch c.in_ok-x.ensures.reduced end done.reduced k1 c.in_ok-x.x (IsValue c.args.a.now.nodes c.args.a.now.root) (λ v. IsAbove c.args.a.now.nodes v c.args.a.now.root) c.in_ok-x.ensures.stands in
     let y = stands_kept c.load-2.new.scratch c.in_ok-y.ensures.reduced end done.reduced done.keeps c.in_ok-y.y (IsValue c.args.b.now.nodes c.args.b.now.root) (λ v. IsAbove c.args.b.now.nodes v c.args.b.now.root) c.in_ok-y.ensures.stands in
     relates_composed end done.reduced c.in_ok-x.x c.in_ok-y.y c.in_ok-root.root done.composed.stands.means
-    c.args.a.now.nodes c.args.a.now.root x.means c.args.b.now.nodes c.args.b.now.root y.means
-    c.in_ok-made.made.nodes c.in_ok-made.made.root c.in_ok-made.ensures
+    c.args.a.now x.means c.args.b.now y.means c.in_ok-made.made c.in_ok-made.ensures
 
 pub returns-clause-variables : goal.returns-clause-variables
 returns-clause-variables c =
-    composed_below (2 * c.args.n) c.in_ok-made.made.nodes c.in_ok-made.made.root c.in_ok-made.made.is_canonical
-    c.args.a.now.nodes c.args.a.now.root c.args.a.now.is_canonical.reduced c.requires.first
-    c.args.b.now.nodes c.args.b.now.root c.args.b.now.is_canonical.reduced c.requires.second (returns-clause-relates c)
+    composed_below c.independent_variables.ensures (2 * c.args.n) c.in_ok-made.made c.args.a.now c.args.b.now c.requires.first c.requires.second (returns-clause-relates c)

@@ -15,7 +15,7 @@ returns-in-None t c =
 
 pub returns-in_ok-place-in-Some-node : goal.returns-in_ok-place-in-Some-node
 returns-in_ok-place-in-Some-node t c =
-    copies_made c.args.scratch.now c.node.ensures.reduced c.args.reference c.in-Some-node.found (sym c.node.ensures.found ∙ c.in-Some-node.is)
+    copies_made c.args.scratch.now c.node.ensures.reduced (c.one_reference.ensures c.args.scratch.now c.node.ensures.reduced) c.args.reference c.in-Some-node.found (sym c.node.ensures.found ∙ c.in-Some-node.is)
     (λ k. get nat_eq c.args.copy.now.places k) c.args.copy.now.nodes.items
     (λ k. get nat_eq c.copy_from.new.copy.places k) c.copy_from.new.copy.nodes.items
     (λ k. get nat_eq c.copy_from-in-Some-node.new.copy.places k) c.copy_from-in-Some-node.new.copy.nodes.items

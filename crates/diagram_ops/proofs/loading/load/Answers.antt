@@ -1,7 +1,7 @@
 use Rattle.std.proofs.Common.{◌≡◌, ℕ, List, ◌+◌, ◌≤◌, length, refl, sym, ap, subst, ◌∙◌, arith}
 use Rattle.std.proofs.lemmas.List.{length_push}
 use Rattle.diagram_store.proofs.CallerLemmas.{value_at_end}
-use Rattle.diagram_ops.specs.Images.{IsImage, IsValue}
+use Rattle.diagram_ops.specs.private.Images.{IsImage, IsValue}
 use Rattle.diagram_ops.proofs.KeepingLemmas.{keeps_same, keeps_both}
 use Rattle.diagram_ops.proofs.ImageLemmas.{image_first, image_kept, image_push, root_within, root_stands}
 use Rattle.diagram_ops.proofs.loading.load.Goals as goal

@@ -1,6 +1,6 @@
 use Rattle.std.proofs.Common.{◌≡◌, ◌+◌, length}
-use Rattle.diagram_ops.specs.Images.{IsImage, IsValue}
-use Rattle.diagram_ops.specs.Scratch.{Keeps}
+use Rattle.diagram_ops.specs.private.Images.{IsImage, IsValue}
+use Rattle.diagram_ops.specs.private.Scratch.{Keeps}
 use Rattle.diagram_ops.proofs.loading.load.Given as goal
 
 abbrev pub invariant-loop-k : goal.invariant-loop-k

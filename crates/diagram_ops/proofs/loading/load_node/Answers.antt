@@ -1,6 +1,6 @@
 use Rattle.std.proofs.Common.{◌+◌, get_or, arith}
 use Rattle.diagram_store.specs.declared.branch.Branch.{Branch}
-use Rattle.diagram_ops.specs.Images.{IsValue}
+use Rattle.diagram_ops.specs.private.Images.{IsValue}
 use Rattle.diagram_ops.proofs.ImageLemmas.{node_of_list, low_placed, high_placed, low_within, high_within, low_above, high_above, choice_means, value_by}
 use Rattle.diagram_ops.proofs.loading.load_node.Goals as goal
 

@@ -9,5 +9,4 @@ returns-clause-value c = λ bits.
 
 pub returns-clause-variables : goal.returns-clause-variables
 returns-clause-variables c = λ limit below.
-    quantified_below limit c.in_ok-made.made.nodes c.in_ok-made.made.root c.in_ok-made.made.is_canonical
-    c.args.a.now.nodes c.args.a.now.root c.args.a.now.is_canonical.reduced below c.args.vars.now (returns-clause-value c)
+    quantified_below c.independent_variables.ensures limit c.in_ok-made.made c.args.a.now below c.args.vars.now (returns-clause-value c)

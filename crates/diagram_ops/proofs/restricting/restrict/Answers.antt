@@ -7,5 +7,4 @@ returns-clause-value c = λ bits. c.in_ok-made.ensures bits ∙ c.in_ok-root.ens
 
 pub returns-clause-variables : goal.returns-clause-variables
 returns-clause-variables c = λ limit.
-    restricted_below limit c.in_ok-made.made.nodes c.in_ok-made.made.root c.in_ok-made.made.is_canonical
-    c.args.a.now.nodes c.args.a.now.root c.args.a.now.is_canonical.reduced c.args.var c.args.value (returns-clause-value c)
+    restricted_below c.independent_variables.ensures limit c.in_ok-made.made c.args.a.now c.args.var c.args.value (returns-clause-value c)

@@ -1,6 +1,6 @@
 use Rattle.std.proofs.Common.{sym, ap, ◌∙◌, arith}
 use Rattle.std.specs.Prelude.{option_and_then}
-use Rattle.diagram_store.specs.Canonical.{in_turn, turn_after}
+use Rattle.diagram_store.specs.private.Turns.{in_turn, turn_after}
 use Rattle.diagram_store.proofs.NodeLemmas.{node_within}
 use Rattle.diagram_store.proofs.TurnLemmas.{turn_below, turn_by_branches, turn_nowhere}
 use Rattle.diagram_store.proofs.form.+turn_after.Goals as goal

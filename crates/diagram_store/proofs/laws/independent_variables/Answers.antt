@@ -1,4 +1,5 @@
-use Rattle.diagram_store.proofs.TurnLemmas.{canonical_reads, reads_below}
+use Rattle.diagram_store.proofs.TurnLemmas.{reads_below}
+use Rattle.diagram_store.proofs.WalkLemmas.{canonical_reads}
 use Rattle.diagram_store.proofs.laws.independent_variables.Goals as goal
 
 pub returns : goal.returns

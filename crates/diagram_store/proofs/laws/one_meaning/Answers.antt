@@ -1,6 +1,6 @@
 use Rattle.std.proofs.Common.{ap₂}
 use Rattle.diagram_store.specs.Meaning.{value_at, bits_of}
-use Rattle.diagram_store.proofs.TurnLemmas.{canonical_is_one}
+use Rattle.diagram_store.proofs.WalkLemmas.{canonical_is_one}
 use Rattle.diagram_store.proofs.BitLemmas.{same_by_lists}
 use Rattle.diagram_store.proofs.laws.one_meaning.Goals as goal
 

@@ -1,6 +1,6 @@
 use Rattle.std.proofs.Common.{◌≡◌, ◌<◌, length, get_or, ap, ◌∙◌, sym, subst}
 use Rattle.std.specs.Prelude.{All}
-use Rattle.system_text.specs.FirstForm.{IsRuleLine}
+use Rattle.system_text.specs.Documents.{IsRuleLine}
 use Rattle.pushdown_rules.specs.Pushdown.{Pushdown}
 use Rattle.document_systems.proofs.LineLemmas.{next_is_not_refused, rules_before}
 use Rattle.document_systems.proofs.system.system_from.Goals as goal
@@ -17,6 +17,7 @@ add_line-requires g c =
     let within : i < length d.rules = subst (λ xs. i < length xs) read c.loop-line-test.true in
     let item : c.line-item.result ≡ get_or d.rules i c.line-item.result = subst (λ xs. c.line-item.result ≡ get_or xs i c.line-item.result) read c.line-item.is in
     let count : length s.rules ≡ i = ap (λ (p : Pushdown _ _ _). length p.rules) same ∙ rules_before _ d.rules i within in
-    next_is_not_refused s d.weights d.rules i c.line-item.result
-    (subst (λ m. All (IsRuleLine d.weights m s.symbols) d.rules) (sym controls) (subst (λ n. All (IsRuleLine d.weights (length d.controls) n) d.rules) (sym symbols) c.requires.rules))
+    let items = length d.items in
+    next_is_not_refused s d.weights items d.rules i c.line-item.result
+    (subst (λ m. All (IsRuleLine d.weights m s.symbols items) d.rules) (sym controls) (subst (λ n. All (IsRuleLine d.weights (length d.controls) n items) d.rules) (sym symbols) c.requires.rules))
     c.requires.few within item count

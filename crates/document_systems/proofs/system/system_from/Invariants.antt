@@ -4,4 +4,5 @@ use Rattle.document_systems.proofs.system.system_from.Given as goal
 
 abbrev pub invariant-loop-line : goal.invariant-loop-line
 invariant-loop-line g l =
-    l.system ≡ record (system_of (g.S.Semiring.operations l.fn.semiring) (g.S.DocumentWeights.weight l.fn.semiring) l.fn.semiring l.document) { rules = map (rule_of (g.S.Semiring.operations l.fn.semiring) (g.S.DocumentWeights.weight l.fn.semiring)) (take l.line-index l.document.rules) }
+    let kind = g.S.DocumentWeights.kind in
+    l.system ≡ record (system_of kind l.fn.semiring l.document) { rules = map (rule_of kind l.fn.semiring) (take l.line-index l.document.rules) }

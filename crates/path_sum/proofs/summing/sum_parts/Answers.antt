@@ -1,11 +1,13 @@
 use Rattle.std.proofs.Common.{length, sym, ap, ◌∙◌, subst}
 use Rattle.weighted_automata.specs.Entries.{entry_at}
-use Rattle.saturation_core.specs.Openings.{AreKept}
-use Rattle.saturation_core.specs.States.{weight_at}
-use Rattle.path_sum.specs.Sums.{answer_place}
+use Rattle.saturation_laws.specs.Openings.{AreKept}
+use Rattle.saturation_laws.specs.States.{weight_at}
+use Rattle.path_sum.specs.Sums.{answer_place, ways_of}
 use Rattle.path_sum.specs.Answers.{IsListingOf}
-use Rattle.path_sum.specs.Growings.{state_of}
-use Rattle.path_sum.proofs.FinishedLemmas.{task_is, begun_at, ready_at, round_at, kept_at, answer_sums}
+use Rattle.path_sum.specs.private.Growing.{IsListedOver, BeginsBehind, state_of}
+use Rattle.path_sum.proofs.AddedLemmas.{grown_begins}
+use Rattle.witness_graph.specs.Nodes.{Nodes}
+use Rattle.path_sum.proofs.FinishedLemmas.{input_is, begun_at, ready_at, round_at, kept_at, answer_sums}
 use Rattle.path_sum.proofs.summing.sum_parts.Goals as goal
 
 pub rounds-init : goal.rounds-init
@@ -14,11 +16,11 @@ rounds-init g c =
     let d = c.args.direction.now in
     let valid = c.semiring-semiring.ensures.valid in
     let sums = g.met.D.Direction.sums d p c.args.opening.now valid c.requires.automaton.fits in
-    let is_task = task_is g.S.Semiring.laws valid c.requires.automaton sums c.args.pattern.now c.requires.pattern
-    c.in_ok-task.task c.semiring-semiring.result.now c.side-side.result c.in_ok-task.ensures c.semiring-semiring.ensures.value (c.side-side.ensures p) in (
+    let is_task = input_is g.S.Semiring.laws valid c.requires.automaton sums c.args.pattern.now c.requires.pattern
+    c.in_ok-input.input c.semiring-semiring.result.now c.side-side.result c.in_ok-input.ensures c.semiring-semiring.ensures.value (c.side-side.ensures p) in (
       begun_at g.S.Semiring.laws valid c.requires.automaton sums c.args.pattern.now c.requires.pattern
-          c.in_ok-task.task is_task (state_of c.in_ok-sum.sum) c.in_ok-sum.ensures.state,
-      c.in_ok-sum.ensures.side,
+          c.in_ok-input.input is_task (state_of c.in_ok-sum.sum) c.in_ok-sum.ensures.state,
+      c.in_ok-sum.ensures.graph,
     )
 
 pub draw-requires : goal.draw-requires
@@ -27,11 +29,11 @@ draw-requires g c =
     let d = c.args.direction.now in
     let valid = c.semiring-semiring.ensures.valid in
     let sums = g.met.D.Direction.sums d p c.args.opening.now valid c.requires.automaton.fits in
-    let is_task = task_is g.S.Semiring.laws valid c.requires.automaton sums c.args.pattern.now c.requires.pattern
-    c.in_ok-task.task c.semiring-semiring.result.now c.side-side.result c.in_ok-task.ensures c.semiring-semiring.ensures.value (c.side-side.ensures p) in
+    let is_task = input_is g.S.Semiring.laws valid c.requires.automaton sums c.args.pattern.now c.requires.pattern
+    c.in_ok-input.input c.semiring-semiring.result.now c.side-side.result c.in_ok-input.ensures c.semiring-semiring.ensures.value (c.side-side.ensures p) in
     record {
       ready = ready_at g.S.Semiring.laws valid c.requires.automaton sums c.args.pattern.now c.requires.pattern
-          c.in_ok-task.task is_task (state_of c.rounds.sum) c.in-Some.place c.next.new.waiting.items c.rounds.invariant.0 c.in-Some.ensures;
+          c.in_ok-input.input is_task (state_of c.rounds.sum) c.in-Some.place c.next.new.waiting.items c.rounds.invariant.0 c.in-Some.ensures;
     }
 
 pub rounds-smaller : goal.rounds-smaller
@@ -40,10 +42,10 @@ rounds-smaller g c =
     let d = c.args.direction.now in
     let valid = c.semiring-semiring.ensures.valid in
     let sums = g.met.D.Direction.sums d p c.args.opening.now valid c.requires.automaton.fits in
-    let is_task = task_is g.S.Semiring.laws valid c.requires.automaton sums c.args.pattern.now c.requires.pattern
-    c.in_ok-task.task c.semiring-semiring.result.now c.side-side.result c.in_ok-task.ensures c.semiring-semiring.ensures.value (c.side-side.ensures p) in
+    let is_task = input_is g.S.Semiring.laws valid c.requires.automaton sums c.args.pattern.now c.requires.pattern
+    c.in_ok-input.input c.semiring-semiring.result.now c.side-side.result c.in_ok-input.ensures c.semiring-semiring.ensures.value (c.side-side.ensures p) in
     let round = round_at g.S.Semiring.laws valid c.requires.automaton sums c.args.pattern.now c.requires.pattern
-    c.in_ok-task.task is_task (state_of c.rounds.sum) (state_of c.draw.new.self) c.in-Some.place c.next.new.waiting.items c.rounds.invariant.0 c.in-Some.ensures c.in_ok-draw.ensures.grows in
+    c.in_ok-input.input is_task (state_of c.rounds.sum) (state_of c.draw.new.self) c.in-Some.place c.next.new.waiting.items c.rounds.invariant.0 c.in-Some.ensures c.in_ok-draw.ensures.grows in
     round.1
 
 pub rounds-preserved : goal.rounds-preserved
@@ -52,11 +54,11 @@ rounds-preserved g c =
     let d = c.args.direction.now in
     let valid = c.semiring-semiring.ensures.valid in
     let sums = g.met.D.Direction.sums d p c.args.opening.now valid c.requires.automaton.fits in
-    let is_task = task_is g.S.Semiring.laws valid c.requires.automaton sums c.args.pattern.now c.requires.pattern
-    c.in_ok-task.task c.semiring-semiring.result.now c.side-side.result c.in_ok-task.ensures c.semiring-semiring.ensures.value (c.side-side.ensures p) in
+    let is_task = input_is g.S.Semiring.laws valid c.requires.automaton sums c.args.pattern.now c.requires.pattern
+    c.in_ok-input.input c.semiring-semiring.result.now c.side-side.result c.in_ok-input.ensures c.semiring-semiring.ensures.value (c.side-side.ensures p) in
     let round = round_at g.S.Semiring.laws valid c.requires.automaton sums c.args.pattern.now c.requires.pattern
-    c.in_ok-task.task is_task (state_of c.rounds.sum) (state_of c.draw.new.self) c.in-Some.place c.next.new.waiting.items c.rounds.invariant.0 c.in-Some.ensures c.in_ok-draw.ensures.grows in
-    (round.0, c.in_ok-draw.ensures.side ∙ c.rounds.invariant.1)
+    c.in_ok-input.input is_task (state_of c.rounds.sum) (state_of c.draw.new.self) c.in-Some.place c.next.new.waiting.items c.rounds.invariant.0 c.in-Some.ensures c.in_ok-draw.ensures.grows in
+    (round.0, c.in_ok-draw.ensures.graph ∙ c.rounds.invariant.1)
 
 pub weight_now-requires : goal.weight_now-requires
 weight_now-requires g c =
@@ -72,10 +74,17 @@ list_answer-requires g c =
     let p = c.args.system.now in
     let d = c.args.direction.now in
     let valid = c.semiring-semiring.ensures.valid in
-    let sums = g.met.D.Direction.sums d p c.args.opening.now valid c.requires.automaton.fits in (
-      g.S.Semiring.operations p.semiring,
-      kept_at g.S.Semiring.laws valid c.requires.automaton sums c.args.pattern.now c.requires.pattern (state_of c.rounds.sum) c.rounds.invariant.0,
-    )
+    let sums = g.met.D.Direction.sums d p c.args.opening.now valid c.requires.automaton.fits in
+    record {
+      kept = (
+        g.S.Semiring.operations p.semiring,
+        kept_at g.S.Semiring.laws valid c.requires.automaton sums c.args.pattern.now c.requires.pattern (state_of c.rounds.sum) c.rounds.invariant.0,
+      );
+      begins =
+          subst (λ (v : Nodes). BeginsBehind v.nodes c.rounds.sum.nodes.nodes) (sym c.rounds.invariant.1)
+          (grown_begins (g.S.Semiring.operations p.semiring) (g.D.Direction.way.tables d p).side c.args.opening.now c.args.transitions.now.transitions
+          (ways_of c.args.pattern.now) c.args.graph.now.nodes (state_of c.rounds.sum) c.rounds.invariant.0.grown);
+    }
 
 pub returns : goal.returns
 returns g c =
@@ -84,6 +93,8 @@ returns g c =
     let valid = c.semiring-semiring.ensures.valid in
     let sums = g.met.D.Direction.sums d p c.args.opening.now valid c.requires.automaton.fits in
     let value = c.in_ok-value.ensures ∙ ap (λ m. weight_at (g.S.Semiring.operations m) answer_place c.rounds.sum.pairs.transitions) c.semiring-semiring.ensures.value in
-    let listing = subst (λ sd. IsListingOf sd c.rounds.sum.nodes.nodes (entry_at answer_place c.rounds.sum.pairs.transitions) c.in_ok-listing.listing) (c.rounds.invariant.1 ∙ c.requires.side) c.in_ok-listing.ensures in
+    let answer = entry_at answer_place c.rounds.sum.pairs.transitions in
+    let over = subst (λ (v : Nodes). IsListedOver (record { graph = v; nodes = c.rounds.sum.nodes.nodes }) answer c.in_ok-listing.listing) c.rounds.invariant.1 c.in_ok-listing.ensures in
+    let listing = subst (λ sd. IsListingOf sd c.args.graph.now.nodes over.0 answer c.in_ok-listing.listing) c.requires.side over.2 in
     answer_sums g.S.Semiring.laws valid c.requires.automaton sums c.args.pattern.now c.requires.pattern
-    (state_of c.rounds.sum) c.rounds.invariant.0 c.in_default.ensures (record { value = c.in_ok-value.value; listing = c.in_ok-listing.listing }) value listing
+    (state_of c.rounds.sum) c.rounds.invariant.0 c.in_default.ensures (record { value = c.in_ok-value.value; listing = c.in_ok-listing.listing }) value over.0 over.1 listing

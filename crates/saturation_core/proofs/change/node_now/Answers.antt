@@ -1,6 +1,6 @@
 use Rattle.std.proofs.Common.{sym, ◌∙◌}
 use Rattle.std.proofs.lemmas.Option.{slice_get_within}
-use Rattle.saturation_core.proofs.BookFields.{indexed}
+use Rattle.saturation_laws.proofs.CallerLemmas.{indexed}
 use Rattle.saturation_core.proofs.change.node_now.Goals as goal
 
 pub entry-requires : goal.entry-requires

@@ -1,6 +1,6 @@
 use Rattle.std.proofs.Common.{sym, ◌∙◌}
 use Rattle.std.proofs.lemmas.Option.{slice_get_within}
-use Rattle.saturation_core.proofs.BookFields.{indexed}
+use Rattle.saturation_laws.proofs.CallerLemmas.{indexed}
 use Rattle.saturation_core.proofs.ChangeLemmas.{read_entry, present_at}
 use Rattle.saturation_core.proofs.change.weight_now.Goals as goal
 

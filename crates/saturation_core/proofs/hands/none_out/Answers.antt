@@ -1,5 +1,5 @@
 use Rattle.std.proofs.Common.{sym, ◌∙◌, refl}
-use Rattle.saturation_core.proofs.BookFields.{none_more, none_at_all, some_there, not_some}
+use Rattle.saturation_laws.proofs.CallerLemmas.{none_more, none_at_all, some_there, not_some}
 use Rattle.saturation_core.proofs.hands.none_out.Goals as goal
 
 pub loop-h-preserved : goal.loop-h-preserved

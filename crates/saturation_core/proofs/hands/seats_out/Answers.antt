@@ -1,6 +1,6 @@
 use Rattle.std.proofs.Common.{sym, ap, arith}
 use Rattle.std.proofs.Math.Seq.{drop-length}
-use Rattle.saturation_core.specs.Books.{seat_bits}
+use Rattle.saturation_core.specs.Seats.{seat_bits}
 use Rattle.saturation_core.proofs.HandLemmas.{bits_below, bits_step, bit_small}
 use Rattle.saturation_core.proofs.hands.seats_out.Goals as goal
 

@@ -1,5 +1,5 @@
 use Rattle.std.proofs.Common.{◌≡◌, ◌≤◌, length, drop}
-use Rattle.saturation_core.specs.Books.{seat_bits}
+use Rattle.saturation_core.specs.Seats.{seat_bits}
 use Rattle.saturation_core.proofs.hands.seats_out.Given as goal
 
 abbrev pub invariant-loop-left : goal.invariant-loop-left

@@ -1,5 +1,5 @@
 use Rattle.std.proofs.Common.{◌≡◌, ◌+◌, ◌≤◌, drop}
-use Rattle.saturation_core.specs.Bound.{takes}
+use Rattle.saturation_laws.specs.Bound.{takes}
 use Rattle.saturation_core.proofs.journal.count_takes.Given as goal
 
 abbrev pub invariant-loop-event : goal.invariant-loop-event

@@ -1,5 +1,5 @@
 use Rattle.std.proofs.Common.{◌≡◌, ◌+◌, ◌≤◌, drop}
-use Rattle.saturation_core.specs.Bound.{takes_of}
+use Rattle.saturation_laws.specs.Bound.{takes_of}
 use Rattle.saturation_core.proofs.journal.count_takes_of.Given as goal
 
 abbrev pub invariant-loop-event : goal.invariant-loop-event

@@ -1,5 +1,5 @@
 use Rattle.std.proofs.Common.{◌≡◌, take, map}
-use Rattle.saturation_core.specs.Plans.{goal_of}
+use Rattle.saturation_core.specs.private.Plans.{goal_of}
 use Rattle.saturation_core.proofs.lower.goals.Given as goal
 
 abbrev pub invariant-loop-step : goal.invariant-loop-step

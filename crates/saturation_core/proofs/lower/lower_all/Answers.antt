@@ -1,6 +1,6 @@
 use Rattle.std.proofs.Common.{[], sym, ap, ◌∙◌}
 use Rattle.std.specs.VecDeque.{deque_len, deque_capacity}
-use Rattle.saturation_core.specs.Plans.{state_with, put_all}
+use Rattle.saturation_core.specs.private.Plans.{state_with, put_all}
 use Rattle.saturation_core.proofs.PlanEqualsApply.{next_place, step_on, with_front}
 use Rattle.saturation_core.proofs.lower.lower_all.Goals as goal
 

@@ -1,8 +1,8 @@
 use Rattle.std.proofs.Common.{◌≡◌, List, length}
 use Rattle.std.specs.Prelude.{Option}
 use Rattle.std.specs.VecDeque.{deque_len, deque_capacity}
-use Rattle.saturation_core.specs.declared.hand.Holding.{Holding}
-use Rattle.saturation_core.specs.Plans.{state_with, put_all}
+use Rattle.saturation_laws.specs.declared.holding.Holding.{Holding}
+use Rattle.saturation_core.specs.private.Plans.{state_with, put_all}
 use Rattle.saturation_core.proofs.PlanEqualsApply.{IsUnderWay}
 use Rattle.saturation_core.proofs.lower.lower_all.Given as goal
 

@@ -2,7 +2,7 @@ use Rattle.std.proofs.Common.{◌≡◌, ◌<◌, get_or, ℕ, ◌+◌, sym, ap,
 use Rattle.std.specs.Prelude.{IfSome, Option}
 use Rattle.weighted_automata.specs.Entries.{entry_at}
 use Rattle.weighted_automata.specs.Places.{same_place}
-use Rattle.saturation_core.specs.Finding.{found_at}
+use Rattle.saturation_core.specs.private.Finding.{found_at}
 use Rattle.saturation_core.proofs.PutPlan.{earlier_more, found_here, found_before}
 use Rattle.saturation_core.proofs.plan.last_at.Goals as goal
 use Rattle.saturation_core.proofs.plan.last_at.Goals.{then-is, else-is}

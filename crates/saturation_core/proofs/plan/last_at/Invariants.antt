@@ -2,8 +2,8 @@ use Rattle.std.proofs.Common.{◌≡◌, ◌<◌, ℕ, List, take}
 use Rattle.std.specs.Prelude.{IfSome}
 use Rattle.weighted_automata.specs.declared.transitions.Entry.{Entry}
 use Rattle.weighted_automata.specs.Entries.{entry_at}
-use Rattle.saturation_core.specs.Plans.{put_from}
-use Rattle.saturation_core.specs.Finding.{found_at}
+use Rattle.saturation_core.specs.private.Plans.{put_from}
+use Rattle.saturation_core.specs.private.Finding.{found_at}
 use Rattle.saturation_core.proofs.plan.last_at.Given as goal
 
 abbrev pub invariant-loop-k : goal.invariant-loop-k

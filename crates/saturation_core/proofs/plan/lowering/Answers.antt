@@ -1,6 +1,6 @@
 use Rattle.std.proofs.Common.{◌+◌, length, sym, subst}
 use Rattle.semiring_laws.specs.Semiring.{Fits}
-use Rattle.saturation_core.specs.Plans.{put_from}
+use Rattle.saturation_core.specs.private.Plans.{put_from}
 use Rattle.saturation_core.proofs.ChangeLemmas.{kept_weight}
 use Rattle.saturation_core.proofs.plan.lowering.Goals as goal
 

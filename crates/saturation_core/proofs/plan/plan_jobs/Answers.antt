@@ -1,6 +1,6 @@
 use Rattle.std.proofs.Common.{sym, ap, ◌∙◌, subst, arith}
 use Rattle.semiring_laws.specs.Semiring.{Fits}
-use Rattle.saturation_core.specs.Plans.{change_with, put_from, lowering_of}
+use Rattle.saturation_core.specs.private.Plans.{change_with, put_from, lowering_of}
 use Rattle.saturation_core.proofs.PutPlan.{plan_more, plan_keeps}
 use Rattle.saturation_core.proofs.plan.plan_jobs.Goals as goal
 

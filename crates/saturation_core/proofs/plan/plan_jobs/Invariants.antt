@@ -1,6 +1,6 @@
 use Rattle.std.proofs.Common.{◌≡◌, ◌+◌, ◌++◌, length, drop}
-use Rattle.saturation_core.specs.Openings.{AreKept}
-use Rattle.saturation_core.specs.Plans.{changes_with, put_from, plan_of}
+use Rattle.saturation_laws.specs.Openings.{AreKept}
+use Rattle.saturation_core.specs.private.Plans.{changes_with, put_from, plan_of}
 use Rattle.saturation_core.proofs.plan.plan_jobs.Given as goal
 
 abbrev pub invariant-loop-i : goal.invariant-loop-i

@@ -1,7 +1,7 @@
 use Rattle.std.proofs.Common.{◌≡◌, sym, ap, subst, arith}
 use Rattle.std.specs.Prelude.{IfOk}
-use Rattle.saturation_core.specs.States.{weight_of}
-use Rattle.saturation_core.specs.Plans.{put_from}
+use Rattle.saturation_laws.specs.States.{weight_of}
+use Rattle.saturation_core.specs.private.Plans.{put_from}
 use Rattle.saturation_core.proofs.ChangeLemmas.{present_at}
 use Rattle.saturation_core.proofs.PutPlan.{planned_at, planned_not, within_at}
 use Rattle.saturation_core.proofs.plan.weight_in.Goals as goal

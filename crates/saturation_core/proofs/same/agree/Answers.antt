@@ -1,5 +1,5 @@
 use Rattle.std.proofs.Common.{refl}
-use Rattle.saturation_core.specs.Directions.{AgreeOn}
+use Rattle.saturation_laws.specs.Directions.{AgreeOn}
 use Rattle.saturation_core.proofs.AllPush.{all_more, all_read}
 use Rattle.saturation_core.proofs.same.agree.Goals as goal
 

@@ -1,5 +1,5 @@
 use Rattle.std.proofs.Common.{◌≡◌, drop}
-use Rattle.saturation_core.specs.Openings.{AreKept, found_so_far, with_edges}
+use Rattle.saturation_laws.specs.Openings.{AreKept, found_so_far, with_edges}
 use Rattle.saturation_core.proofs.start.add_edges.Given as goal
 
 abbrev pub invariant-loop-edge : goal.invariant-loop-edge

@@ -1,6 +1,6 @@
 use Rattle.std.proofs.Common.{◌≡◌, drop, length}
-use Rattle.saturation_core.specs.States.{apply_all}
-use Rattle.saturation_core.specs.Openings.{AreKept, found_so_far, pops_from}
+use Rattle.saturation_laws.specs.States.{apply_all}
+use Rattle.saturation_laws.specs.Openings.{AreKept, found_so_far, pops_from}
 use Rattle.saturation_core.proofs.start.add_pops.Given as goal
 
 abbrev pub invariant-loop-k : goal.invariant-loop-k

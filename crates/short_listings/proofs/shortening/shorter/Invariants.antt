@@ -1,11 +1,11 @@
-use Rattle.std.proofs.Common.{◌≡◌, take, drop, []}
-use Rattle.short_listings.specs.Shorter.{shorten}
+use Rattle.std.proofs.Common.{◌≡◌, length, ◌++◌, take, drop}
+use Rattle.short_listings.specs.Shorter.{shorten, made_short}
 use Rattle.short_listings.proofs.ShorterLemmas.{IsShort}
 use Rattle.short_listings.proofs.shortening.shorter.Given as goal
 
 abbrev pub invariant-loop-node : goal.invariant-loop-node
 invariant-loop-node l = record {
-  side : l.graph.side ≡ l.fn.listing.side;
-  short : IsShort l.graph.side (take l.node-index l.nodes) l.graph.nodes l.stands.items;
-  rest : shorten l.graph.nodes l.stands.items (drop l.node-index l.nodes) ≡ shorten [] [] l.nodes;
+  graph : l.whole.graph ≡ l.graph;
+  short : IsShort (length l.graph.nodes) l.whole.graph.side (l.graph.nodes ++ take l.node-index l.added) l.whole.nodes l.stands.items;
+  rest : shorten (length l.graph.nodes) l.whole.nodes l.stands.items (drop l.node-index l.added) ≡ made_short l.graph.nodes l.added;
 }

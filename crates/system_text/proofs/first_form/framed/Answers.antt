@@ -2,7 +2,7 @@ use Rattle.std.proofs.Common.{sym, ap, ◌∙◌, length, ◌&&◌}
 use Rattle.std.specs.Prelude.{nat_le}
 use Rattle.system_text.specs.FirstForm.{header_words}
 use Rattle.system_text.specs.Lines.{words}
-use Rattle.system_text.specs.Reading.{same_words}
+use Rattle.system_text.specs.private.Reading.{same_words}
 use Rattle.system_text.proofs.FirstFormLemmas.{something_said}
 use Rattle.system_text.proofs.first_form.framed.Goals as goal
 

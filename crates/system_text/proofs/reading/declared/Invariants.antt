@@ -1,6 +1,6 @@
 use Rattle.std.proofs.Common.{◌≡◌, true, length, take}
 use Rattle.system_text.specs.Lines.{texts}
-use Rattle.system_text.specs.Reading.{are_names}
+use Rattle.system_text.specs.private.Reading.{are_names}
 use Rattle.system_text.proofs.reading.declared.Given as goal
 
 abbrev pub invariant-loop-word : goal.invariant-loop-word

@@ -1,7 +1,7 @@
 use Rattle.std.proofs.Common.{List, ℕ, Some, sym, ap, ◌∙◌}
 use denote.Ref.{Bor}
 use Rattle.system_text.specs.Lines.{words, texts}
-use Rattle.system_text.specs.Reading.{rule_of}
+use Rattle.system_text.specs.private.Reading.{rule_of}
 use Rattle.system_text.proofs.Lists.{each-take_more, each-stops}
 use Rattle.system_text.proofs.reading.rules.Goals as goal
 

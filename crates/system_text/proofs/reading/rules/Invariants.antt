@@ -1,6 +1,6 @@
 use Rattle.std.proofs.Common.{◌≡◌, Some, take, map}
 use Rattle.system_text.specs.Lines.{words}
-use Rattle.system_text.specs.Reading.{each, rule_of}
+use Rattle.system_text.specs.private.Reading.{each, rule_of}
 use Rattle.system_text.proofs.reading.rules.Given as goal
 
 abbrev pub invariant-loop-line : goal.invariant-loop-line

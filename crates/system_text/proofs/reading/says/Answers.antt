@@ -2,7 +2,7 @@ use Rattle.std.proofs.Common.{sym, ap, ◌∙◌}
 use Rattle.std.specs.Prelude.{bytes_eq}
 use Rattle.std.specs.Cmp.Derive.Mapped.{pointwise-map}
 use Rattle.system_text.specs.Lines.{texts}
-use Rattle.system_text.specs.Reading.{same_words}
+use Rattle.system_text.specs.private.Reading.{same_words}
 use Rattle.system_text.proofs.reading.says.Goals as goal
 
 pub returns : goal.returns

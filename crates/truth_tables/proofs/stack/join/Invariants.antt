@@ -1,7 +1,7 @@
 use Rattle.std.proofs.Common.{◌≡◌, vec_len}
 use Rattle.truth_tables.specs.Machine.{closed}
 use Rattle.truth_tables.specs.Operands.{operand_of, parts}
-use Rattle.truth_tables.specs.Positions.{stack_of}
+use Rattle.truth_tables.specs.private.Positions.{stack_of}
 use Rattle.truth_tables.proofs.stack.join.Given as goal
 
 abbrev pub decreases-loop-top : goal.decreases-loop-top

@@ -1,7 +1,7 @@
 use Rattle.std.proofs.Common.{sym, ap, ◌∙◌}
 use Rattle.truth_tables.specs.Machine.{progress, Wanted}
 use Rattle.truth_tables.specs.Operands.{parts}
-use Rattle.truth_tables.specs.Positions.{stack_of}
+use Rattle.truth_tables.specs.private.Positions.{stack_of}
 use Rattle.truth_tables.proofs.steps.at_operand.Goals as goal
 
 pub returns-in-Number : goal.returns-in-Number

@@ -2,7 +2,7 @@ use Rattle.std.proofs.Common.{◌≡◌, ℕ, Option, List, [], ◌∷◌, ◌++
 use Rattle.std.specs.Prelude.{is_some, cond}
 use Rattle.std.specs.HashMap.{get}
 use Rattle.witness_graph.specs.Nodes.{named}
-use Rattle.witness_graph.specs.Walking.{IsWalking, first_new, unlisted}
+use Rattle.witness_graph.specs.private.Walking.{IsWalking, first_new, unlisted}
 use Rattle.witness_graph.proofs.WalkLemmas.{walking_popped, walking_top, walking_down, walking_up, walking_lacks, smaller_down, smaller_up, unlisted_less}
 use Rattle.witness_graph.proofs.order.post_order.Goals as goal
 

@@ -1,6 +1,6 @@
 use Rattle.std.proofs.Common.{◌+◌, ◌-◌, ◌*◌, length, nat_eq}
 use Rattle.std.specs.HashMap.{get}
-use Rattle.witness_graph.specs.Walking.{IsWalking, unlisted}
+use Rattle.witness_graph.specs.private.Walking.{IsWalking, unlisted}
 use Rattle.witness_graph.proofs.order.post_order.Given as goal
 
 abbrev pub invariant-walk : goal.invariant-walk

@@ -1,21 +1,20 @@
 use Rattle.std.proofs.Common.{sym, ap, ◌∙◌, subst}
-use Rattle.saturation_core.specs.declared.event.Event.TheVariants.{Take, Settle}
+use Rattle.saturation_laws.specs.declared.event.Event.TheVariants.{Take, Settle}
 use Rattle.weighted_automata.specs.declared.place.Place.{Place}
-use Rattle.saturation_core.specs.Books.{AnswersTake, Makes}
+use Rattle.saturation_laws.specs.Books.{Makes}
+use Rattle.saturation_core.specs.Calls.{AnswersTake}
 use Rattle.worker_pool.proofs.TurnLemmas.{can_settle, turned_free}
 use Rattle.worker_pool.proofs.alone.turn.Goals as goal
 
-pub settle-requires-clause-holds : goal.settle-requires-clause-holds
-settle-requires-clause-holds g c =
+pub settle-requires : goal.settle-requires
+settle-requires g c =
     let taken = subst (λ t. AnswersTake g.S.Semiring.operations g.D.Direction.way c.args.book.now 0 t c.take.new.self) c.in-Hand.is c.in_ok-hand.ensures.taken in
     let base = taken.1.2 in
     can_settle g.S.Semiring.operations g.D.Direction.way c.args.book.now c.take.new.self taken.0 taken.1 c.in-Ok.done
     (c.in-Ok.ensures.seat ∙ ap (λ h. h.seat) taken.2)
     (c.in-Ok.ensures.jobs ∙ ap (λ h. h.jobs) taken.2)
     (c.in-Ok.ensures.system ∙ c.requires.system ∙ sym (ap (λ b. b.system) base))
-    c.args.direction.now
-    (c.requires.direction ∙ sym (ap (λ b. b.direction) base))
-    c.in-Ok.ensures.worked
+    (c.in-Ok.ensures.direction ∙ c.requires.direction ∙ sym (ap (λ b. b.direction) base))
 
 -- the turn that was made
 made : (g : _) (c : goal.In-Ok-settle g) → (x : Place) × Makes g.S.Semiring.operations g.D.Direction.way c.args.book.now (Take 0 x) c.take.new.self

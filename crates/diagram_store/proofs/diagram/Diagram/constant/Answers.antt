@@ -16,8 +16,8 @@ below : (k : ℕ) (b : Bool) → k ≡ bool_byte b → k < 2
 below k b e = subst (λ (n : ℕ). n < 2) (sym e) (byte_below b)
 
 pub invariant_of-result : goal.invariant_of-result
-invariant_of-result c = record { is_canonical = constant_canonical c.new-2.result c.from.result (c.new-2.ensures ∙ c.new.ensures.items) (below c.from.result c.args.value c.from.ensures) }
+invariant_of-result c = record { is_canonical = constant_canonical c.from_vec.result c.from.result (c.from_vec.ensures ∙ c.new.ensures.items) (below c.from.result c.args.value c.from.ensures) }
 
 pub returns-clause-value : goal.returns-clause-value
-returns-clause-value c = λ bits. constant_value c.new-2.result c.from.result c.args.value bits (below c.from.result c.args.value c.from.ensures)
+returns-clause-value c = λ bits. constant_value c.from_vec.result c.from.result c.args.value bits (below c.from.result c.args.value c.from.ensures)
     (ap (λ k. nat_eq k 1) c.from.ensures ∙ byte_is c.args.value)

@@ -1,7 +1,7 @@
 use Rattle.std.proofs.Common.{sym, ◌∙◌}
 use Rattle.std.proofs.lemmas.Bool.{eqb-true}
 use Rattle.diagram_store.proofs.SmallLemmas.{values_by_parts}
-use Rattle.diagram_store.proofs.TurnLemmas.{canonical_is_one}
+use Rattle.diagram_store.proofs.WalkLemmas.{canonical_is_one}
 use Rattle.diagram_store.proofs.diagram.Diagram.same.Goals as goal
 
 pub returns-then-self-other-clause-values : goal.returns-then-self-other-clause-values

@@ -1,34 +1,34 @@
 use Rattle.std.proofs.Common.{◌≡◌, ◌<◌, length, sym, ap, ◌∙◌, subst}
 use Rattle.std.specs.Prelude.{None, Some}
 use Rattle.semiring_laws.specs.Semiring.{Fits}
-use Rattle.saturation_core.specs.States.{Change, apply}
+use Rattle.saturation_laws.specs.States.{Change, apply}
 use Rattle.path_sum.specs.Sums.{pair_place}
-use Rattle.path_sum.specs.Growings.{state_of}
+use Rattle.path_sum.specs.private.Growing.{state_of}
 use Rattle.path_sum.proofs.OrderLemmas.{order_fits}
 use Rattle.path_sum.proofs.ReadyLemmas.{found_kept, first_within, second_within, ready_after}
 use Rattle.path_sum.proofs.growing.Growing.follow.Goals as goal
 
 pub product-requires-clause-pair : goal.product-requires-clause-pair
 product-requires-clause-pair g c =
-    let pair = found_kept (g.S.Semiring.laws c.args.task.now.semiring) (pair_place c.args.i c.args.transition.now.place.from) c.args.self.now.pairs.transitions (length c.args.self.now.nodes.nodes) c.in-Some.k c.find.result
+    let pair = found_kept (g.S.Semiring.laws c.args.input.now.semiring) (pair_place c.args.i c.args.transition.now.place.from) c.args.self.now.pairs.transitions (length c.args.self.now.nodes.nodes) c.in-Some.k c.find.result
     c.entry-from.result.now c.requires.ready.pairs c.find.ensures.entry c.in-Some.is c.entry-from.ensures in
     subst (λ m. Fits (g.S.Semiring.operations m) c.entry-from.result.now.weight) (sym c.semiring-semiring.ensures) pair.0
 
 pub apply-requires-clause-weight : goal.apply-requires-clause-weight
 apply-requires-clause-weight g c =
     let semiring = c.semiring-semiring.result.now in
-    let pair = found_kept (g.S.Semiring.laws c.args.task.now.semiring) (pair_place c.args.i c.args.transition.now.place.from) c.args.self.now.pairs.transitions (length c.args.self.now.nodes.nodes) c.in-Some.k c.find.result
+    let pair = found_kept (g.S.Semiring.laws c.args.input.now.semiring) (pair_place c.args.i c.args.transition.now.place.from) c.args.self.now.pairs.transitions (length c.args.self.now.nodes.nodes) c.in-Some.k c.find.result
     c.entry-from.result.now c.requires.ready.pairs c.find.ensures.entry c.in-Some.is c.entry-from.ensures in
     let other = c.requires.ready.transitions.each c.args.transition.now c.requires.there in
-    let fit = order_fits (g.S.Semiring.laws c.args.task.now.semiring) c.side-side.result c.entry-from.result.now.weight c.args.transition.now.weight pair.0 other.0 in
-    let e : c.args.task.now.semiring ≡ semiring = sym c.semiring-semiring.ensures in
-    let whole = ap (λ m. Rattle.saturation_core.specs.Paths.in_order (g.S.Semiring.operations m) c.side-side.result c.entry-from.result.now.weight c.args.transition.now.weight) c.semiring-semiring.ensures in
-    subst (λ m. Fits (g.S.Semiring.operations m) c.in_ok-weight.weight) e (subst (Fits (g.S.Semiring.operations c.args.task.now.semiring)) (sym (c.in_ok-weight.ensures ∙ whole)) fit)
+    let fit = order_fits (g.S.Semiring.laws c.args.input.now.semiring) c.side-side.result c.entry-from.result.now.weight c.args.transition.now.weight pair.0 other.0 in
+    let e : c.args.input.now.semiring ≡ semiring = sym c.semiring-semiring.ensures in
+    let whole = ap (λ m. Rattle.saturation_laws.specs.Paths.in_order (g.S.Semiring.operations m) c.side-side.result c.entry-from.result.now.weight c.args.transition.now.weight) c.semiring-semiring.ensures in
+    subst (λ m. Fits (g.S.Semiring.operations m) c.in_ok-weight.weight) e (subst (Fits (g.S.Semiring.operations c.args.input.now.semiring)) (sym (c.in_ok-weight.ensures ∙ whole)) fit)
 
 pub apply-requires-clause-first : goal.apply-requires-clause-first
 apply-requires-clause-first g c =
     let n = length c.args.self.now.nodes.nodes in
-    let pair = found_kept (g.S.Semiring.laws c.args.task.now.semiring) (pair_place c.args.i c.args.transition.now.place.from) c.args.self.now.pairs.transitions n c.in-Some.k c.find.result
+    let pair = found_kept (g.S.Semiring.laws c.args.input.now.semiring) (pair_place c.args.i c.args.transition.now.place.from) c.args.self.now.pairs.transitions n c.in-Some.k c.find.result
     c.entry-from.result.now c.requires.ready.pairs c.find.ensures.entry c.in-Some.is c.entry-from.ensures in
     let other = c.requires.ready.transitions.each c.args.transition.now c.requires.there in
     subst (λ k. k < n) (sym c.parts-first.ensures.first) (first_within c.side-side.result c.entry-from.result.now.node c.args.transition.now.node n pair.1 other.1)
@@ -36,7 +36,7 @@ apply-requires-clause-first g c =
 pub apply-requires-clause-second : goal.apply-requires-clause-second
 apply-requires-clause-second g c =
     let n = length c.args.self.now.nodes.nodes in
-    let pair = found_kept (g.S.Semiring.laws c.args.task.now.semiring) (pair_place c.args.i c.args.transition.now.place.from) c.args.self.now.pairs.transitions n c.in-Some.k c.find.result
+    let pair = found_kept (g.S.Semiring.laws c.args.input.now.semiring) (pair_place c.args.i c.args.transition.now.place.from) c.args.self.now.pairs.transitions n c.in-Some.k c.find.result
     c.entry-from.result.now c.requires.ready.pairs c.find.ensures.entry c.in-Some.is c.entry-from.ensures in
     let other = c.requires.ready.transitions.each c.args.transition.now c.requires.there in
     subst (λ k. k < n) (sym c.parts-first.ensures.second) (second_within c.side-side.result c.entry-from.result.now.node c.args.transition.now.node n pair.1 other.1)
@@ -51,6 +51,6 @@ returns-clause-ready g c =
       first = Some c.parts-first.result.0;
       second = Some c.parts-first.result.1;
     } in
-    ready_after (g.S.Semiring.laws c.args.task.now.semiring) c.args.task.now.transitions (pair_place c.args.i c.args.transition.now.place.from) change (state_of c.args.self.now) (state_of c.apply.new.self) c.requires.ready
+    ready_after (g.S.Semiring.laws c.args.input.now.semiring) c.args.input.now.transitions (pair_place c.args.i c.args.transition.now.place.from) change (state_of c.args.self.now) (state_of c.apply.new.self) c.requires.ready
     (subst (λ m. state_of c.apply.new.self ≡ apply (g.S.Semiring.operations m) change (state_of c.args.self.now)) e c.in_ok-apply.ensures.state)
-    (subst (λ m. Rattle.saturation_core.specs.Openings.AreKept (g.S.Semiring.operations m) c.apply.new.self.pairs.transitions (length c.apply.new.self.nodes.nodes)) e c.in_ok-apply.ensures.kept)
+    (subst (λ m. Rattle.saturation_laws.specs.Openings.AreKept (g.S.Semiring.operations m) c.apply.new.self.pairs.transitions (length c.apply.new.self.nodes.nodes)) e c.in_ok-apply.ensures.kept)

@@ -1,66 +1,67 @@
 use Rattle.std.proofs.Common.{◌≡◌, length, sym, ap, ◌∙◌, subst, arith}
 use Rattle.std.specs.Prelude.{All}
 use Rattle.semiring_laws.specs.Semiring.{Fits}
-use Rattle.saturation_core.specs.declared.event.Event.TheVariants.{Settle}
-use Rattle.saturation_core.specs.Openings.{AreKept}
-use Rattle.saturation_core.specs.Books.{BookValue, Makes, hands_out}
-use Rattle.saturation_core.specs.Plans.{state_with, changes_with, AreNodesFrom}
-use Rattle.saturation_core.specs.Seen.{seen}
-use Rattle.saturation_core.proofs.BookInvariant.{event_keeps}
+use Rattle.saturation_laws.specs.declared.event.Event.TheVariants.{Settle}
+use Rattle.saturation_laws.specs.Openings.{AreKept}
+use Rattle.saturation_laws.specs.Books.{BookValue, Makes}
+use Rattle.saturation_core.specs.Seats.{hands_out}
+use Rattle.saturation_core.specs.private.Plans.{state_with, changes_with, AreNodesFrom}
+use Rattle.saturation_core.specs.BookView.{book_view}
+use Rattle.saturation_laws.proofs.CallerLemmas.{event_keeps}
 use Rattle.saturation_core.proofs.HandLemmas.{hands_out-seats}
 use Rattle.saturation_core.proofs.SettleBook.{one_out, put_on, planned_is, ready, settled, settled_nodes, book_keeps, worths_fit, worths_long, nodes_next}
 use Rattle.saturation_core.proofs.book.Book.apply.Goals as goal
 
 pub plan_jobs-requires-clause-worths : goal.plan_jobs-requires-clause-worths
 plan_jobs-requires-clause-worths g c =
-    let r = ready g.S.Semiring.operations g.D.Direction.way g.met.D.Direction.same_candidate (seen c.self.inside) c.args.self.now c.self.view_is c.args.done.now c.requires.holds c.requires.worked
-    c.seat-seat.result c.as_slice-jobs.result.now c.as_slice-worths.result.now c.seat-seat.ensures (c.as_slice-jobs.ensures ∙ c.jobs.ensures.value) (c.as_slice-worths.ensures ∙ c.candidates.ensures) in
+    let r = ready g.S.Semiring.operations g.D.Direction.way g.met.D.Direction.same_candidate (book_view c.self.inside) c.args.self.now c.self.view_is c.args.done.now c.requires c.candidates.ensures.worked
+    c.seat-seat.result c.as_slice-jobs.result.now c.as_slice-worths.result.now c.seat-seat.ensures (c.as_slice-jobs.ensures ∙ c.jobs.ensures.value) (c.as_slice-worths.ensures ∙ c.candidates.ensures.value) in
     subst (λ z. All (Fits (g.S.Semiring.operations z)) c.as_slice-worths.result.now) (sym c.semiring-semiring.ensures.value)
     (worths_fit g.S.Semiring.operations g.S.Semiring.laws g.D.Direction.way g.met.D.Direction.laws
-    (seen c.self.inside) c.self.invariant.0 c.seat-seat.result c.as_slice-jobs.result.now r.out c.as_slice-worths.result.now r.worths)
+    (book_view c.self.inside) c.self.invariant.0 c.seat-seat.result c.as_slice-jobs.result.now r.out c.as_slice-worths.result.now r.worths)
 
 pub plan_jobs-requires-clause-len : goal.plan_jobs-requires-clause-len
 plan_jobs-requires-clause-len g c =
-    let r = ready g.S.Semiring.operations g.D.Direction.way g.met.D.Direction.same_candidate (seen c.self.inside) c.args.self.now c.self.view_is c.args.done.now c.requires.holds c.requires.worked
-    c.seat-seat.result c.as_slice-jobs.result.now c.as_slice-worths.result.now c.seat-seat.ensures (c.as_slice-jobs.ensures ∙ c.jobs.ensures.value) (c.as_slice-worths.ensures ∙ c.candidates.ensures) in
+    let r = ready g.S.Semiring.operations g.D.Direction.way g.met.D.Direction.same_candidate (book_view c.self.inside) c.args.self.now c.self.view_is c.args.done.now c.requires c.candidates.ensures.worked
+    c.seat-seat.result c.as_slice-jobs.result.now c.as_slice-worths.result.now c.seat-seat.ensures (c.as_slice-jobs.ensures ∙ c.jobs.ensures.value) (c.as_slice-worths.ensures ∙ c.candidates.ensures.value) in
     worths_long g.S.Semiring.operations g.S.Semiring.laws g.D.Direction.way g.met.D.Direction.laws
-    (seen c.self.inside) c.self.invariant.0 c.seat-seat.result c.as_slice-jobs.result.now r.out c.as_slice-worths.result.now r.worths
+    (book_view c.self.inside) c.self.invariant.0 c.seat-seat.result c.as_slice-jobs.result.now r.out c.as_slice-worths.result.now r.worths
 
 pub plan_jobs-requires-clause-kept : goal.plan_jobs-requires-clause-kept
 plan_jobs-requires-clause-kept g c =
-    let kept = book_keeps g.S.Semiring.operations g.S.Semiring.laws g.D.Direction.way g.met.D.Direction.laws (seen c.self.inside) c.self.invariant.0 in
+    let kept = book_keeps g.S.Semiring.operations g.S.Semiring.laws g.D.Direction.way g.met.D.Direction.laws (book_view c.self.inside) c.self.invariant.0 in
     let ts = c.self.inside.transitions.transitions in
     subst (λ z. AreKept (g.S.Semiring.operations z) ts c.len-nodes.result) (sym c.semiring-semiring.ensures.value)
     (subst (AreKept (g.S.Semiring.operations c.self.inside.system.now.semiring) ts) (sym c.len-nodes.ensures.len) kept)
 
 pub lower_all-requires-clause-nodes : goal.lower_all-requires-clause-nodes
 lower_all-requires-clause-nodes g c =
-    let r = ready g.S.Semiring.operations g.D.Direction.way g.met.D.Direction.same_candidate (seen c.self.inside) c.args.self.now c.self.view_is c.args.done.now c.requires.holds c.requires.worked
-    c.seat-seat.result c.as_slice-jobs.result.now c.as_slice-worths.result.now c.seat-seat.ensures (c.as_slice-jobs.ensures ∙ c.jobs.ensures.value) (c.as_slice-worths.ensures ∙ c.candidates.ensures) in
+    let r = ready g.S.Semiring.operations g.D.Direction.way g.met.D.Direction.same_candidate (book_view c.self.inside) c.args.self.now c.self.view_is c.args.done.now c.requires c.candidates.ensures.worked
+    c.seat-seat.result c.as_slice-jobs.result.now c.as_slice-worths.result.now c.seat-seat.ensures (c.as_slice-jobs.ensures ∙ c.jobs.ensures.value) (c.as_slice-worths.ensures ∙ c.candidates.ensures.value) in
     let planned = planned_is g.S.Semiring.operations g.D.Direction.way c.self.inside.system.now.semiring c.semiring-semiring.result.now (changes_with c.as_slice-jobs.result.now c.as_slice-worths.result.now) c.len-nodes.result
     c.self.inside.transitions.transitions c.in_ok-plan.plan.items c.in_ok-plan.ensures c.semiring-semiring.ensures.value in
     subst (λ ns. AreNodesFrom (length ns) c.in_ok-plan.plan.items) (sym c.make_room.ensures.nodes)
     (nodes_next g.S.Semiring.operations g.S.Semiring.laws g.D.Direction.way g.met.D.Direction.laws
-    (seen c.self.inside) c.self.invariant.0 c.seat-seat.result c.as_slice-jobs.result.now r.out c.as_slice-worths.result.now r.worths
+    (book_view c.self.inside) c.self.invariant.0 c.seat-seat.result c.as_slice-jobs.result.now r.out c.as_slice-worths.result.now r.worths
     c.len-nodes.result c.in_ok-plan.plan.items c.len-nodes.ensures.len planned)
 
 pub push_reserved-requires : goal.push_reserved-requires
 push_reserved-requires g c =
-    let r = ready g.S.Semiring.operations g.D.Direction.way g.met.D.Direction.same_candidate (seen c.self.inside) c.args.self.now c.self.view_is c.args.done.now c.requires.holds c.requires.worked
-    c.seat-seat.result c.as_slice-jobs.result.now c.as_slice-worths.result.now c.seat-seat.ensures (c.as_slice-jobs.ensures ∙ c.jobs.ensures.value) (c.as_slice-worths.ensures ∙ c.candidates.ensures) in
+    let r = ready g.S.Semiring.operations g.D.Direction.way g.met.D.Direction.same_candidate (book_view c.self.inside) c.args.self.now c.self.view_is c.args.done.now c.requires c.candidates.ensures.worked
+    c.seat-seat.result c.as_slice-jobs.result.now c.as_slice-worths.result.now c.seat-seat.ensures (c.as_slice-jobs.ensures ∙ c.jobs.ensures.value) (c.as_slice-worths.ensures ∙ c.candidates.ensures.value) in
     omega (arith, one_out c.self.inside.out.items c.seat-seat.result c.as_slice-jobs.result.now r.out, c.self.invariant.1.journal)
 
-made : (g : _) (c : goal.After-put g) → Makes g.S.Semiring.operations g.D.Direction.way (seen c.self.inside) (Settle c.seat-seat.result)
-    (record (seen c.self.inside) {
+made : (g : _) (c : goal.After-put g) → Makes g.S.Semiring.operations g.D.Direction.way (book_view c.self.inside) (Settle c.seat-seat.result)
+    (record (book_view c.self.inside) {
       state = state_with c.lower_all.new.transitions.transitions c.lower_all.new.graph.nodes c.lower_all.new.waiting.items c.put.new.out.items;
       journal = c.push_reserved.new.self.items;
     })
 made g c =
-    let r = ready g.S.Semiring.operations g.D.Direction.way g.met.D.Direction.same_candidate (seen c.self.inside) c.args.self.now c.self.view_is c.args.done.now c.requires.holds c.requires.worked
-    c.seat-seat.result c.as_slice-jobs.result.now c.as_slice-worths.result.now c.seat-seat.ensures (c.as_slice-jobs.ensures ∙ c.jobs.ensures.value) (c.as_slice-worths.ensures ∙ c.candidates.ensures) in
+    let r = ready g.S.Semiring.operations g.D.Direction.way g.met.D.Direction.same_candidate (book_view c.self.inside) c.args.self.now c.self.view_is c.args.done.now c.requires c.candidates.ensures.worked
+    c.seat-seat.result c.as_slice-jobs.result.now c.as_slice-worths.result.now c.seat-seat.ensures (c.as_slice-jobs.ensures ∙ c.jobs.ensures.value) (c.as_slice-worths.ensures ∙ c.candidates.ensures.value) in
     let planned = planned_is g.S.Semiring.operations g.D.Direction.way c.self.inside.system.now.semiring c.semiring-semiring.result.now (changes_with c.as_slice-jobs.result.now c.as_slice-worths.result.now) c.len-nodes.result
     c.self.inside.transitions.transitions c.in_ok-plan.plan.items c.in_ok-plan.ensures c.semiring-semiring.ensures.value in
-    let b = seen c.self.inside in
+    let b = book_view c.self.inside in
     settled g.S.Semiring.operations g.D.Direction.way b c.seat-seat.result c.as_slice-jobs.result.now c.as_slice-worths.result.now c.len-nodes.result c.in_ok-plan.plan.items
     r.out r.worths c.len-nodes.ensures.len planned
     c.lower_all.new.transitions.transitions c.lower_all.new.graph.nodes c.lower_all.new.waiting.items c.put.new.out.items c.push_reserved.new.self.items
@@ -69,14 +70,14 @@ made g c =
 
 pub invariant_of-self-2 : goal.invariant_of-self-2
 invariant_of-self-2 g c =
-    let r = ready g.S.Semiring.operations g.D.Direction.way g.met.D.Direction.same_candidate (seen c.self.inside) c.args.self.now c.self.view_is c.args.done.now c.requires.holds c.requires.worked
-    c.seat-seat.result c.as_slice-jobs.result.now c.as_slice-worths.result.now c.seat-seat.ensures (c.as_slice-jobs.ensures ∙ c.jobs.ensures.value) (c.as_slice-worths.ensures ∙ c.candidates.ensures) in
+    let r = ready g.S.Semiring.operations g.D.Direction.way g.met.D.Direction.same_candidate (book_view c.self.inside) c.args.self.now c.self.view_is c.args.done.now c.requires c.candidates.ensures.worked
+    c.seat-seat.result c.as_slice-jobs.result.now c.as_slice-worths.result.now c.seat-seat.ensures (c.as_slice-jobs.ensures ∙ c.jobs.ensures.value) (c.as_slice-worths.ensures ∙ c.candidates.ensures.value) in
     let seats : length c.self.inside.out.items ≡ 64 = c.self.invariant.0.lock.shape.seats in
     let one = one_out c.self.inside.out.items c.seat-seat.result c.as_slice-jobs.result.now r.out in
     let now = ap hands_out c.put.ensures in
     let few = hands_out-seats c.self.inside.out.items c.put.new.out.items c.seat-seat.result _ c.put.ensures in (
       event_keeps g.S.Semiring.operations g.S.Semiring.laws g.D.Direction.way g.met.D.Direction.laws
-          (seen c.self.inside) c.self.invariant.0 (Settle c.seat-seat.result) _ (made g c),
+          (book_view c.self.inside) c.self.invariant.0 (Settle c.seat-seat.result) _ (made g c),
       record {
         journal = omega (arith, one, now, c.self.invariant.1.journal, c.push_reserved.ensures.len, c.push_reserved.ensures.capacity);
         queue = omega (arith, few, seats, c.in_ok-make_room.ensures.queue, c.lower_all.ensures.len, c.lower_all.ensures.capacity);
@@ -86,7 +87,7 @@ invariant_of-self-2 g c =
 
 pub returns-clause-settled : goal.returns-clause-settled
 returns-clause-settled g c =
-    let new : BookValue g.row.S.Denot g.row.S-W.Denot g.row.S-Ret.Denot g.row.D.Denot = record (seen c.self.inside) {
+    let new : BookValue g.row.S.Denot g.row.S-W.Denot g.row.S-Ret.Denot g.row.D.Denot = record (book_view c.self.inside) {
       state = state_with c.lower_all.new.transitions.transitions c.lower_all.new.graph.nodes c.lower_all.new.waiting.items c.put.new.out.items;
       journal = c.push_reserved.new.self.items;
     } in
@@ -95,7 +96,7 @@ returns-clause-settled g c =
 
 pub returns-clause-count : goal.returns-clause-count
 returns-clause-count g c =
-    let b = seen c.self.inside in
+    let b = book_view c.self.inside in
     let was : length c.args.self.now.state.nodes ≡ length b.state.nodes = ap (λ v. length v.state.nodes) (sym c.self.view_is) in
     let all = settled_nodes g.S.Semiring.operations g.D.Direction.way b c.in_ok-plan.plan.items c.lower_all.new.transitions.transitions c.lower_all.new.graph.nodes c.lower_all.new.waiting.items
     (put_on _ c.in_ok-plan.plan.items b.state _ _ _ (c.lower_all.ensures.state c.self.inside.out.items) c.make_room.ensures.transitions c.make_room.ensures.nodes c.make_room.ensures.items) in

@@ -1,11 +1,11 @@
 use Rattle.std.proofs.Common.{sym, ap, ◌∙◌, subst, arith}
 use Rattle.std.specs.Prelude.{option_map}
-use Rattle.saturation_core.specs.declared.event.Event.TheVariants.{GiveBack}
-use Rattle.saturation_core.specs.States.{hand_at}
-use Rattle.saturation_core.specs.Books.{Makes, hands_out}
-use Rattle.saturation_core.specs.Seen.{seen}
-use Rattle.saturation_core.proofs.BookInvariant.{event_keeps}
-use Rattle.saturation_core.proofs.BookFields.{after, given}
+use Rattle.saturation_laws.specs.declared.event.Event.TheVariants.{GiveBack}
+use Rattle.saturation_laws.specs.States.{hand_at}
+use Rattle.saturation_laws.specs.Books.{Makes}
+use Rattle.saturation_core.specs.Seats.{hands_out}
+use Rattle.saturation_core.specs.BookView.{book_view}
+use Rattle.saturation_laws.proofs.CallerLemmas.{event_keeps, after, given}
 use Rattle.saturation_core.proofs.HandLemmas.{hands_out-read}
 use Rattle.saturation_core.proofs.book.Book.give_back.Goals as goal
 
@@ -15,9 +15,9 @@ enqueue-requires g c = omega (arith, hands_out-read c.self.inside.out.items c.ar
 pub push_reserved-requires : goal.push_reserved-requires
 push_reserved-requires g c = omega (arith, hands_out-read c.self.inside.out.items c.args.seat c.in-Some.place (ap (λ hands. option_map (λ h. h.place) (hand_at c.args.seat hands)) (sym c.deref.ensures.value) ∙ sym c.place_out.ensures ∙ c.in-Some.is), c.self.invariant.1.journal)
 
-made : (g : _) (c : goal.After-put g) → Makes g.S.Semiring.operations g.D.Direction.way (seen c.self.inside) (GiveBack c.args.seat)
-    (after (seen c.self.inside) c.enqueue.new.queue.items c.put.new.out.items c.push_reserved.new.self.items)
-made g c = given g.S.Semiring.operations g.D.Direction.way (seen c.self.inside) c.args.seat c.in-Some.place
+made : (g : _) (c : goal.After-put g) → Makes g.S.Semiring.operations g.D.Direction.way (book_view c.self.inside) (GiveBack c.args.seat)
+    (after (book_view c.self.inside) c.enqueue.new.queue.items c.put.new.out.items c.push_reserved.new.self.items)
+made g c = given g.S.Semiring.operations g.D.Direction.way (book_view c.self.inside) c.args.seat c.in-Some.place
     c.enqueue.new.queue.items c.put.new.out.items c.push_reserved.new.self.items
     (ap (λ hands. option_map (λ h. h.place) (hand_at c.args.seat hands)) (sym c.deref.ensures.value) ∙ sym c.place_out.ensures ∙ c.in-Some.is)
     c.enqueue.ensures.items
@@ -27,7 +27,7 @@ made g c = given g.S.Semiring.operations g.D.Direction.way (seen c.self.inside) 
 pub invariant_of-self : goal.invariant_of-self
 invariant_of-self g c = (
   event_keeps g.S.Semiring.operations g.S.Semiring.laws g.D.Direction.way g.met.D.Direction.laws
-      (seen c.self.inside) c.self.invariant.0 (GiveBack c.args.seat) _ (made g c),
+      (book_view c.self.inside) c.self.invariant.0 (GiveBack c.args.seat) _ (made g c),
   let one = hands_out-read c.self.inside.out.items c.args.seat c.in-Some.place (ap (λ hands. option_map (λ h. h.place) (hand_at c.args.seat hands)) (sym c.deref.ensures.value) ∙ sym c.place_out.ensures ∙ c.in-Some.is) in
       let now = ap hands_out c.put.ensures in
       record {
@@ -40,4 +40,4 @@ invariant_of-self g c = (
 pub returns-in-Some : goal.returns-in-Some
 returns-in-Some g c =
     subst (λ b. Makes g.S.Semiring.operations g.D.Direction.way b (GiveBack c.args.seat)
-    (after (seen c.self.inside) c.enqueue.new.queue.items c.put.new.out.items c.push_reserved.new.self.items)) c.self.view_is (made g c)
+    (after (book_view c.self.inside) c.enqueue.new.queue.items c.put.new.out.items c.push_reserved.new.self.items)) c.self.view_is (made g c)

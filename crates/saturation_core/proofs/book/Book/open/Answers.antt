@@ -1,5 +1,5 @@
 use Rattle.std.proofs.Common.{◌≡◌, sym, ap, ◌∙◌, arith}
-use Rattle.saturation_core.specs.Openings.{opening_state}
+use Rattle.saturation_laws.specs.Openings.{opening_state}
 use Rattle.saturation_core.proofs.OpeningBook.{begin_is, begun, filled, state_of, no_hand_out}
 use Rattle.saturation_core.proofs.book.Book.open.Goals as goal
 

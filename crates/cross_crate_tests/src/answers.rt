@@ -1,0 +1,160 @@
+use crate::patterns::{A, B, C, Items, SOME_A, pattern_over};
+use crate::systems::{calls, grows, one_step, ruleless, steps};
+use cost_weights::Cost;
+use path_sum::Answer;
+use pushdown_rules::System;
+use query_answers::answer;
+use semiring_laws::{Reach, Semiring};
+use std::alloc::Global;
+use std::test::Fail;
+use witness_graph::{Listing, Node, Side};
+
+// A query: a control and items to start from, a control and items to end in.
+type Query = (u32, Items<'static>, u32, Items<'static>);
+
+// A query with the cost of its answer.
+type Row = (Query, Option<u64>);
+
+// The answer to a query between controls of the system.
+fn answer_to<S: Semiring>(
+    alloc: Global,
+    system: &System<S>,
+    query: Query,
+) -> Result<Answer<S>, Fail> {
+    let (start, start_items, end, end_items) = query;
+    let from = pattern_over(alloc, system, start, start_items)?;
+    let to = pattern_over(alloc, system, end, end_items)?;
+    Ok(answer(alloc, system, &from, &to)?)
+}
+
+// The value of the answer to a query, asked of any semiring.
+fn value_of<S: Semiring>(alloc: Global, system: &System<S>, query: Query) -> Result<S::W, Fail> {
+    let Answer { value, listing: _ } = answer_to(alloc, system, query)?;
+    Ok(value)
+}
+
+// The first row whose query has another cost.
+fn wrong_row(alloc: Global, system: &System<Cost>, rows: &[Row]) -> Result<Option<usize>, Fail> {
+    for (k, (query, cost)) in rows.iter().enumerate() {
+        if value_of(alloc, system, *query)? != *cost {
+            return Ok(Some(k));
+        }
+    }
+    Ok(None)
+}
+
+#[test]
+fn costs_of_calls(rt: HostRuntime) -> Result<(), Fail> {
+    let alloc = rt.alloc();
+    let system = calls(alloc, Cost::new(100)?)?;
+    let rows: [Row; 6] = [
+        // a call at 2 that returns at 1
+        ((0, &[A], 1, &[A]), Some(3)),
+        // the empty run
+        ((0, &[A], 0, &[A]), Some(0)),
+        ((0, &[], 0, &[]), Some(0)),
+        // no rule leads from q
+        ((1, &[A], 0, &[A]), None),
+        // the cheaper of two members: b returns at 1, and a calls first
+        ((0, &[(&[0, 1], false)], 1, &[SOME_A]), Some(1)),
+        // a called, and then a under it
+        ((0, &[A, A], 1, &[A, SOME_A]), Some(3)),
+    ];
+    assert_eq!(rt; wrong_row(alloc, &system, &rows)?, None);
+    Ok(())
+}
+
+#[test]
+fn costs_of_growth(rt: HostRuntime) -> Result<(), Fail> {
+    let alloc = rt.alloc();
+    let system = grows(alloc, Cost::new(100)?)?;
+    let rows: [Row; 4] = [
+        // two symbols more, at 1 each
+        ((0, &[A], 0, &[A, A, A]), Some(2)),
+        ((0, &[A], 0, &[]), Some(0)),
+        ((0, &[A, SOME_A], 0, &[SOME_A]), Some(0)),
+        ((0, &[A], 0, &[A, A, A, SOME_A]), Some(2)),
+    ];
+    assert_eq!(rt; wrong_row(alloc, &system, &rows)?, None);
+    Ok(())
+}
+
+#[test]
+fn costs_at_the_cap(rt: HostRuntime) -> Result<(), Fail> {
+    let alloc = rt.alloc();
+    // 3 and 3, cut at the cap
+    for (cap, cost) in [(5, 5u64), (6, 6), (100, 6)] {
+        let system = steps(alloc, Cost::new(cap)?)?;
+        let cost_found = value_of(alloc, &system, (0, &[A], 0, &[C]))?;
+        assert_eq!(rt; cost_found, Some(cost), "up to {cap}");
+    }
+    Ok(())
+}
+
+// Nothing is to be saturated, or next to nothing: without a rule, by a step rule alone, or towards an empty stack, whose
+// opening has no transition.
+#[test]
+fn costs_where_little_waits(rt: HostRuntime) -> Result<(), Fail> {
+    let alloc = rt.alloc();
+    let cost = Cost::new(100)?;
+    let without_rules: [Row; 6] = [
+        ((0, &[], 0, &[]), Some(0)),
+        ((0, &[A], 0, &[]), None),
+        ((0, &[], 0, &[A]), None),
+        ((0, &[A], 0, &[A]), Some(0)),
+        ((0, &[A], 0, &[B]), None),
+        ((0, &[SOME_A], 0, &[]), Some(0)),
+    ];
+    let by_a_step: [Row; 6] = [
+        ((0, &[], 0, &[]), Some(0)),
+        ((0, &[A], 0, &[]), None),
+        ((0, &[A], 0, &[A]), Some(0)),
+        ((0, &[A], 0, &[B]), Some(3)),
+        ((0, &[B], 0, &[A]), None),
+        ((0, &[A, A], 0, &[B, SOME_A]), Some(3)),
+    ];
+    assert_eq!(rt;
+        wrong_row(alloc, &ruleless(alloc, cost), &without_rules)?,
+        None
+    );
+    assert_eq!(rt;
+        wrong_row(alloc, &one_step(alloc, cost)?, &by_a_step)?,
+        None
+    );
+    Ok(())
+}
+
+// The digits of the rules that a listing's nodes name, in order, each one more than its number.
+fn rule_digits(listing: &Listing) -> u64 {
+    let mut digits = 0u64;
+    for node in listing.nodes.as_slice() {
+        if let Node::Lower { rule: Some(k), .. } = *node {
+            digits = digits.saturating_mul(10).saturating_add(k as u64 + 1);
+        }
+    }
+    digits
+}
+
+#[test]
+fn the_run_is_listed(rt: HostRuntime) -> Result<(), Fail> {
+    let alloc = rt.alloc();
+    let system = calls(alloc, Cost::new(100)?)?;
+    let found = answer_to(alloc, &system, (0, &[A], 1, &[A]))?;
+    let Some(listing) = found.listing else {
+        return Err(Fail::new("nothing is listed"));
+    };
+    assert_eq!(rt; listing.side, Side::Pre);
+    // the return is listed before the call that needs it
+    assert_eq!(rt; rule_digits(&listing), 21);
+    Ok(())
+}
+
+#[test]
+fn reached_or_not(rt: HostRuntime) -> Result<(), Fail> {
+    let alloc = rt.alloc();
+    let mut system = System::new(alloc, Reach, 2, 2);
+    system.add_rule(alloc, 0, 1, 1, &[], true, None)?;
+    assert!(rt; !value_of(alloc, &system, (0, &[A], 1, &[A]))?);
+    assert!(rt; value_of(alloc, &system, (0, &[B], 1, &[]))?);
+    Ok(())
+}

@@ -1,0 +1,3 @@
+-- What the test of a list of nodes asks. No public clause cites it.
+pub mod Fitting
+pub mod Turns

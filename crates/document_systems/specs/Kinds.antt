@@ -1,0 +1,18 @@
+-- What the weights of a document are, over the semirings that it may name.
+use Rattle.std.specs.Prelude.{ℕ, List}
+use Rattle.semiring_laws.specs.Semiring.{Operations}
+use Rattle.system_text.specs.declared.document.WeightText.{WeightText}
+use Rattle.system_text.specs.declared.document.MapText.{MapText}
+
+-- Semirings `S` with weights `W` and return maps `Map`: what they compute, what is written in documents, and what that is worth.
+pub record Kind (S W Map : Type 0) : Type 1 where
+  pub operations : S → Operations W Map
+  -- which of them a document can name
+  pub named : S → Type 0
+  -- what the weight and the return map of a rule are worth
+  pub weight : S → WeightText → W
+  pub map : S → MapText → Map
+  -- the text of a value, by the names of the document's facts or variables
+  pub written : S → List (List ℕ) → W → List ℕ
+  -- the values that are told by their text, under such names
+  pub told : S → List (List ℕ) → W → Type 0

@@ -1,0 +1,5 @@
+-- What the code keeps.
+pub mod Inputs
+pub mod Paths
+pub mod Work
+pub mod Growing

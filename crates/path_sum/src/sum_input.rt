@@ -1,0 +1,121 @@
+ghost use Rattle.std.specs.Prelude.{◌≡◌, ◌&&◌, IfOk};
+ghost use Rattle.config_patterns.specs.Edges.{edges_of, is_final_of};
+ghost use Rattle.path_sum.specs.Sums.{has_state};
+
+use config_patterns::{Edge, EdgeList, Pattern};
+use saturation_laws::Opening;
+use semiring_laws::Semiring;
+use std::alloc::Global;
+use std::marker::Model;
+use weighted_automata::Transitions;
+use witness_graph::Side;
+use wpds_base::OutOfMemory;
+
+/// What a sum goes over: transitions, the opening that they began with, and a pattern with its edges.
+#[derive(Drop)]
+pub(crate) struct SumInput<'a, S: Semiring> {
+    semiring: &'a S,
+    side: Side,
+    opening: &'a Opening,
+    transitions: &'a Transitions<S>,
+    pattern: &'a Pattern,
+    edges: EdgeList,
+}
+
+impl<'a, S: Semiring> Model for SumInput<'a, S> {
+    ghost use Rattle.std.specs.Prelude.{◌≡◌};
+    ghost use Rattle.config_patterns.specs.Edges.{edges_of};
+    ghost use Rattle.path_sum.specs.private.Inputs.{SumInputValue};
+
+    ghost Value = { SumInputValue S S.W S.Ret };
+
+    ghost view = { λ t. record {
+      semiring = t.semiring.now;
+      side = t.side;
+      opening = t.opening.now;
+      transitions = t.transitions.now.transitions;
+      pattern = t.pattern.now;
+    } };
+
+    ghost invariant = { λ t. t.edges ≡ edges_of t.pattern.now.items };
+}
+
+impl<'a, S: Semiring> SumInput<'a, S> {
+    /// The input of a sum over these transitions, which read to the opening, and this pattern. The pattern's edges are
+    /// made here, once. Refused only when out of memory.
+    pub(crate) fn new(
+        alloc: Global,
+        semiring: &'a S,
+        side: Side,
+        opening: &'a Opening,
+        transitions: &'a Transitions<S>,
+        pattern: &'a Pattern,
+    ) -> Result<SumInput<'a, S>, OutOfMemory>
+        ensures { IfOk result (λ t. t ≡ record {
+          semiring = semiring.now;
+          side = side;
+          opening = opening.now;
+          transitions = transitions.now.transitions;
+          pattern = pattern.now;
+        }) }
+    {
+        let edges = pattern.edges(alloc)?;
+        Ok(SumInput {
+            semiring,
+            side,
+            opening,
+            transitions,
+            pattern,
+            edges,
+        })
+    }
+
+    /// The semiring of the weights.
+    pub(crate) fn semiring(&self) -> &'a S
+        ensures { result.now ≡ self.now.semiring }
+    {
+        self.semiring
+    }
+
+    /// Which way the runs go.
+    pub(crate) fn side(&self) -> Side
+        ensures { result ≡ self.now.side }
+    {
+        self.side
+    }
+
+    /// The transitions.
+    pub(crate) fn transitions(&self) -> &'a Transitions<S>
+        ensures { result.now.transitions ≡ self.now.transitions }
+    {
+        self.transitions
+    }
+
+    /// The control of the pattern.
+    pub(crate) fn control(&self) -> u32
+        ensures { result ≡ self.now.pattern.control }
+    {
+        self.pattern.control()
+    }
+
+    /// The edges of the pattern.
+    pub(crate) fn edges(&self) -> &[Edge]
+        ensures { result.now ≡ edges_of self.now.pattern.items }
+    {
+        self.edges.as_slice()
+    }
+
+    /// Whether a state of the pattern is final, and one of the automaton.
+    pub(crate) fn ends_at(&self, state: u32, other: u32) -> bool
+        ensures { result ≡ (is_final_of self.now.pattern.items state
+            && has_state other self.now.opening.finals) }
+    {
+        self.pattern.is_final(state) && has_number(self.opening.finals.as_slice(), other)
+    }
+}
+
+fn has_number(states: &[u32], state: u32) -> bool
+    ensures { result ≡ has_state state states.now }
+{
+    states.contains(&state)
+}

@@ -1,0 +1,20 @@
+-- What a book is seen as, and the room that it keeps.
+use Rattle.std.specs.Prelude.{◌+◌, ◌≤◌, vec_len, vec_capacity}
+use Rattle.std.specs.VecDeque.{deque_len, deque_capacity}
+use Rattle.saturation_core.specs.declared.book.Book.TheInside.{Inside}
+use Rattle.saturation_laws.specs.Books.{BookValue}
+use Rattle.saturation_core.specs.Seats.{hands_out}
+
+abbrev pub book_view : {S D W Map : Type 0} → Inside S D W Map → BookValue S W Map D
+book_view b = record {
+  system = b.system.now;
+  direction = b.direction;
+  opening = b.opening;
+  state = record { transitions = b.transitions.transitions; nodes = b.graph.nodes; queue = b.waiting.items; hands = b.out.items };
+  journal = b.journal.items;
+}
+
+-- Each hand that is out can be given back without memory.
+pub record HasRoom {S D W Map : Type 0} (b : Inside S D W Map) : Type 0 where
+  pub journal : vec_len b.journal + hands_out b.out.items ≤ vec_capacity b.journal
+  pub queue : deque_len b.waiting + hands_out b.out.items ≤ deque_capacity b.waiting

@@ -1,0 +1,26 @@
+-- What a call of a book answers.
+use Rattle.std.specs.Prelude.{◌≡◌, ℕ, []}
+use Rattle.semiring_laws.specs.Semiring.{Operations}
+use Rattle.weighted_automata.specs.declared.place.Place.{Place}
+use Rattle.saturation_laws.specs.declared.event.Event.TheVariants.{Take}
+use Rattle.saturation_core.specs.declared.hand.Taken.{Taken}
+use Rattle.saturation_core.specs.declared.hand.Taken.TheVariants.{Idle, Closed}
+use Rattle.saturation_core.specs.declared.hand.Taken.TheVariants.{Hand as InHand}
+use Rattle.saturation_laws.specs.Books.{BookValue, NoHand, IsClosed, Makes, CanWork}
+use Rattle.saturation_laws.specs.Ways.{Way, jobs_of_place}
+use Rattle.saturation_core.specs.Seats.{seat_bits}
+
+module _ {S W Map D : Type 0} (operations : S → Operations W Map) (way : Way S W Map D) where
+  -- what a seat may be answered
+  abbrev pub AnswersTake : BookValue S W Map D → ℕ → Taken S W Map → BookValue S W Map D → Type 0
+  AnswersTake old seat (InHand h) new =
+      (x : Place) × Makes operations way old (Take seat x) new
+      × (h ≡ record { seat = seat; jobs = jobs_of_place operations way old.direction old.system x old.state.transitions })
+  AnswersTake old seat (Idle seats) new = (old.state.queue ≡ []) × (NoHand old → ⊥) × (seats.bits ≡ seat_bits old.state.hands) × (new ≡ old)
+  AnswersTake old seat Closed new = IsClosed old × (new ≡ old)
+
+  -- a hand that is answered can be worked on
+  abbrev pub HandWorks : BookValue S W Map D → Taken S W Map → Type 0
+  HandWorks b (InHand h) = CanWork operations way b h.jobs
+  HandWorks b (Idle seats) = Unit {0}
+  HandWorks b Closed = Unit {0}

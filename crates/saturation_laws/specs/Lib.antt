@@ -1,0 +1,10 @@
+pub mod Jobs
+pub mod Queues
+pub mod States
+pub mod Directions
+pub mod Invariants
+pub mod Bound
+pub mod Openings
+pub mod Paths
+pub mod Ways
+pub mod Books

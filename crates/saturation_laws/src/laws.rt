@@ -1,0 +1,52 @@
+ghost use Rattle.std.specs.Prelude.{◌≡◌, ℕ, List, Option, Some, ◌++◌, IsTrue, option_and_then};
+ghost use Rattle.pushdown_rules.specs.Pushdown.{IsSystem};
+ghost use Rattle.saturation_laws.specs.Books.{BookValue, IsBook, IsClosed, IsAllApplied, TakesAreBounded, NodesAreBounded, replayed};
+ghost use Rattle.saturation_laws.specs.declared.event.Event.{Event as EventValue};
+ghost use Rattle.saturation_laws.specs.Jobs.{Tables};
+ghost use Rattle.saturation_laws.specs.States.{CoreState, AreOfOthers, hand_at, replay};
+ghost use Rattle.saturation_laws.specs.Ways.{ListsJobsOnce};
+ghost use Rattle.semiring_laws.specs.Semiring.{Operations};
+
+use crate::Direction;
+use semiring_laws::Semiring;
+
+/// Over every list of legal events from an opening, what holds of every book holds.
+pub fn every_order_keeps<S: Semiring, D: Direction<S>>()
+    ensures { (b : BookValue S S.W S.Ret D) → IsSystem S.operations b.system
+        → IsTrue (D.way.fits_opening b.direction b.system b.opening)
+        → replayed S.operations D.way b ≡ Some b.state → IsBook S.operations D.way b }
+{}
+
+/// In a closed book every consequence is applied.
+pub fn closed_is_applied<S: Semiring, D: Direction<S>>()
+    ensures { (b : BookValue S S.W S.Ret D) → IsBook S.operations D.way b → IsClosed b
+        → IsAllApplied S.operations D.way b }
+{}
+
+/// How often transitions are taken is bounded by the places that the direction can reach, the rank of the semiring and the
+/// number of times that a hand was given back; so is the number of nodes.
+pub fn takes_are_bounded<S: Semiring, D: Direction<S>>()
+    ensures takes { (b : BookValue S S.W S.Ret D) → IsBook S.operations D.way b
+        → TakesAreBounded S.operations D.way b }
+    ensures nodes { (b : BookValue S S.W S.Ret D) → IsBook S.operations D.way b
+        → NodesAreBounded S.operations D.way b }
+{}
+
+/// A journal in two parts replays in two steps: the second part from the state that the first part ends in.
+pub fn parts_replay_in_steps<S: Semiring>()
+    ensures { (s : Operations S.W S.Ret) (d : Tables S S.W S.Ret) (old : CoreState S S.W S.Ret)
+        (es fs : List EventValue) → replay s d old (es ++ fs)
+        ≡ option_and_then (λ mid. replay s d mid fs) (replay s d old es) }
+{}
+
+/// Events of other seats leave a seat's hand as it is.
+pub fn others_leave_a_hand<S: Semiring>()
+    ensures { (s : Operations S.W S.Ret) (d : Tables S S.W S.Ret) (old new : CoreState S S.W S.Ret)
+        (es : List EventValue) (seat : ℕ) → replay s d old es ≡ Some new → AreOfOthers seat es
+        → hand_at seat new.hands ≡ hand_at seat old.hands }
+{}
+
+/// Each job that a transition gives stands once among them.
+pub fn each_job_stands_once<S: Semiring, D: Direction<S>>()
+    ensures { ListsJobsOnce S.operations D.way }
+{}

@@ -1,0 +1,3 @@
+-- How the text of a document is read.
+pub mod Numbers
+pub mod Reading

@@ -1,0 +1,25 @@
+-- Texts of a part for each query.
+use Rattle.std.proofs.Common.{◌≡◌, ℕ, ◌+◌, List, [], ◌∷◌, ◌++◌, length, refl, sym, ap, subst, ◌∙◌, append-nil, append_assoc, arith}
+use Rattle.system_text.specs.declared.document.QueryLine.{QueryLine}
+use Rattle.wpds_app.specs.Reports.{ByQuery}
+
+-- what follows of each part follows of the text
+pub of_each : {P Q : ℕ → QueryLine → List ℕ → Type 0} → ((i : ℕ) (q : QueryLine) (part : List ℕ) → P i q part → Q i q part)
+    → (i : ℕ) (qs : List QueryLine) (text : List ℕ) → ByQuery P i qs text → ByQuery Q i qs text
+of_each follows i [] text is = is
+of_each follows i (q ∷ qs) text is = (is.0, is.1, is.2, follows i q is.0 is.3, of_each follows (i + 1) qs is.1 is.4)
+
+-- one query more
+pub one_more : (P : ℕ → QueryLine → List ℕ → Type 0) (i : ℕ) (qs : List QueryLine) (text : List ℕ) (q : QueryLine) (part : List ℕ)
+    → ByQuery P i qs text → P (i + length qs) q part → ByQuery P i (qs ++ q ∷ []) (text ++ part)
+one_more P i [] text q part is holds =
+    let same : i + 0 ≡ i = omega arith in
+    (part, [], ap (λ t. t ++ part) is ∙ sym (append-nil part), subst (λ k. P k q part) same holds, refl)
+one_more P i (r ∷ qs) text q part is holds =
+    let count : i + length (r ∷ qs) ≡ (i + 1) + length qs = omega arith in (
+      is.0,
+      is.1 ++ part,
+      ap (λ t. t ++ part) is.2 ∙ append_assoc is.0 is.1 part,
+      is.3,
+      one_more P (i + 1) qs is.1 q part is.4 (subst (λ k. P k q part) count holds),
+    )
