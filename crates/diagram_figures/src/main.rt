@@ -76,7 +76,12 @@ fn adder(alloc: Global, bits: u32) -> Result<Diagram, OutOfMemory>
 }
 
 // The relation over so many bits, composed with itself so many times.
-fn compose_times(alloc: Global, relation: &Diagram, bits: u32, times: u32) -> anyhow::Result<Diagram> {
+fn compose_times(
+    alloc: Global,
+    relation: &Diagram,
+    bits: u32,
+    times: u32,
+) -> anyhow::Result<Diagram> {
     let mut made = relation.copy(alloc)?;
     for _ in 0..times {
         ensure!(

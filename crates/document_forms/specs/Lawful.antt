@@ -59,27 +59,27 @@ IsWeightText _ _ _ = ⊥
 -- ---- return maps, rules and patterns
 
 -- A map that is not plain stands on a push, and has what the weights allow alone.
-pub record IsPushMap (weights : WeightsLine) (items : ℕ) (right : List ℕ) (m : MapText) : Type 0 where
+pub record IsPushMap (u : WeightsLine) (items : ℕ) (right : List ℕ) (m : MapText) : Type 0 where
   pub push : length right ≡ most_pushed
   pub restore : AreBelow items m.restore
   pub to : AreBelow items (map (λ v. v.to) m.moves)
   pub from : AreBelow items (map (λ v. v.from) m.moves)
-  pub restores : IsTrue (allows_restore weights) ⊎ (m.restore ≡ [])
-  pub moves : IsTrue (allows_moves weights) ⊎ (m.moves ≡ [])
+  pub restores : IsTrue (allows_restore u) ⊎ (m.restore ≡ [])
+  pub moves : IsTrue (allows_moves u) ⊎ (m.moves ≡ [])
 
 abbrev pub IsMapText : WeightsLine → ℕ → (right : List ℕ) → Option MapText → Type 0
 IsMapText weights items right None = Unit {0}
 IsMapText weights items right (Some m) = IsPushMap weights items right m
 
 -- A rule over so many controls, symbols, and facts or variables.
-pub record IsRuleLine (weights : WeightsLine) (controls symbols items : ℕ) (r : RuleLine) : Type 0 where
+pub record IsRuleLine (u : WeightsLine) (controls symbols items : ℕ) (r : RuleLine) : Type 0 where
   pub control : r.control < controls
   pub symbol : r.symbol < symbols
   pub to : r.to < controls
   pub right : AreBelow symbols r.right
   pub short : length r.right ≤ most_pushed
-  pub weight : IsWeightText weights items r.weight
-  pub map : IsMapText weights items r.right r.map
+  pub weight : IsWeightText u items r.weight
+  pub map : IsMapText u items r.right r.map
 
 abbrev pub IsSetText : ℕ → SetText → Type 0
 IsSetText symbols AllSymbols = Unit {0}
@@ -115,13 +115,20 @@ pub record AreNames (most : ℕ) (names : List (List ℕ)) : Type 0 where
   pub few : length names ≤ most
   pub once : IsOnce names
 
+-- a rule or a query over the names of a document
+abbrev pub IsRuleOf : Document → RuleLine → Type 0
+IsRuleOf d r = IsRuleLine d.weights (length d.controls) (length d.symbols) (length d.items) r
+
+abbrev pub IsQueryOf : Document → QueryLine → Type 0
+IsQueryOf d q = IsQueryLine (length d.symbols) (length d.controls) (length d.symbols) q
+
 -- A document over its own names, within the limits.
 pub record IsDocument (d : Document) : Type 0 where
   pub weights : IsWeightsLine d.weights
   pub controls : AreNames most_controls d.controls
   pub symbols : AreNames most_symbols d.symbols
   pub items : AreNames (most_names d.weights (item_class d.weights)) d.items
-  pub rules : All (IsRuleLine d.weights (length d.controls) (length d.symbols) (length d.items)) d.rules
+  pub rules : All (IsRuleOf d) d.rules
   pub few_rules : length d.rules ≤ most_rules
-  pub queries : All (IsQueryLine (length d.symbols) (length d.controls) (length d.symbols)) d.queries
+  pub queries : All (IsQueryOf d) d.queries
   pub few_queries : length d.queries ≤ most_queries

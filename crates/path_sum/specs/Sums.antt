@@ -9,6 +9,7 @@ use Rattle.saturation_laws.specs.Paths.{in_order}
 use Rattle.saturation_laws.specs.States.{CoreState, Change, apply}
 use Rattle.saturation_laws.specs.declared.opening.Opening.{Opening}
 use Rattle.semiring_laws.specs.Semiring.{Operations}
+use Rattle.wpds_base.specs.Limits.{most_seats}
 use Rattle.weighted_automata.specs.Entries.{entry_at, lowered}
 use Rattle.weighted_automata.specs.Places.{has_place}
 use Rattle.weighted_automata.specs.declared.place.Label.{Label}
@@ -106,7 +107,7 @@ module _ {S W Map : Type 0} (s : Operations W Map) (side : Side) where
     transitions = lowered (pair_place 0 ways.control) s.one (length nodes) [];
     nodes = nodes ++ Start ∷ [];
     queue = pair_place 0 ways.control ∷ [];
-    hands = replicate 64 None;
+    hands = replicate most_seats None;
   }
 
   -- The state is grown from transitions, their graph, an opening and a pattern.

@@ -24,7 +24,8 @@ use Rattle.saturation_laws.specs.declared.job.Job.{Job}
 use Rattle.saturation_laws.specs.Jobs.{Row, row_of, place_of, named_rule, named_first}
 use Rattle.saturation_laws.specs.Directions.{AreRuns, AreInputRuns}
 use Rattle.prestar_laws.specs.Reading.{PreRun, LeadsToItems}
-use Rattle.prestar_laws.specs.Rows.{arrow, is_place, is_step, is_push, second_from, push_row, rule_row, pre_rows, weight_in, rule_candidate, at_rule as at_rule_of, pre_candidate}
+use Rattle.saturation_laws.specs.States.{weight_of}
+use Rattle.prestar_laws.specs.Rows.{arrow, is_place, is_step, is_push, second_from, push_row, rule_row, pre_rows, rule_candidate, at_rule as at_rule_of, pre_candidate}
 use Rattle.prestar_laws.proofs.RowLemmas.{step_sound, call_sound, open_sound}
 
 module _ {S W Map : Type 0} where
@@ -50,12 +51,12 @@ module _ {S W Map : Type 0} {operations : S → Operations W Map} {p : Pushdown 
 
   -- the runs of an input, at its place
   at_place : (i : Option (Entry S W Map)) (t : Entry S W Map) (x : Place) (xs : List (List ℕ)) → i ≡ Some t → t.place ≡ x → AreInputRuns s value runs i xs
-      → AreRuns s value runs x (weight_in s i) xs
+      → AreRuns s value runs x (weight_of s i) xs
   at_place i t x xs is at all =
       let P : Option (Entry S W Map) → Type 0 = λ j. AreInputRuns s value runs j xs in
       let Q : Place → Type 0 = λ y. AreRuns s value runs y t.weight xs in
       let R : W → Type 0 = λ w. AreRuns s value runs x w xs in
-      subst R (sym (ap (weight_in s) is)) (subst Q at (subst P is all))
+      subst R (sym (ap (weight_of s) is)) (subst Q at (subst P is all))
 
   module _ (k : ℕ) (r : Rule S W Map) (there : slice_get p.rules k ≡ Some r) (goal : Place) (first second : Option (Entry S W Map)) (xs ys : List (List ℕ)) where
     abbrev row : JobKind → Row
@@ -63,7 +64,7 @@ module _ {S W Map : Type 0} {operations : S → Operations W Map} {p : Pushdown 
 
     step_is : (word : List ℕ) → r.right ≡ word → (elim word [ [] ↦ false | g ∷ gs ↦ elim gs [ [] ↦ is_step p r g (row PreStep) | h ∷ hs ↦ false ] ]) ≡ true
         → AreInputRuns s value runs first xs → AreInputRuns s value runs second ys
-        → AreRuns s value runs goal (s.extend r.weight (weight_in s first)) (parts_runs Pre (rule_runs (Some k)) xs ys)
+        → AreRuns s value runs goal (s.extend r.weight (weight_of s first)) (parts_runs Pre (rule_runs (Some k)) xs ys)
     step_is [] e h is more = cc
     step_is (g ∷ i ∷ word) e h is more = cc
     step_is (g ∷ []) e h is more =
@@ -75,16 +76,16 @@ module _ {S W Map : Type 0} {operations : S → Operations W Map} {p : Pushdown 
         let at : goal ≡ arrow r.control r.symbol goal.to = same_place_is goal _ parts.1 in
         let P : Option (Entry S W Map) → Type 0 = λ j. AreInputRuns s value runs j ys in
         let only : ys ≡ [] ∷ [] = subst P none more in
-        let Q : List (List ℕ) → Type 0 = λ zs. AreRuns s value runs goal (s.extend r.weight (weight_in s first)) (parts_runs Pre (rule_runs (Some k)) xs zs) in
-        let R : Place → Type 0 = λ y. AreRuns s value runs y (s.extend r.weight (weight_in s first)) (parts_runs Pre (rule_runs (Some k)) xs ([] ∷ [])) in
-        subst Q (sym only) (subst R (sym at) (step_sound valid laws edges k r there g e goal.to (weight_in s first) xs (at_place first t.0 x xs t.1 t.2 is)))
+        let Q : List (List ℕ) → Type 0 = λ zs. AreRuns s value runs goal (s.extend r.weight (weight_of s first)) (parts_runs Pre (rule_runs (Some k)) xs zs) in
+        let R : Place → Type 0 = λ y. AreRuns s value runs y (s.extend r.weight (weight_of s first)) (parts_runs Pre (rule_runs (Some k)) xs ([] ∷ [])) in
+        subst Q (sym only) (subst R (sym at) (step_sound valid laws edges k r there g e goal.to (weight_of s first) xs (at_place first t.0 x xs t.1 t.2 is)))
 
     abbrev from : JobKind → ℕ
     from kind = second_from p (row kind)
 
     -- the parts of a push row
     push_parts : (kind : JobKind) (g h : ℕ) → is_push p r g h (from kind) (row kind) ≡ true → AreInputRuns s value runs first xs → AreInputRuns s value runs second ys
-        → AreRuns s value runs (arrow r.to g (from kind)) (weight_in s first) xs × AreRuns s value runs (arrow (from kind) h goal.to) (weight_in s second) ys
+        → AreRuns s value runs (arrow r.to g (from kind)) (weight_of s first) xs × AreRuns s value runs (arrow (from kind) h goal.to) (weight_of s second) ys
         × (goal ≡ arrow r.control r.symbol goal.to)
     push_parts kind g h test is more =
         let x = arrow r.to g (from kind) in
@@ -98,29 +99,29 @@ module _ {S W Map : Type 0} {operations : S → Operations W Map} {p : Pushdown 
     call_is : (word : List ℕ) → r.right ≡ word → nat_lt (from PrePushControl) p.controls ≡ true
         → (elim word [ [] ↦ false | g ∷ gs ↦ elim gs [ [] ↦ false | h ∷ hs ↦ elim hs [ [] ↦ is_push p r g h (from PrePushControl) (row PrePushControl) | i ∷ is ↦ false ] ] ]) ≡ true
         → AreInputRuns s value runs first xs → AreInputRuns s value runs second ys
-        → AreRuns s value runs goal (s.extend (s.after (unwrap_or r.map s.plain) (s.extend r.weight (weight_in s first))) (weight_in s second)) (parts_runs Pre (rule_runs (Some k)) xs ys)
+        → AreRuns s value runs goal (s.extend (s.after (unwrap_or r.map s.plain) (s.extend r.weight (weight_of s first))) (weight_of s second)) (parts_runs Pre (rule_runs (Some k)) xs ys)
     call_is [] e low test is more = cc
     call_is (g ∷ []) e low test is more = cc
     call_is (g ∷ h ∷ i ∷ word) e low test is more = cc
     call_is (g ∷ h ∷ []) e low test is more =
         let all = push_parts PrePushControl g h test is more in
-        let w = s.extend (s.after (unwrap_or r.map s.plain) (s.extend r.weight (weight_in s first))) (weight_in s second) in
+        let w = s.extend (s.after (unwrap_or r.map s.plain) (s.extend r.weight (weight_of s first))) (weight_of s second) in
         let R : Place → Type 0 = λ y. AreRuns s value runs y w (parts_runs Pre (rule_runs (Some k)) xs ys) in
-        subst R (sym all.2) (call_sound valid laws edges k r there g h e (from PrePushControl) goal.to items (ltb-true (from PrePushControl) p.controls low) (weight_in s first) (weight_in s second) xs ys all.0 all.1)
+        subst R (sym all.2) (call_sound valid laws edges k r there g h e (from PrePushControl) goal.to items (ltb-true (from PrePushControl) p.controls low) (weight_of s first) (weight_of s second) xs ys all.0 all.1)
 
     open_is : (word : List ℕ) → r.right ≡ word → not (nat_lt (from PrePushOther) p.controls) ≡ true
         → (elim word [ [] ↦ false | g ∷ gs ↦ elim gs [ [] ↦ false | h ∷ hs ↦ elim hs [ [] ↦ is_push p r g h (from PrePushOther) (row PrePushOther) | i ∷ is ↦ false ] ] ]) ≡ true
         → AreInputRuns s value runs first xs → AreInputRuns s value runs second ys
-        → AreRuns s value runs goal (s.extend (s.extend r.weight (weight_in s first)) (weight_in s second)) (parts_runs Pre (rule_runs (Some k)) xs ys)
+        → AreRuns s value runs goal (s.extend (s.extend r.weight (weight_of s first)) (weight_of s second)) (parts_runs Pre (rule_runs (Some k)) xs ys)
     open_is [] e high test is more = cc
     open_is (g ∷ []) e high test is more = cc
     open_is (g ∷ h ∷ i ∷ word) e high test is more = cc
     open_is (g ∷ h ∷ []) e high test is more =
         let all = push_parts PrePushOther g h test is more in
-        let w = s.extend (s.extend r.weight (weight_in s first)) (weight_in s second) in
+        let w = s.extend (s.extend r.weight (weight_of s first)) (weight_of s second) in
         let R : Place → Type 0 = λ y. AreRuns s value runs y w (parts_runs Pre (rule_runs (Some k)) xs ys) in
         let above : p.controls ≤ from PrePushOther = ltb-false (from PrePushOther) p.controls (not-true (nat_lt (from PrePushOther) p.controls) high) in
-        subst R (sym all.2) (open_sound valid laws edges k r there g h e (from PrePushOther) goal.to above (weight_in s first) (weight_in s second) xs ys all.0 all.1)
+        subst R (sym all.2) (open_sound valid laws edges k r there g h e (from PrePushOther) goal.to above (weight_of s first) (weight_of s second) xs ys all.0 all.1)
 
     abbrev job : JobKind → Job S W Map
     job kind = record { kind = kind; rule = Some k; frame = None; first = first; second = second; goal = goal }

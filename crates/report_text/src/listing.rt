@@ -8,10 +8,8 @@ use wpds_base::OutOfMemory;
 
 // Adds a rule by its number in the text, if there is one.
 fn add_rule(alloc: Global, texts: &mut Vec<String>, rule: Option<u32>) -> Result<(), OutOfMemory>
-    ensures {
-        let before = map string_bytes texts.old.items in
-        OnOk result (map string_bytes texts.new.items ≡ before ++ listings.rule_part rule)
-    }
+    ensures { let before = map string_bytes texts.old.items in
+        OnOk result (map string_bytes texts.new.items ≡ before ++ listings.rule_part rule) }
 {
     if let Some(rule) = rule {
         let counted = rule as u64 + 1;
@@ -22,10 +20,8 @@ fn add_rule(alloc: Global, texts: &mut Vec<String>, rule: Option<u32>) -> Result
 
 // Adds a set of runs, if there is one.
 fn add_set(alloc: Global, texts: &mut Vec<String>, set: Option<u64>) -> Result<(), OutOfMemory>
-    ensures {
-        let before = map string_bytes texts.old.items in
-        OnOk result (map string_bytes texts.new.items ≡ before ++ listings.set_part set)
-    }
+    ensures { let before = map string_bytes texts.old.items in
+        OnOk result (map string_bytes texts.new.items ≡ before ++ listings.set_part set) }
 {
     if let Some(set) = set {
         texts.push(format!(in alloc; "set {set}")?)?;
@@ -96,10 +92,8 @@ fn add_line(
     number: usize,
     node: Node,
 ) -> Result<(), OutOfMemory>
-    ensures {
-        let line = listings.set_line side number node in
-        OnOk result (string_bytes text.new ≡ string_bytes text.old ++ line)
-    }
+    ensures { let line = listings.set_line side number node in
+        OnOk result (string_bytes text.new ≡ string_bytes text.old ++ line) }
 {
     let runs = node_text(alloc, side, node)?;
     text.push_str(format!(in alloc; "  set {number} = {runs}\n")?.as_str())?;
@@ -108,10 +102,8 @@ fn add_line(
 
 /// The lines of a listing: one for each of its nodes, the sets of runs, and last which of them the answer is.
 pub fn listing_text(alloc: Global, listing: &Listing) -> Result<String, OutOfMemory>
-    ensures {
-        let l = listing.now in
-        IfOk result (λ t. string_bytes t ≡ listings.listing_text l.side l.nodes)
-    }
+    ensures { let l = listing.now in
+        IfOk result (λ t. string_bytes t ≡ listings.listing_text l.side l.nodes) }
 {
     let nodes = listing.nodes.as_slice();
     let mut text = String::new(alloc);

@@ -1,31 +1,20 @@
 -- A listing made shorter has no more nodes than it had.
-use Rattle.std.proofs.Common.{◌≡◌, ℕ, ◌+◌, ◌<◌, ◌≤◌, true, false, List, [], ◌∷◌, ◌++◌, length, refl, sym, ap, ◌∙◌, inl, inr, arith}
-use Rattle.std.specs.Prelude.{Option, None, Some, nat_eq, is_some, option_map, ◌||◌}
-use Rattle.std.specs.List.{AllByRecursion, IsDistinct, list_any}
-use Rattle.std.proofs.lemmas.Bool.{cond-true, cond-false, cases_Bool, eqb-true, eq-eqb}
+use Rattle.std.proofs.Common.{◌≡◌, ℕ, ◌<◌, ◌≤◌, true, false, List, [], ◌∷◌, ◌++◌, length, sym, ◌∙◌, inl, inr, arith}
+use Rattle.std.specs.Prelude.{IsTrue, ◌↔◌, nat_eq}
+use Rattle.std.specs.Cmp.{nat_eq_equiv}
+use Rattle.std.specs.List.{AllByRecursion, IsDistinct}
+use Rattle.std.proofs.lemmas.Bool.{cases_Bool, eqb-true}
 use Rattle.std.proofs.lemmas.List.{length-map}
-use Rattle.std.proofs.lemmas.Map.Steps.{length-le_from_distinct_below}
+use Rattle.std.proofs.lemmas.Map.Made.{length-le_from_is_member}
 use Rattle.wpds_base.specs.Lists.{IsIn, IsOnce}
 use Rattle.witness_graph.specs.declared.node.Node.{Node}
 use Rattle.witness_graph.specs.declared.node.Side.TheVariants.{Pre}
 use Rattle.witness_graph.specs.Nodes.{node_at, AreNodes}
-use Rattle.witness_graph.specs.Order.{place_of, is_listed, post_order, renamed, listing_of}
-use Rattle.witness_graph.proofs.CallerLemmas.{order_once, good_order}
+use Rattle.witness_graph.specs.Order.{place_of, is_listed, post_order, renamed, listing_of, Reaches}
 use Rattle.short_listings.specs.Shorter.{BeginsEmpty, made_short, stand, shortened}
+use Rattle.short_listings.proofs.ListedLemmas.{listed_any}
+use Rattle.short_listings.proofs.ReachLemmas.{reached_before}
 use Rattle.short_listings.proofs.ShorterLemmas.{sum_short}
-
-abbrev next : Option ℕ → Option ℕ
-next o = option_map (λ i. i + 1) o
-
-some_next : (o : Option ℕ) → is_some (next o) ≡ is_some o
-some_next None = refl
-some_next (Some i) = refl
-
-swapped : (x y : ℕ) → nat_eq y x ≡ false → nat_eq x y ≡ false
-swapped x y e = elim (cases_Bool (nat_eq x y)) [
-  | inl is ↦ let f : true ≡ false = sym (eq-eqb y x (sym (eqb-true x y is))) ∙ e in cc
-  | inr differs ↦ differs
-]
 
 unlisted : (x : ℕ) (xs : List ℕ) → (IsIn x xs → ⊥) → AllByRecursion (λ y. nat_eq x y ≡ false) xs
 unlisted x [] out = tt
@@ -39,27 +28,24 @@ unfolding IsDistinct
 distinct [] once = tt
 distinct (x ∷ xs) once = (unlisted x xs once.0, distinct xs once.1)
 
-listed : (q : ℕ) (xs : List ℕ) → list_any (nat_eq q) xs ≡ true → is_listed xs q ≡ true
-listed q [] e = cc
-listed q (y ∷ ys) e = elim (cases_Bool (nat_eq y q)) [
-  | inl is ↦ ap is_some (cond-true (nat_eq y q) (Some 0) (next (place_of q ys)) is)
-  | inr differs ↦ ap is_some (cond-false (nat_eq y q) (Some 0) (next (place_of q ys)) differs) ∙ some_next (place_of q ys)
-      ∙ listed q ys (sym (ap (λ b. b || list_any (nat_eq q) ys) (swapped q y differs)) ∙ e)
-]
+-- numbers that are listed once, each of them one of others, are no more than those
+few : (xs ys : List ℕ) → IsOnce xs → ((k : ℕ) → is_listed xs k ≡ true → is_listed ys k ≡ true) → length xs ≤ length ys
+few xs ys once within = length-le_from_is_member nat_eq_equiv xs ys (distinct xs once) (λ k e. sym (listed_any k ys) ∙ within k (listed_any k xs ∙ e))
 
--- a listing has no more nodes than its graph
-listing_few : (nodes : List Node) (root : ℕ) → AreNodes nodes → root < length nodes → length (listing_of nodes root) ≤ length nodes
-listing_few nodes root all within =
-    let order : List ℕ = post_order nodes root in
-    let size : length (listing_of nodes root) ≡ length order = length-map order (λ k. renamed (λ j. place_of j order) (node_at nodes k)) in
-    let bound : length order ≤ length nodes =
-    length-le_from_distinct_below order (length nodes) (distinct order (order_once nodes root all within)) (λ q e. (good_order Pre nodes all root within).inside q (listed q order e)) in
-    omega (arith, size, bound)
+listing_size : (nodes : List Node) (root : ℕ) → length (listing_of nodes root) ≡ length (post_order nodes root)
+listing_size nodes root = let order = post_order nodes root in length-map order (λ k. renamed (λ j. place_of j order) (node_at nodes k))
 
-pub no_longer : (graph added : List Node) (root : ℕ) → AreNodes (graph ++ added) → BeginsEmpty added → root < length (graph ++ added) → length (shortened graph added root) ≤ length (graph ++ added)
-no_longer graph added root all begins within =
-    let made = made_short graph added in
-    let short = sum_short Pre graph added all begins in
-    let low = short.low root within in
-    let few = listing_few made.0 (stand (length graph) made.1 root) short.valid (omega (arith, short.new_len)) in
-    omega (arith, few, short.new_len)
+-- the orders have just what is reached, each once
+module _ (reached : (nodes : List Node) (root k : ℕ) → AreNodes nodes → root < length nodes → IsTrue (is_listed (post_order nodes root) k) ↔ Reaches nodes root k)
+    (once : (nodes : List Node) (root : ℕ) → AreNodes nodes → root < length nodes → IsOnce (post_order nodes root)) where
+  pub no_longer : (graph added : List Node) (root : ℕ) → AreNodes (graph ++ added) → BeginsEmpty added → root < length (graph ++ added)
+      → length (shortened graph added root) ≤ length (listing_of (graph ++ added) root)
+  no_longer graph added root all begins within =
+      let made = made_short graph added in
+      let at = stand (length graph) made.1 root in
+      let short = sum_short Pre graph added all begins in
+      let low = short.low root within in
+      let inside : at < length made.0 = omega (arith, short.new_len) in
+      let fewer = few (post_order made.0 at) (post_order (graph ++ added) root) (once made.0 at short.valid inside)
+      (λ k e. (reached (graph ++ added) root k all within).1 (reached_before graph added root k ((reached made.0 at k short.valid inside).0 e))) in
+      omega (arith, fewer, listing_size made.0 at, listing_size (graph ++ added) root)

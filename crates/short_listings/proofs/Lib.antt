@@ -1,4 +1,6 @@
 mod PartLemmas
+mod ListedLemmas
+mod ReachLemmas
 mod ShorterLemmas
 mod TightLemmas
 mod LengthLemmas

@@ -2,11 +2,13 @@ ghost use Rattle.std.specs.Prelude.{◌≡◌, ◌<◌, ◌≤◌, ◌-◌, ◌+
 ghost use Rattle.witness_graph.specs.declared.node.Node.{Node as NodeValue};
 ghost use Rattle.witness_graph.specs.declared.node.Side.{Side as SideValue};
 ghost use Rattle.witness_graph.specs.Nodes.{AreNodes};
+ghost use Rattle.witness_graph.specs.Order.{listing_of};
 ghost use Rattle.witness_graph.specs.Runs.{runs_of};
 ghost use Rattle.witness_graph.specs.Tight.{IsTight};
 ghost use Rattle.short_listings.specs.Shorter.{BeginsEmpty, made_short, shortened};
 
 use semiring_laws::Semiring;
+use witness_graph::post_order_has_the_reached;
 
 /// What is made shorter has the same runs, whichever way they go.
 pub fn shorter_has_the_same_runs()
@@ -24,12 +26,14 @@ pub fn shorter_stays_tight<S: Semiring>()
         IsTight s value side (graph ++ added) → IsTight s value side (shortened graph added root) }
 {}
 
-/// A listing that is made shorter has no more nodes than there are.
+/// A listing that is made shorter has no more nodes than the listing of the same root over the nodes as they were.
 pub fn shorter_has_no_more_nodes()
     ensures { (graph added : List NodeValue) (root : ℕ) →
         AreNodes (graph ++ added) → BeginsEmpty added → root < length (graph ++ added) →
-        length (shortened graph added root) ≤ length (graph ++ added) }
-{}
+        length (shortened graph added root) ≤ length (listing_of (graph ++ added) root) }
+{
+    post_order_has_the_reached();
+}
 
 /// The nodes of the graph stay as they are, under their own numbers.
 pub fn nodes_of_the_graph_stay()
