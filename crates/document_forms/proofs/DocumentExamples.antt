@@ -11,7 +11,7 @@ use Rattle.document_forms.specs.declared.weight.WeightText.TheVariants.{One, Num
 use Rattle.document_forms.specs.declared.pattern.SetText.TheVariants.{All, Listed}
 use Rattle.document_forms.specs.declared.pattern.ItemText.{ItemText}
 use Rattle.document_forms.specs.declared.language.Language.TheVariants.{System, Program}
-use Rattle.document_forms.specs.Refusals.{Refusal}
+use Rattle.wpds_port.specs.declared.Refusal.{Refusal}
 use Rattle.document_forms.specs.Documents.{Document, read_as}
 use Rattle.document_forms.specs.Languages.{language_of}
 use Rattle.document_forms.specs.Writing.{written}

@@ -14,7 +14,8 @@ use Rattle.document_forms.specs.Forms.{WeightsForm, Class, Controls, Symbols, Fa
 use Rattle.document_forms.specs.FormWords.{is_form, has_none, is_back, right_words}
 use Rattle.document_forms.specs.Words.{is_return}
 use Rattle.document_forms.specs.Patterns.{PatternForm}
-use Rattle.document_forms.specs.Refusals.{Kind, NotText, Form, Count}
+use Rattle.wpds_port.specs.declared.Kind.{Kind}
+use Rattle.wpds_port.specs.declared.Kind.TheVariants.{NotText, Form, Count}
 use Rattle.document_forms.specs.Above.{weights_line, item_class, declared, Above, above_of, with_line, is_query}
 use Rattle.document_forms.specs.Kinds.{Conditions, has_unlawful_cap, weights_conditions, conditions}
 use Rattle.document_forms.specs.FirstRefusal.{Counted, counted, counted_lines, forms, all_symbols, by_form, kind_below, missing, AreAccepted}

@@ -5,7 +5,9 @@ use Rattle.std.proofs.lemmas.Bool.{and_parts, ltb-true}
 use Rattle.wpds_base.specs.Faults.{first_fault}
 use Rattle.wpds_base.specs.Lists.{IsIn}
 use Rattle.document_forms.specs.Forms.{WeightsForm, Class, RuleForm, LineForm, OfWeights, OfNames, OfRule, OfQuery}
-use Rattle.document_forms.specs.Refusals.{Kind, TooLong, NotText, Header, Form, Twice, Unknown, WeightText, Return, Count, NothingAsked, kind_number}
+use Rattle.wpds_port.specs.declared.Kind.{Kind}
+use Rattle.wpds_port.specs.declared.Kind.TheVariants.{TooLong, NotText, Header, Form, Twice, Unknown, WeightText, Return, Count, NothingAsked}
+use Rattle.wpds_port.specs.Refusals.{kind_number}
 use Rattle.document_forms.specs.Above.{Above, above_of}
 use Rattle.document_forms.specs.Kinds.{Conditions, weights_conditions, conditions}
 use Rattle.document_forms.specs.FirstRefusal.{Counted, forms, by_form, conditions_below, line_conditions, HasKind, kind_below, IsLowest}

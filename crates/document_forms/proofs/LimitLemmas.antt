@@ -13,7 +13,8 @@ use Rattle.document_forms.specs.declared.weight.WeightsLine.TheVariants.{Reach, 
 use Rattle.document_forms.specs.Names.{is_among, has_twice, once}
 use Rattle.document_forms.specs.Patterns.{PatternForm}
 use Rattle.document_forms.specs.Forms.{WeightsForm, ReachWeights, CostWeights, GenKillWeights, CopyWeights, RelationWeights, Class, Controls, Symbols, Facts, Variables, RuleForm, LineForm, OfWeights, OfNames, OfRule, OfQuery}
-use Rattle.document_forms.specs.Refusals.{Kind, Form, Twice, Unknown, WeightText, Return, Count}
+use Rattle.wpds_port.specs.declared.Kind.{Kind}
+use Rattle.wpds_port.specs.declared.Kind.TheVariants.{Form, Twice, Unknown, WeightText, Return, Count}
 use Rattle.document_forms.specs.Above.{weights_line, item_class, has_class, most_names, is_rule, is_query, Above, above_of, class_names, with_line}
 use Rattle.document_forms.specs.Kinds.{Conditions, has_unlawful_cap, is_deep, rule_weight, is_large, names_conditions, rule_conditions, query_conditions, conditions}
 use Rattle.document_forms.specs.Documents.{rules_on, queries_on, gathered}

@@ -11,7 +11,8 @@ use Rattle.wpds_base.specs.Limits.{most_items, most_edges, most_queries}
 use Rattle.document_forms.specs.declared.pattern.SetText.TheVariants.{All as AllSymbols, Listed}
 use Rattle.document_forms.specs.Names.{is_among, has_unknown, has_twice, number_in}
 use Rattle.document_forms.specs.Patterns.{SetForm, Dotted, Bare, Braced, ItemForm, PatternForm}
-use Rattle.document_forms.specs.Refusals.{Kind, Twice, Unknown, Count}
+use Rattle.wpds_port.specs.declared.Kind.{Kind}
+use Rattle.wpds_port.specs.declared.Kind.TheVariants.{Twice, Unknown, Count}
 use Rattle.document_forms.specs.Above.{Above}
 use Rattle.document_forms.specs.Kinds.{Conditions, set_names, pattern_symbols, has_symbol_twice, set_size, item_size, edges, is_large, query_conditions}
 use Rattle.document_forms.specs.Documents.{set_value, item_value, pattern_value, query_value}

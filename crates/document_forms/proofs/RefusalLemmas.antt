@@ -2,7 +2,10 @@
 use Rattle.std.proofs.Common.{◌≡◌, ◌↔◌, ◌⊎◌, inl, inr, ℕ, Bool, true, false, List, [], ◌∷◌, ◌++◌, Option, Some, None, refl, sym, ap, ◌∙◌, subst, append_assoc, append-nil}
 use Rattle.std.specs.Prelude.{IsTrue, IsFalse, length, option_map, ◌+◌, Result, Ok, Err}
 use Rattle.document_forms.specs.Lines.{lines}
-use Rattle.document_forms.specs.Refusals.{Kind, TooLong, Refusal, refusal}
+use Rattle.wpds_port.specs.declared.Kind.{Kind}
+use Rattle.wpds_port.specs.declared.Kind.TheVariants.{TooLong}
+use Rattle.wpds_port.specs.declared.Refusal.{Refusal}
+use Rattle.wpds_port.specs.Refusals.{refusal}
 use Rattle.document_forms.specs.FirstRefusal.{Counted, counted_lines, all_symbols, HasKind, kind_below, IsLowest, AreAccepted, IsRefusedLine, IsRefusedEnd, is_short, missing, FirstRefusal, first_refused, end_refusal, refusal_in, refusal_of}
 use Rattle.document_forms.specs.Documents.{Document, body, document_of, reads_as, read_as}
 use Rattle.document_forms.proofs.KindLemmas.{lowest_kind, no_kind}

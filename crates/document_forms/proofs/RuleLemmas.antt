@@ -19,7 +19,8 @@ use Rattle.document_forms.specs.Words.{parted, pairs, each, is_semicolon}
 use Rattle.document_forms.specs.Returns.{MoveForm, MapForm, ReturnForm, PlainReturn, GivenMap}
 use Rattle.document_forms.specs.Weights.{SignForm, PartForm, OfVariable, OfNumber, PartsForm, VaryingParts, Undefined, Parts, PairForm, ValueForm, FreeValue, TreeValue, ActionForm, AssumeForm, ChooseForm, AssignForm, WeightForm, OneForm, NoneForm, NumberForm, SignsForm, PairsForm, ActionsForm, cost_of, signs, genkill_of, pair_of, pairs_in, copy_of, action_of, relation_of, own_weight, is_only, weight_of}
 use Rattle.document_forms.specs.Forms.{RuleForm}
-use Rattle.document_forms.specs.Refusals.{Kind, Twice, Unknown, WeightText, Return, Count}
+use Rattle.wpds_port.specs.declared.Kind.{Kind}
+use Rattle.wpds_port.specs.declared.Kind.TheVariants.{Twice, Unknown, WeightText, Return, Count}
 use Rattle.document_forms.specs.Above.{Above}
 use Rattle.document_forms.specs.Kinds.{Conditions, part_names, parts_names, value_names, action_names, weight_names, value_trees, action_trees, is_uneven, is_unlawful, is_deep, rule_weight, allows_restore, allows_moves, restored, moved, has_map_twice, map_names, is_foreign_map, has_unknown_name, rule_conditions}
 use Rattle.document_forms.specs.Documents.{bits_at, variables_in, constants_in, one_constant, meet_of, parts_value, pair_value, sign_value, value_of, assignment_of, action_value, weight_value, map_value, move_value, rule_value}

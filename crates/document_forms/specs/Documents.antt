@@ -27,7 +27,7 @@ use Rattle.document_forms.specs.Patterns.{SetForm, Dotted, Bare, Braced, ItemFor
 use Rattle.document_forms.specs.Returns.{MoveForm, ReturnForm, PlainReturn, GivenMap}
 use Rattle.document_forms.specs.Weights.{SignForm, PartForm, OfVariable, OfNumber, PartsForm, VaryingParts, Undefined, Parts, PairForm, ValueForm, FreeValue, TreeValue, ActionForm, AssumeForm, ChooseForm, AssignForm, WeightForm, OneForm, NoneForm, NumberForm, SignsForm, PairsForm, ActionsForm}
 use Rattle.document_forms.specs.Forms.{RuleForm, LineForm, OfRule, OfQuery}
-use Rattle.document_forms.specs.Refusals.{Refusal}
+use Rattle.wpds_port.specs.declared.Refusal.{Refusal}
 use Rattle.document_forms.specs.Above.{Above, above_of}
 use Rattle.document_forms.specs.Kinds.{rule_weight, restored, moved}
 use Rattle.document_forms.specs.FirstRefusal.{Counted, forms, all_symbols, counted_lines, AreAccepted, is_short, missing, refusal_of}

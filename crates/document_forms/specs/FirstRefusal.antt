@@ -8,7 +8,10 @@ use Rattle.wpds_base.specs.Lists.{IsIn}
 use Rattle.wpds_port.specs.declared.Word.{Word}
 use Rattle.document_forms.specs.Lines.{Line, lines, numbered, counts, is_text}
 use Rattle.document_forms.specs.Forms.{Symbols, LineForm, form_of, line_words, is_header}
-use Rattle.document_forms.specs.Refusals.{Kind, TooLong, NotText, Header, Form, NothingAsked, kind_number, Refusal, refusal}
+use Rattle.wpds_port.specs.declared.Kind.{Kind}
+use Rattle.wpds_port.specs.declared.Kind.TheVariants.{TooLong, NotText, Header, Form, NothingAsked}
+use Rattle.wpds_port.specs.declared.Refusal.{Refusal}
+use Rattle.wpds_port.specs.Refusals.{kind_number, refusal}
 use Rattle.document_forms.specs.Above.{declared, is_query, above_of}
 use Rattle.document_forms.specs.Kinds.{Conditions, weights_conditions, conditions}
 

@@ -1,7 +1,7 @@
 -- Which kinds of refusal a line has, below the lines above it.
 use Rattle.std.specs.Prelude.{ℕ, ◌+◌, ◌*◌, ◌^◌, Bool, true, false, not, ◌||◌, ◌&&◌, ◌==◌, nat_le, nat_lt, if◌then◌else◌, List, [], ◌∷◌, ◌++◌, length, Option, Some, None, option_map, unwrap_or, map, flat_map, is_some, is_none}
 use Rattle.std.specs.List.{list_any}
-use Rattle.wpds_base.specs.Limits.{most_rules, most_queries, most_items, most_edges, most_cost}
+use Rattle.wpds_base.specs.Limits.{most_rules, most_queries, most_items, most_edges, most_cost, most_depth}
 use Rattle.wpds_port.specs.declared.Word.{Word}
 use Rattle.truth_tables.specs.Grammar.{Tree, Constant, Variable, Bracket, Inverse, Two, Table2, Table3, depth, number_of, has_large_table}
 use Rattle.document_forms.specs.declared.weight.WeightsLine.{WeightsLine}
@@ -11,7 +11,8 @@ use Rattle.document_forms.specs.Patterns.{SetForm, Dotted, Bare, Braced, ItemFor
 use Rattle.document_forms.specs.Returns.{MoveForm, MapForm, ReturnForm, PlainReturn, GivenMap}
 use Rattle.document_forms.specs.Weights.{PartForm, OfVariable, OfNumber, PartsForm, Parts, ValueForm, FreeValue, TreeValue, ActionForm, AssumeForm, ChooseForm, AssignForm, WeightForm, OneForm, NumberForm, SignsForm, PairsForm, ActionsForm, weight_of}
 use Rattle.document_forms.specs.Forms.{WeightsForm, CostWeights, Class, RuleForm, LineForm, OfWeights, OfNames, OfRule, OfQuery}
-use Rattle.document_forms.specs.Refusals.{Kind, Form, Twice, Unknown, WeightText, Return, Count}
+use Rattle.wpds_port.specs.declared.Kind.{Kind}
+use Rattle.wpds_port.specs.declared.Kind.TheVariants.{Form, Twice, Unknown, WeightText, Return, Count}
 use Rattle.document_forms.specs.Above.{has_class, most_names, Above, class_names}
 
 -- a line's conditions in the order of their kinds, each with the kind that it has where it holds
@@ -88,10 +89,6 @@ is_unlawful (PairsForm ps) =
 is_unlawful (ActionsForm acts) =
     list_any is_uneven acts || list_any has_large_table (flat_map action_trees acts)
 is_unlawful _ = false
-
--- how deep an expression may be
-abbrev pub most_depth : ℕ
-most_depth = 64
 
 abbrev pub is_deep : WeightForm → Bool
 is_deep (ActionsForm acts) =

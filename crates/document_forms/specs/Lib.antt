@@ -7,7 +7,6 @@ pub mod Returns
 pub mod Weights
 pub mod Forms
 pub mod FormWords
-pub mod Refusals
 pub mod Above
 pub mod Kinds
 pub mod FirstRefusal

@@ -16,7 +16,8 @@ ghost use Rattle.document_forms.specs.Lawful.{IsDocument, IsRuleLine, IsQueryLin
 ghost use Rattle.document_forms.specs.Lines.{pieces, IsCut};
 ghost use Rattle.document_forms.specs.Names.{is_among, has_twice};
 ghost use Rattle.document_forms.specs.Patterns.{ItemForm, PatternForm, items_of, AreItems};
-ghost use Rattle.document_forms.specs.Refusals.{Kind, Refusal};
+ghost use Rattle.wpds_port.specs.declared.Kind.{Kind};
+ghost use Rattle.wpds_port.specs.declared.Refusal.{Refusal};
 
 /// Bytes have a document or a first refusal, never both, and one at most of each.
 pub fn one_document_or_one_refusal()

@@ -56,6 +56,10 @@ most_table2 = 15
 abbrev pub most_table3 : ℕ
 most_table3 = 255
 
+-- how deep an expression is at most
+abbrev pub most_depth : ℕ
+most_depth = 64
+
 -- seats at a book, one for each worker
 abbrev pub most_seats : ℕ
 most_seats = 64

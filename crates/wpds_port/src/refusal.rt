@@ -13,6 +13,30 @@ use thiserror::Error;
 pub enum Kind {
     /// The document has more bytes than are read.
     TooLong,
+    /// A line that counts has a byte other than tab and 32 to 126.
+    NotText,
+    /// The first line that counts is no header, or there is none.
+    Header,
+    /// The line has none of the forms that may stand there.
+    Form,
+    /// A name, or the weights line, stands a second time where it may stand once.
+    Twice,
+    /// A name is not declared where it may be used.
+    Unknown,
+    /// The weight of a rule is none of the document's weights.
+    WeightText,
+    /// A return stands where none may, or is one that the weights do not allow.
+    Return,
+    /// A limit is passed on this line.
+    Count,
+    /// There is no query.
+    NothingAsked,
+    /// A program's line has too many or too few values, arguments, targets or results.
+    Arity,
+    /// A program's procedure has too many variables.
+    TooWide,
+    /// A program's label is not one that the line may name.
+    Label,
     /// The document asks for what is not built yet.
     NotBuilt,
 }
@@ -24,6 +48,18 @@ impl Kind {
     {
         match self {
             Kind::TooLong => 1,
+            Kind::NotText => 2,
+            Kind::Header => 3,
+            Kind::Form => 4,
+            Kind::Twice => 5,
+            Kind::Unknown => 6,
+            Kind::WeightText => 7,
+            Kind::Return => 8,
+            Kind::Count => 9,
+            Kind::NothingAsked => 10,
+            Kind::Arity => 11,
+            Kind::TooWide => 12,
+            Kind::Label => 13,
             Kind::NotBuilt => 14,
         }
     }
@@ -34,6 +70,18 @@ impl Kind {
     {
         match self {
             Kind::TooLong => "TooLong",
+            Kind::NotText => "NotText",
+            Kind::Header => "Header",
+            Kind::Form => "Form",
+            Kind::Twice => "Twice",
+            Kind::Unknown => "Unknown",
+            Kind::WeightText => "WeightText",
+            Kind::Return => "Return",
+            Kind::Count => "Count",
+            Kind::NothingAsked => "NothingAsked",
+            Kind::Arity => "Arity",
+            Kind::TooWide => "TooWide",
+            Kind::Label => "Label",
             Kind::NotBuilt => "NotBuilt",
         }
     }

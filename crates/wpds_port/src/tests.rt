@@ -144,7 +144,20 @@ fn other_ends(rt: HostRuntime) -> Result<(), Fail> {
 fn texts(rt: HostRuntime) -> Result<(), Fail> {
     let alloc = rt.alloc();
     for (line, kind, text) in [
-        (0, Kind::NotBuilt, "refused: line 0: 14 NotBuilt"),
+        (7, Kind::TooLong, "refused: line 7: 1 TooLong"),
+        (7, Kind::NotText, "refused: line 7: 2 NotText"),
+        (7, Kind::Header, "refused: line 7: 3 Header"),
+        (7, Kind::Form, "refused: line 7: 4 Form"),
+        (7, Kind::Twice, "refused: line 7: 5 Twice"),
+        (7, Kind::Unknown, "refused: line 7: 6 Unknown"),
+        (7, Kind::WeightText, "refused: line 7: 7 WeightText"),
+        (7, Kind::Return, "refused: line 7: 8 Return"),
+        (7, Kind::Count, "refused: line 7: 9 Count"),
+        (7, Kind::NothingAsked, "refused: line 7: 10 NothingAsked"),
+        (7, Kind::Arity, "refused: line 7: 11 Arity"),
+        (7, Kind::TooWide, "refused: line 7: 12 TooWide"),
+        (7, Kind::Label, "refused: line 7: 13 Label"),
+        (7, Kind::NotBuilt, "refused: line 7: 14 NotBuilt"),
         (
             u64::MAX,
             Kind::TooLong,
