@@ -6,7 +6,8 @@ use Rattle.wpds_port.specs.declared.Mark.TheVariants.{Arrow}
 use Rattle.wpds_port.specs.declared.Word.{Word}
 use Rattle.wpds_port.specs.declared.Word.TheVariants.{Name, Number, Mark as Sign}
 use Rattle.wpds_port.specs.Tokens.{is_lawful_word, tokens}
-use Rattle.truth_tables.specs.Texts.{words_of, is_name}
+use Rattle.wpds_port.specs.Words.{text_words}
+use Rattle.truth_tables.specs.Texts.{is_name}
 use Rattle.document_forms.specs.Names.{is_reserved}
 use Rattle.document_forms.specs.Words.{is_return, is_implies, is_colon, before, behind, name_of, each, each_of_some, guarded, ◌>>=◌}
 use Rattle.document_forms.specs.Patterns.{PatternForm, pattern_of}
@@ -124,7 +125,7 @@ form_of (w ∷ ws) = guarded (list_all is_lawful_word (w ∷ ws)) (form_behind w
 
 -- the words of a line, if it is cut wholly into tokens
 abbrev pub line_words : List ℕ → Option (List Word)
-line_words line = option_map words_of (tokens line)
+line_words line = text_words line
 
 -- the form of a line, if it has one
 abbrev pub line_form : List ℕ → Option LineForm

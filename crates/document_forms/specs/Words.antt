@@ -3,6 +3,7 @@ use Rattle.std.specs.Prelude.{ℕ, Bool, true, false, ◌&&◌, ◌==◌, List, 
 use Rattle.wpds_port.specs.declared.Mark.TheVariants.{Comma, Colon, Semicolon, Equal, Implies, Becomes}
 use Rattle.wpds_port.specs.declared.Word.{Word}
 use Rattle.wpds_port.specs.declared.Word.TheVariants.{Name, Mark as Sign}
+pub use Rattle.wpds_port.specs.Words.{before, behind}
 use Rattle.truth_tables.specs.Texts.{is_name, brackets_after}
 use Rattle.document_forms.specs.Lines.{in_front}
 
@@ -39,16 +40,6 @@ abbrev pub is_move : Word → Bool
 is_move w = is_name (codes "move") w
 
 -- ---- the cutting
-
--- the words before the first one at which the test holds, and all of them where there is none
-abbrev pub before : (Word → Bool) → List Word → List Word
-before test [] = []
-before test (w ∷ ws) = cond (test w) [] (w ∷ before test ws)
-
--- the words behind it, if there is one
-abbrev pub behind : (Word → Bool) → List Word → Option (List Word)
-behind test [] = None
-behind test (w ∷ ws) = cond (test w) (Some ws) (behind test ws)
 
 -- The pieces between the words at which the test holds. There is one more than there are such
 -- words.

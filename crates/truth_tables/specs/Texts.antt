@@ -4,6 +4,7 @@ use Rattle.wpds_port.specs.declared.Mark.TheVariants.{Comma, Semicolon, Arrow, O
 use Rattle.wpds_port.specs.declared.Word.{Word}
 use Rattle.wpds_port.specs.declared.Word.TheVariants.{Name, Mark as Sign}
 use Rattle.wpds_port.specs.declared.Token.{Token}
+pub use Rattle.wpds_port.specs.Words.{words_of, brackets_after}
 use Rattle.truth_tables.specs.Grammar.{Tree, IsExpression, depth, has_large_table, formula_of}
 use Rattle.truth_tables.specs.Operands.{raw_formula}
 use Rattle.truth_tables.specs.declared.operand.Built.{Built}
@@ -13,20 +14,11 @@ use Rattle.truth_tables.specs.declared.raw.RawExpr.{RawExpr}
 use Rattle.truth_tables.specs.declared.reading.ExprRead.{ExprRead}
 use Rattle.truth_tables.specs.declared.reading.ExprRead.TheVariants.{Read, Form, Table, Deep}
 
-abbrev pub words_of : List Token → List Word
-words_of ts = map (λ t. t.word) ts
-
 -- ---- where an expression's text ends
 
 abbrev pub is_name : List ℕ → Word → Bool
 is_name x (Name y) = bytes_eq x y
 is_name x _ = false
-
--- brackets that are open behind a word
-abbrev pub brackets_after : ℕ → Word → ℕ
-brackets_after d (Sign Open) = d + 1
-brackets_after d (Sign Close) = d - 1
-brackets_after d _ = d
 
 -- `,`, `;`, `->` and `)`
 abbrev pub is_end_mark : Word → Bool

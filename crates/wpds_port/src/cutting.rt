@@ -1,10 +1,11 @@
 ghost use Rattle.std.specs.Prelude.{◌≡◌, ◌≤◌, IfOk, IfSome, IfNone, option_map, length, take};
 ghost use Rattle.wpds_port.specs.Tokens.{is_blank, mark_at, word_text, word_at, is_digit, begins_name, goes_on_name, bytes_while, tokens as tokens_of, AreTokens, IsStuck};
+ghost use Rattle.wpds_port.specs.Words.{word_of};
 
-use crate::{Mark, OutOfMemory, Text, Token, TokenList, Word};
+use crate::{Lexeme, Mark, OutOfMemory, Text, Token, TokenList, Word};
 use std::alloc::Global;
 
-fn blank(b: u8) -> bool
+pub(crate) fn blank(b: u8) -> bool
     ensures { result ≡ is_blank b }
 {
     b == b' ' || b == b'\t'
@@ -86,34 +87,43 @@ fn digits_len(text: &[u8]) -> usize
     n
 }
 
-/// The bytes at the front that may stand in a name.
-fn name_text(alloc: Global, text: &[u8]) -> Result<Text, OutOfMemory>
-    ensures { IfOk result (λ t. t ≡ bytes_while goes_on_name text.now) }
+/// The longest word that the text begins with.
+pub(crate) fn lexeme_in(text: &[u8]) -> Option<Lexeme>
+    ensures word { option_map word_of result ≡ word_at text.now }
+    ensures within { IfSome result (λ l. length (word_text (word_of l)) ≤ length text.now) }
 {
-    Text::of(alloc, &text[..name_len(text)])
+    if text.is_empty() {
+        return None;
+    }
+    if name_begins(text[0]) {
+        return Some(Lexeme::Name(&text[..name_len(text)]));
+    }
+    if digit(text[0]) {
+        return Some(Lexeme::Number(&text[..digits_len(text)]));
+    }
+    match mark_in(text) {
+        Some(mark) => Some(Lexeme::Mark(mark)),
+        None => None,
+    }
 }
 
-fn number_text(alloc: Global, text: &[u8]) -> Result<Text, OutOfMemory>
-    ensures { IfOk result (λ t. t ≡ bytes_while is_digit text.now) }
+// The word, with bytes of its own.
+fn copied(alloc: Global, lexeme: Lexeme) -> Result<Word, OutOfMemory>
+    ensures { IfOk result (λ w. w ≡ word_of lexeme.entry) }
 {
-    Text::of(alloc, &text[..digits_len(text)])
+    match lexeme {
+        Lexeme::Name(bytes) => Ok(Word::Name(Text::of(alloc, bytes)?)),
+        Lexeme::Number(bytes) => Ok(Word::Number(Text::of(alloc, bytes)?)),
+        Lexeme::Mark(mark) => Ok(Word::Mark(mark)),
+    }
 }
 
-/// The longest token that the text begins with.
+/// The longest word that the text begins with.
 fn word_in(alloc: Global, text: &[u8]) -> Result<Option<Word>, OutOfMemory>
     ensures { IfOk result (λ o. o ≡ word_at text.now) }
 {
-    if text.is_empty() {
-        return Ok(None);
-    }
-    if name_begins(text[0]) {
-        return Ok(Some(Word::Name(name_text(alloc, text)?)));
-    }
-    if digit(text[0]) {
-        return Ok(Some(Word::Number(number_text(alloc, text)?)));
-    }
-    match mark_in(text) {
-        Some(mark) => Ok(Some(Word::Mark(mark))),
+    match lexeme_in(text) {
+        Some(lexeme) => Ok(Some(copied(alloc, lexeme)?)),
         None => Ok(None),
     }
 }

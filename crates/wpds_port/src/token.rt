@@ -95,7 +95,7 @@ impl Word {
     }
 }
 
-fn leads_with_zero(digits: &[u8]) -> bool
+pub(crate) fn leads_with_zero(digits: &[u8]) -> bool
     ensures { result ≡ has_leading_zero digits.now }
 {
     match digits {
