@@ -1,1 +1,3 @@
 pub mod LinesLeft
+pub mod Readings
+pub mod Found

@@ -1,4 +1,12 @@
 //! Reads the text of a pushdown system, once from front to back: its document, or its first refusal.
 #![tactic(auto)]
 
+mod headers;
 mod lines;
+mod reading;
+mod stubs;
+mod symbols;
+mod system;
+
+pub use headers::language;
+pub use system::read_system;
