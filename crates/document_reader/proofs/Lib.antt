@@ -1,3 +1,4 @@
 mod LineLemmas
 mod ReadingLemmas
+mod FirstLinesLemmas
 mod SymbolLemmas
