@@ -2,3 +2,4 @@ mod LineLemmas
 mod ReadingLemmas
 mod FirstLinesLemmas
 mod SymbolLemmas
+mod SystemLemmas
