@@ -79,12 +79,7 @@ nothing_asked all after ls r h e =
     found_at_end all after ls h.accepted
     ∙ ap (option_map (refusal after)) (query_missing ls (OfWeights h.begun.0) h.begun.1 h.begun.2 (sym h.queries ∙ e))
 
--- ---- of lists
-
-pub two_lines : (ls ms rest : List Line) (h w : Line) → ls ≡ h ∷ ms → ms ≡ w ∷ rest → map counted ls ≡ counted h ∷ counted w ∷ map counted rest
-two_lines ls ms rest h w d e = ap (map counted) (d ∙ ap (λ k. h ∷ k) e)
-
--- by the test of a count of them
+-- ---- a list, by the test of a count of its items
 pub no_items : {A : Type 0} (xs : List A) (n : ℕ) → n ≡ length xs → (n == 0) ≡ true → xs ≡ []
 no_items [] n e h = refl
 no_items (x ∷ xs) n e h = let z = eqb-true n 0 h in absurd (omega arith)

@@ -117,7 +117,7 @@ line_taken law all ls old new l h k t =
     let fs = h.begun.1 in
     let more : body (ls ++ counted l ∷ []) ≡ body ls ++ f ∷ [] = body_more ls (counted l) (OfWeights w) f fs h.begun.2 t.1 in
     let none : first_fault (conditions all (above_of (body ls)) f) ≡ None =
-        form_accepted all (above_of (body ls)) l.bytes f t.1 (ap (λ a. kind_on all a l.bytes) (sym h.above) ∙ sym k) in
+    form_accepted all (above_of (body ls)) l.bytes f t.1 (ap (λ a. kind_on all a l.bytes) (sym h.above) ∙ sym k) in
     record {
       begun = (w, fs ++ f ∷ [], more ∙ ap (λ g. g ++ f ∷ []) h.begun.2);
       accepted = found_none all ls (counted l) h.accepted (kind_now all ls old l h ∙ sym k);

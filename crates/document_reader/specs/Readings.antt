@@ -4,11 +4,11 @@ use Rattle.wpds_base.specs.Faults.{first_fault}
 use Rattle.wpds_port.specs.declared.Kind.{Kind}
 use Rattle.wpds_port.specs.declared.Kind.TheVariants.{NotText, Header}
 use Rattle.document_forms.specs.declared.weight.WeightsLine.{WeightsLine}
-use Rattle.document_forms.specs.Lines.{is_text}
+use Rattle.document_forms.specs.Lines.{Line, is_text}
 use Rattle.document_forms.specs.Forms.{WeightsForm, Class, LineForm, OfWeights, line_words, line_form, is_header}
 use Rattle.document_forms.specs.Above.{weights_line, Above, above_of, with_line, names_on}
 use Rattle.document_forms.specs.Kinds.{weights_conditions, conditions}
-use Rattle.document_forms.specs.FirstRefusal.{Counted, forms, by_form, first_refused}
+use Rattle.document_forms.specs.FirstRefusal.{Counted, counted, forms, by_form, first_refused}
 use Rattle.document_forms.specs.Documents.{Document, rules_on, queries_on, gathered, body}
 use Rattle.document_reader.specs.declared.reading.Reading.{Reading}
 
@@ -84,6 +84,13 @@ pub record HasRead (all : ℕ) (ls : List Counted) (r : Reading) : Type 0 where
   pub above : above_now r ≡ above_of (body ls)
   pub rules : r.rules.items ≡ gathered rules_on [] (body ls)
   pub queries : r.queries.items ≡ gathered queries_on [] (body ls)
+
+-- The reading has the first two of these lines, and those behind are left.
+pub record HasFirstTwo (lines left : List Line) (r : Reading) : Type 0 where
+  pub first : Line
+  pub second : Line
+  pub split : lines ≡ first ∷ second ∷ left
+  pub read : (all : ℕ) → HasRead all (counted first ∷ counted second ∷ []) r
 
 -- the document of what was read
 abbrev pub document_now : Reading → Document

@@ -69,8 +69,8 @@ impl<'t> Lines<'t> {
     }
 
     /// The number of the line after the last.
-    pub(crate) fn after(self) -> u64
-        ensures { result ≡ self.entry.after }
+    pub(crate) fn after(&self) -> u64
+        ensures { result ≡ self.now.after }
     {
         let mut number = self.number;
         let mut rest = self.rest;

@@ -1,6 +1,7 @@
 //! What is read of a document, line by line.
 
 ghost use Rattle.std.specs.Prelude.{◌≡◌, [], ◌++◌, List, map, IfOk, Some, Err};
+ghost use Rattle.wpds_port.specs.Refusals.{refusal};
 ghost use Rattle.wpds_port.specs.declared.Refusal.{Refusal as RefusalValue};
 ghost use Rattle.document_forms.specs.FirstRefusal.{Counted, counted, first_refused};
 ghost use Rattle.document_reader.specs.Readings.{HasRead, above_now, only_weights};
@@ -9,7 +10,7 @@ use crate::lines::Lines;
 use crate::stubs::{NameTable, read_line};
 use document_forms::{QueryLine, RuleLine, WeightsLine, above_with_a_line};
 use std::alloc::Global;
-use wpds_port::{ReadFault, Refusal};
+use wpds_port::{Kind, ReadFault, Refusal};
 
 /// What the lines that were read declare and ask.
 #[derive(Drop)]
@@ -41,6 +42,13 @@ impl<'t> Reading<'t> {
     }
 }
 
+/// A line is refused.
+pub(crate) fn refused(line: u64, kind: Kind) -> ReadFault
+    ensures { result ≡ ReadFault.Refused (refusal line kind) }
+{
+    ReadFault::Refused(Refusal { line, kind })
+}
+
 /// Reads the lines behind the weights line, up to the first that is refused.
 pub(crate) fn read_body<'t>(
     alloc: Global,
@@ -58,10 +66,7 @@ pub(crate) fn read_body<'t>(
     above_with_a_line();
     while let Some(line) = lines.next() {
         if let Some(kind) = read_line(alloc, all, reading, line.bytes)? {
-            return Err(ReadFault::Refused(Refusal {
-                line: line.number,
-                kind,
-            }));
+            return Err(refused(line.number, kind));
         }
     }
     Ok(())

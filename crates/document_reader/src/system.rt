@@ -1,21 +1,20 @@
 //! Systems are read.
 
-ghost use Rattle.std.specs.Prelude.{◌≡◌, IfOk, Some, None, Err, map};
-ghost use Rattle.wpds_port.specs.Refusals.{refusal};
+ghost use Rattle.std.specs.Prelude.{◌≡◌, ℕ, IfOk, Some, None, Err, map};
 ghost use Rattle.wpds_port.specs.declared.Refusal.{Refusal as RefusalValue};
 ghost use Rattle.document_forms.specs.Documents.{reads_as};
 ghost use Rattle.document_forms.specs.FirstRefusal.{counted, missing, FirstRefusal};
-ghost use Rattle.document_reader.specs.Readings.{HasRead, document_now};
+ghost use Rattle.document_reader.specs.Readings.{HasRead, HasFirstTwo, document_now};
 ghost use Rattle.document_reader.specs.Found.{found_first};
 
 use crate::headers::{header_kind, read_weights};
 use crate::lines::Lines;
-use crate::reading::{Reading, read_body};
+use crate::reading::{Reading, read_body, refused};
 use crate::symbols::all_symbols;
 use document_forms::{Document, QueryLines, RuleLines, found_line_by_line};
 use std::alloc::Global;
 use wpds_base::{OutOfMemory, Sequence};
-use wpds_port::{Kind, ReadFault, Refusal, Text};
+use wpds_port::{Kind, ReadFault, Text};
 
 /// How many bytes a document has at most.
 const MOST_BYTES: usize = 4_194_304;
@@ -39,47 +38,45 @@ pub fn read_system(alloc: Global, bytes: &[u8]) -> Result<Document<Sequence<Text
     Ok(document(alloc, reading)?)
 }
 
-// A line is refused.
-fn refused(line: u64, kind: Kind) -> ReadFault
-    ensures { result ≡ ReadFault.Refused (refusal line kind) }
-{
-    ReadFault::Refused(Refusal { line, kind })
-}
-
 // Reads all lines.
-fn read_lines<'t>(alloc: Global, all: usize, lines: Lines<'t>) -> Result<Reading<'t>, ReadFault>
+fn read_lines<'t>(alloc: Global, all: usize, mut lines: Lines<'t>) -> Result<Reading<'t>, ReadFault>
     ensures read { IfOk result (HasRead all (map counted lines.entry.lines)) }
     ensures whole { IfOk result (λ _. missing (map counted lines.entry.lines) ≡ None) }
     ensures refused { (r : RefusalValue) → result ≡ Err (ReadFault.Refused r)
         → found_first all lines.entry.after (map counted lines.entry.lines) ≡ Some r }
 {
-    let mut left = lines;
-    let Some(first) = left.next() else {
-        return Err(refused(left.after(), Kind::Header));
-    };
-    if let Some(kind) = header_kind(first.bytes) {
-        return Err(refused(first.number, kind));
-    }
-    let Some(second) = left.next() else {
-        return Err(refused(left.after(), Kind::NothingAsked));
-    };
-    let weights = match read_weights(second.bytes) {
-        Ok(weights) => weights,
-        Err(kind) => return Err(refused(second.number, kind)),
-    };
-    let mut reading = Reading::new(alloc, weights);
-    read_body(alloc, all, &mut reading, &mut left)?;
+    let mut reading = read_first_two(alloc, &mut lines)?;
+    read_body(alloc, all, &mut reading, &mut lines)?;
     if reading.queries.is_empty() {
-        return Err(refused(left.after(), Kind::NothingAsked));
+        return Err(refused(lines.after(), Kind::NothingAsked));
     }
     Ok(reading)
 }
 
+// Reads the header and the weights line.
+fn read_first_two<'t>(alloc: Global, lines: &mut Lines<'t>) -> Result<Reading<'t>, ReadFault>
+    ensures read { IfOk result (HasFirstTwo lines.old.lines lines.new.lines) }
+    ensures refused { (all : ℕ) (r : RefusalValue) → result ≡ Err (ReadFault.Refused r)
+        → found_first all lines.old.after (map counted lines.old.lines) ≡ Some r }
+    ensures after { lines.new.after ≡ lines.old.after }
+{
+    let Some(first) = lines.next() else {
+        return Err(refused(lines.after(), Kind::Header));
+    };
+    if let Some(kind) = header_kind(first.bytes) {
+        return Err(refused(first.number, kind));
+    }
+    let Some(second) = lines.next() else {
+        return Err(refused(lines.after(), Kind::NothingAsked));
+    };
+    match read_weights(second.bytes) {
+        Ok(weights) => Ok(Reading::new(alloc, weights)),
+        Err(kind) => Err(refused(second.number, kind)),
+    }
+}
+
 // The document of a reading.
-fn document(
-    alloc: Global,
-    reading: Reading<'_>,
-) -> Result<Document<Sequence<Text>>, OutOfMemory>
+fn document(alloc: Global, reading: Reading<'_>) -> Result<Document<Sequence<Text>>, OutOfMemory>
     ensures { IfOk result (λ d. d ≡ document_now reading.entry) }
 {
     Ok(Document {

@@ -36,10 +36,10 @@ returns c =
     let end : c.loop-line.lines.lines ≡ [] = c.in_default.ensures.lines.0 in
     c.len.ensures
     ∙ ap length (
-      sym c.loop-line.invariant.each_once
-      ∙ ap once (sym (append-nil t))
-      ∙ sym (ap (λ k. once (t ++ names_in Symbols (map counted k))) end)
-      ∙ c.loop-line.invariant.whole
-      ∙ ap (λ k. once (names_in Symbols (map counted k))) c.lines_behind_second-lines.ensures
-      ∙ ap (λ k. once (names_in Symbols k)) (sym (drop-map counted 2 (counting 1 c.args.bytes.now)))
+    sym c.loop-line.invariant.each_once
+    ∙ ap once (sym (append-nil t))
+    ∙ sym (ap (λ k. once (t ++ names_in Symbols (map counted k))) end)
+    ∙ c.loop-line.invariant.whole
+    ∙ ap (λ k. once (names_in Symbols (map counted k))) c.lines_behind_second-lines.ensures
+    ∙ ap (λ k. once (names_in Symbols k)) (sym (drop-map counted 2 (counting 1 c.args.bytes.now)))
     )

@@ -1,8 +1,7 @@
 use Rattle.std.proofs.Common.{◌≡◌, ◌++◌, length, map}
 use Rattle.document_forms.specs.Forms.{Symbols}
 use Rattle.document_forms.specs.Names.{once}
-use Rattle.document_forms.specs.Above.{names_on}
-use Rattle.document_forms.specs.FirstRefusal.{counted, counted_lines, forms}
+use Rattle.document_forms.specs.FirstRefusal.{counted}
 use Rattle.document_reader.specs.Readings.{names_in}
 use Rattle.document_reader.proofs.symbols.all_symbols.Given as goal
 
