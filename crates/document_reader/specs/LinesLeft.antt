@@ -1,6 +1,6 @@
 -- What is left of a document that is read line by line.
-use Rattle.std.specs.Prelude.{◌≡◌, ◌<◌, IsTrue, ℕ, ◌+◌, List, length, filter, take, slice_index}
-use Rattle.document_forms.specs.Lines.{Line, lines, numbered, counts, has_no_feed}
+use Rattle.std.specs.Prelude.{ℕ, ◌+◌, Bool, ◌==◌, List, length, filter}
+use Rattle.document_forms.specs.Lines.{Line, lines, numbered, counts}
 
 -- the lines that count, of bytes whose first line has this number
 abbrev pub counting : ℕ → List ℕ → List Line
@@ -15,8 +15,5 @@ pub record Left : Type 0 where
 abbrev pub left : ℕ → List ℕ → Left
 left n bytes = record { lines = counting n bytes; after = length (lines bytes) + n }
 
--- The first line feed of the bytes stands at this place.
-pub record IsFirstFeed (bytes : List ℕ) (place : ℕ) : Type 0 where
-  pub within : place < length bytes
-  pub feed : slice_index bytes place ≡ 10
-  pub none : IsTrue (has_no_feed (take place bytes))
+abbrev pub is_feed : ℕ → Bool
+is_feed b = b == 10

@@ -1,4 +1,4 @@
-//! Reads the text of a pushdown system, once from front to back: its document, or its first refusal.
+//! Reads the text of a pushdown system: its document, or its first refusal.
 #![tactic(auto)]
 
 mod headers;

@@ -1,9 +1,9 @@
 //! The lines of a document that count, one after another.
 
-ghost use Rattle.std.specs.Prelude.{◌≡◌, ◌<◌, [], ◌∷◌, IsTrue, length, MatchOption};
+ghost use Rattle.std.specs.Prelude.{◌≡◌, ◌<◌, [], ◌∷◌, length, position, MatchOption};
 ghost use Rattle.wpds_port.specs.Tokens.{is_blank};
-ghost use Rattle.document_forms.specs.Lines.{lines, counts as counts_as, is_text as is_text_as, is_allowed, has_no_feed, without_return as return_off};
-ghost use Rattle.document_reader.specs.LinesLeft.{left, IsFirstFeed};
+ghost use Rattle.document_forms.specs.Lines.{lines, counts as counts_as, is_text as is_text_as, is_allowed, without_return as return_off};
+ghost use Rattle.document_reader.specs.LinesLeft.{left, is_feed};
 
 use document_forms::one_cutting_into_lines;
 use std::marker::Model;
@@ -50,7 +50,8 @@ impl<'t> Lines<'t> {
     pub(crate) fn next(&mut self) -> Option<Line<'t>>
         ensures lines { MatchOption result
             ((self.old.lines ≡ []) × (self.new.lines ≡ []))
-            (λ l. self.old.lines ≡ record { number = l.number; bytes = l.bytes.now } ∷ self.new.lines) }
+            (λ l. self.old.lines
+            ≡ record { number = l.number; bytes = l.bytes.now } ∷ self.new.lines) }
         ensures after { self.new.after ≡ self.old.after }
     {
         while !self.rest.is_empty() {
@@ -98,16 +99,9 @@ fn split_line<'t>(bytes: &'t [u8]) -> (&'t [u8], &'t [u8])
 
 // The place of the first line feed.
 fn feed_place(bytes: &[u8]) -> Option<usize>
-    ensures { MatchOption result (IsTrue (has_no_feed bytes.now)) (IsFirstFeed bytes.now) }
+    ensures { result ≡ position is_feed bytes.now }
 {
-    let mut place = 0;
-    while place < bytes.len() {
-        if bytes[place] == b'\n' {
-            return Some(place);
-        }
-        place += 1;
-    }
-    None
+    bytes.iter().position(|byte| *byte == b'\n')
 }
 
 fn without_return(piece: &[u8]) -> &[u8]

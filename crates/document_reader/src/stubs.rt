@@ -70,7 +70,8 @@ pub(crate) fn header(line: &[u8]) -> Option<Language>
 /// The weights that a weights line declares, or the kind by which the line is refused.
 pub(crate) fn weights_line(line: &[u8]) -> Result<WeightsLine, Kind>
     ensures weights { IfOk result (SaysWeights line.now) }
-    ensures kind { result_err result ≡ first_fault (by_form weights_conditions (line_form line.now)) }
+    ensures kind { result_err result
+        ≡ first_fault (by_form weights_conditions (line_form line.now)) }
 {
     Err(Kind::Form)
 }
