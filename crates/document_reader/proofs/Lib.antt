@@ -1,1 +1,9 @@
+mod DigitLemmas
+mod FirstLinesLemmas
+mod LineFormLemmas
+mod LineLemmas
+mod NameLineLemmas
 mod NumberedLemmas
+mod ReadingLemmas
+mod SymbolLemmas
+mod SystemLemmas

@@ -1,1 +1,5 @@
+pub mod Found
+pub mod LinesLeft
 pub mod NameTables
+pub mod Readings
+pub mod private
