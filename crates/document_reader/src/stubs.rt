@@ -3,6 +3,7 @@
 ghost use Rattle.std.specs.Prelude.{◌≡◌, ◌++◌, [], length, IfOk, IfNone, option_and_then};
 ghost use Rattle.std.specs.Result.{result_err};
 ghost use Rattle.wpds_base.specs.Faults.{first_fault};
+ghost use Rattle.wpds_base.specs.Lists.{IsOnce};
 ghost use Rattle.document_forms.specs.FirstRefusal.{by_form};
 ghost use Rattle.document_forms.specs.Forms.{Symbols, line_words, line_form};
 ghost use Rattle.document_forms.specs.Kinds.{weights_conditions};
@@ -29,11 +30,16 @@ impl<'t> Model for NameTable<'t> {
 
     ghost Value = { List (List ℕ) };
 
+    ghost use Rattle.wpds_base.specs.Lists.{IsOnce};
+
     ghost view = { λ t. map (λ name. name.now) t.names.items };
+
+    ghost invariant = { λ t. IsOnce (map (λ name. name.now) t.names.items) };
 }
 
 impl<'t> NameTable<'t> {
     // STUB
+    /// No names.
     pub(crate) fn new(alloc: Global) -> NameTable<'t>
         ensures { result ≡ [] }
     {
@@ -43,14 +49,16 @@ impl<'t> NameTable<'t> {
     }
 
     // STUB
+    /// How many names there are. Each stands once.
     pub(crate) fn len(&self) -> usize
-        ensures { result ≡ length self.now }
+        ensures number { result ≡ length self.now }
+        ensures once { IsOnce self.now }
     {
         self.names.len()
     }
 
     // STUB
-    /// Copies of the names, in their order.
+    /// The names as texts of their own, each copied once.
     pub(crate) fn into_names(self, alloc: Global) -> Result<Sequence<Text>, OutOfMemory>
         ensures { IfOk result (λ names. names ≡ self.entry) }
     {
