@@ -9,7 +9,7 @@ use document_forms::one_cutting_into_lines;
 use std::marker::Model;
 
 /// A line of a document with its number, from 1.
-#[derive(Clone, Copy, Debug)]
+#[derive(Clone, Copy)]
 pub(crate) struct Line<'t> {
     pub number: u64,
     /// Without the line feed, and without a carriage return at the end.
