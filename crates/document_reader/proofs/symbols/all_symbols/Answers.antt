@@ -34,7 +34,7 @@ pub returns : goal.returns
 returns c =
     let t = c.loop-line.symbols in
     let end : c.loop-line.lines.lines ≡ [] = c.in_default.ensures.lines.0 in
-    c.len.ensures.number
+    c.len.ensures
     ∙ ap length (
     sym c.loop-line.invariant.each_once
     ∙ ap once (sym (append-nil t))
