@@ -1,0 +1,4 @@
+mod FactLemmas
+mod NamesOnceLemmas
+mod NumberLemmas
+mod NumberedLemmas

@@ -1,0 +1,4 @@
+pub mod FactReads
+pub mod NameTables
+pub mod NamesOnce
+pub mod WeightReads
