@@ -1,9 +1,13 @@
 mod DigitLemmas
+mod FactLemmas
 mod FirstLinesLemmas
 mod LineFormLemmas
 mod LineLemmas
 mod NameLineLemmas
+mod NamesOnceLemmas
+mod NumberLemmas
 mod NumberedLemmas
 mod ReadingLemmas
+mod ReturnLemmas
 mod SymbolLemmas
 mod SystemLemmas

@@ -1,6 +1,7 @@
 ghost use Rattle.std.specs.Prelude.{◌≡◌, None, MatchOption};
 ghost use Rattle.wpds_port.specs.Words.{word_of};
 ghost use Rattle.document_forms.specs.Forms.{line_form, form_behind};
+ghost use Rattle.document_reader.specs.private.Returns.{is_any_name as is_any_name_of};
 ghost use Rattle.truth_tables.specs.Texts.{is_name as is_name_of};
 
 use wpds_port::{Lexeme, Words};
@@ -23,4 +24,11 @@ pub(crate) fn line_front<'t>(line: &'t [u8]) -> Option<(Lexeme<'t>, Words<'t>)>
 {
     let words = Words::of(line)?;
     words.split_first()
+}
+
+/// Whether the word is some name.
+pub(crate) fn is_any_name(lexeme: Lexeme) -> bool
+    ensures { result ≡ is_any_name_of (word_of lexeme.entry) }
+{
+    matches!(lexeme, Lexeme::Name(_))
 }

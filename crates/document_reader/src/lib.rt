@@ -8,9 +8,11 @@ mod lines;
 mod name_lines;
 mod names;
 mod reading;
+mod returns;
 mod stubs;
 mod symbols;
 mod system;
+mod weights;
 mod weights_lines;
 
 pub use headers::language;
