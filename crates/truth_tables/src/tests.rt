@@ -159,28 +159,39 @@ fn texts_are_refused(rt: HostRuntime) -> Result<(), Fail> {
     Ok(())
 }
 
+// What reading the words before a word outside brackets answers, and reading those behind it.
+fn answers_around(alloc: Global, text: &[u8], at: Lexeme) -> Result<String, OutOfMemory> {
+    let Some(words) = Words::of(text) else {
+        return Ok(String::from_str(alloc, "no words")?);
+    };
+    let (before, behind) = words.split_outside(at);
+    let before = answer_on(alloc, &before, 64)?;
+    let Some(behind) = behind else {
+        return Ok(before);
+    };
+    let behind = answer_on(alloc, &behind, 64)?;
+    Ok(format!(in alloc; "{before} and {behind}")?)
+}
+
 #[test]
 fn expressions_are_cut_out(rt: HostRuntime) -> Result<(), Fail> {
     let alloc = rt.alloc();
-    for (text, at, front, behind) in [
-        ("a, b", Lexeme::Mark(Mark::Comma), "a", "b"),
-        ("a; b", Lexeme::Mark(Mark::Semicolon), "a", "b"),
-        ("a -> b", Lexeme::Mark(Mark::Arrow), "a", "b"),
-        ("a) b", Lexeme::Mark(Mark::Close), "a", "b"),
-        ("a return b", Lexeme::Name(b"return"), "a", "b"),
-        ("(a)) b", Lexeme::Mark(Mark::Close), "a", "b"),
-        ("tab2 6 (a, b), c", Lexeme::Mark(Mark::Comma), "6(a,b)", "c"),
-        ("x := a & b", Lexeme::Mark(Mark::Becomes), "x", "8(a,b)"),
-        ("a,", Lexeme::Mark(Mark::Comma), "a", "form"),
+    for (text, at, want) in [
+        ("a, b", Lexeme::Mark(Mark::Comma), "a and b"),
+        ("a; b", Lexeme::Mark(Mark::Semicolon), "a and b"),
+        ("a -> b", Lexeme::Mark(Mark::Arrow), "a and b"),
+        ("a) b", Lexeme::Mark(Mark::Close), "a and b"),
+        ("a return b", Lexeme::Name(b"return"), "a and b"),
+        ("(a)) b", Lexeme::Mark(Mark::Close), "a and b"),
+        ("tab2 6 (a, b), c", Lexeme::Mark(Mark::Comma), "6(a,b) and c"),
+        ("x := a & b", Lexeme::Mark(Mark::Becomes), "x and 8(a,b)"),
+        ("a,", Lexeme::Mark(Mark::Comma), "a and form"),
     ] {
-        let Some(words) = Words::of(text.as_bytes()) else {
-            return Err(fail!(rt));
-        };
-        let (before, Some(after)) = words.split_outside(at) else {
-            return Err(fail!(rt));
-        };
-        assert_eq!(rt; answer_on(alloc, &before, 64)?.as_str(), front, "{text}");
-        assert_eq!(rt; answer_on(alloc, &after, 64)?.as_str(), behind, "{text}");
+        assert_eq!(rt;
+            answers_around(alloc, text.as_bytes(), at)?.as_str(),
+            want,
+            "{text}"
+        );
     }
     Ok(())
 }
@@ -188,13 +199,18 @@ fn expressions_are_cut_out(rt: HostRuntime) -> Result<(), Fail> {
 // The variables among the words of a text, each behind a blank.
 fn variables(alloc: Global, text: &[u8]) -> Result<String, OutOfMemory> {
     let mut names = String::new(alloc);
-    let mut left = Words::of(text);
-    while let Some((lexeme, rest)) = left.and_then(|words| words.split_first()) {
+    let Some(mut left) = Words::of(text) else {
+        return Ok(names);
+    };
+    for _ in 0..text.len() {
+        let Some((lexeme, rest)) = left.split_first() else {
+            return Ok(names);
+        };
         if is_variable(lexeme) {
             let name = String::from_utf8_lossy(alloc, lexeme.text())?;
             names = format!(in alloc; "{names} {name}")?;
         }
-        left = Some(rest);
+        left = rest;
     }
     Ok(names)
 }
