@@ -1,15 +1,14 @@
 -- The numbers of names are below their count.
-use Rattle.std.proofs.Common.{◌≡◌, ◌≢◌, inl, inr, ℕ, suc, ◌+◌, ◌^◌, ◌<◌, ◌≤◌, Bool, true, false, not, cond, ◌&&◌, ◌||◌, List, [], ◌∷◌, ◌++◌, map, length, Option, Some, None, refl, sym, ap, ◌∙◌, subst, arith, lt_of_lt_of_le}
-use Rattle.std.specs.Prelude.{All, bytes_eq, flat_map, nat_lt, nat_le, unwrap_or, option_map, fold, bit_or}
-use Rattle.std.specs.List.{list_any}
-use Rattle.std.proofs.lemmas.Bool.{or_parts, or_from, and_parts, and_from, ltb-true, lt-ltb, ltb-false, leb-true}
-use Rattle.std.proofs.lemmas.List.Elements.{All-nil, All-cons, All-head, All-tail, All-append, All-weaker}
-use Rattle.truth_tables.specs.Formulas.{Formula, Constant as Const, Variable as Var, Opposite, Binary, Ternary, is_over}
-use Rattle.truth_tables.specs.Grammar.{Tree, Constant, Variable, Bracket, Inverse, Two, Table2, Table3, tree_variables, table_of, number_of, has_large_table, formula_of}
+use Rattle.std.proofs.Common.{◌≡◌, ℕ, ◌+◌, ◌<◌, Bool, true, false, not, cond, ◌&&◌, ◌||◌, List, [], ◌∷◌, ◌++◌, map, length, refl, arith}
+use Rattle.std.specs.Prelude.{bytes_eq, nat_lt}
+use Rattle.std.proofs.lemmas.Bool.{or_parts, or_from, lt-ltb, ltb-false}
+use Rattle.std.proofs.lemmas.List.Elements.{All-nil, All-cons}
+use Rattle.truth_tables.specs.Formulas.{is_over}
+use Rattle.truth_tables.specs.Grammar.{Tree, Constant, Variable, Bracket, Inverse, Two, Table2, Table3, tree_variables, table_of, number_of, has_large_table}
 use Rattle.truth_tables.specs.declared.Operator.{Operator}
 use Rattle.truth_tables.specs.declared.Operator.TheVariants.{Then as ThenOperator, Same as SameOperator, Other as OtherOperator, Or as OrOperator, Xor as XorOperator, And as AndOperator}
 use Rattle.document_forms.specs.Names.{is_among, has_unknown, number_in}
-use Rattle.document_forms.specs.Documents.{over_numbers, expression_value}
+use Rattle.document_forms.specs.Documents.{expression_value}
 use Rattle.document_forms.specs.Lawful.{AreBelow}
 
 pub number_below : (names : List (List ℕ)) (x : List ℕ) → is_among names x ≡ true → number_in names x < length names

@@ -183,7 +183,11 @@ fn expressions_are_cut_out(rt: HostRuntime) -> Result<(), Fail> {
         ("a) b", Lexeme::Mark(Mark::Close), "a and b"),
         ("a return b", Lexeme::Name(b"return"), "a and b"),
         ("(a)) b", Lexeme::Mark(Mark::Close), "a and b"),
-        ("tab2 6 (a, b), c", Lexeme::Mark(Mark::Comma), "6(a,b) and c"),
+        (
+            "tab2 6 (a, b), c",
+            Lexeme::Mark(Mark::Comma),
+            "6(a,b) and c",
+        ),
         ("x := a & b", Lexeme::Mark(Mark::Becomes), "x and 8(a,b)"),
         ("a,", Lexeme::Mark(Mark::Comma), "a and form"),
     ] {
