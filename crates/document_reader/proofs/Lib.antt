@@ -1,1 +1,5 @@
+mod EdgeLemmas
+mod ItemsLeftLemmas
 mod NumberedLemmas
+mod PatternLemmas
+mod SymbolLemmas

@@ -1,1 +1,3 @@
+pub mod ItemReading
 pub mod NameTables
+pub mod QueryReading
