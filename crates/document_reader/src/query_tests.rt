@@ -52,6 +52,16 @@ fn faults(alloc: Global, all: usize, text: &[u8]) -> Result<Option<QueryFaults>,
     Ok(query(alloc, all, text)?.map(|read| read.faults))
 }
 
+// Whether this is amiss with the query on each of the lines; of none, that it has no form.
+fn each_is(alloc: Global, lines: &[u8], answer: Option<QueryFaults>) -> Result<bool, OutOfMemory> {
+    for line in lines.split(|byte| *byte == b'\n') {
+        if faults(alloc, 3, line)? != answer {
+            return Ok(false);
+        }
+    }
+    Ok(true)
+}
+
 // Items as they are written, one after another, between `p :` and `=> q :`.
 fn many_items(alloc: Global, item: &[u8], count: u32) -> Result<Vec<u8>, OutOfMemory> {
     let mut text = b"p :".to_vec(alloc)?;
@@ -113,107 +123,92 @@ fn each_side_has_its_own_items(rt: HostRuntime) -> Result<(), OutOfMemory> {
 
 #[test]
 fn what_has_no_form(rt: HostRuntime) -> Result<(), OutOfMemory> {
-    for text in [
-        b"p : => q : { }".as_slice(),
-        b"p : => q : { } *",
-        b"p : a * * => q :",
-        b"p : * a => q :",
-        b"p : { a => q :",
-        b"p : a } => q :",
-        b"p : { * } => q :",
-        b"p : { a . } => q :",
-        b"p : { { a } } => q :",
-        b"p : a , b => q :",
-        b"p : 7 => q :",
-        b"p : p : => q :",
-        b"p => q :",
-        b": a => q :",
-        b"p : a q : b",
-        b"p : => q : => q :",
-        b"p : =>",
-        b"",
-    ] {
-        assert_eq!(rt; faults(rt.alloc(), 3, text)?, None);
-    }
+    let lines = b"p : => q : { }
+p : => q : { } *
+p : a * * => q :
+p : * a => q :
+p : { a => q :
+p : a } => q :
+p : { * } => q :
+p : { a . } => q :
+p : { { a } } => q :
+p : a , b => q :
+p : 7 => q :
+p : p : => q :
+p => q :
+: a => q :
+p : a q : b
+p : => q : => q :
+p : =>
+";
+    assert!(rt; each_is(rt.alloc(), lines, None)?);
     Ok(())
 }
 
 #[test]
 fn a_symbol_twice_in_a_set(rt: HostRuntime) -> Result<(), OutOfMemory> {
-    for text in [
-        b"p : { a b a } => q :".as_slice(),
-        b"p : => q : a { c c } *",
-        b"p : { a b c b } { a } => q : a",
-    ] {
-        assert_eq!(rt; faults(rt.alloc(), 3, text)?, Some(TWICE));
-    }
+    let lines = b"p : { a b a } => q :
+p : => q : a { c c } *
+p : { a b c b } { a } => q : a";
+    assert!(rt; each_is(rt.alloc(), lines, Some(TWICE))?);
     // In two sets it may stand once in each.
-    assert_eq!(rt;
-        faults(rt.alloc(), 3, b"p : a { a b } => q : { b a } a")?,
-        Some(FINE)
-    );
+    let lines = b"p : a { a b } => q : { b a } a";
+    assert!(rt; each_is(rt.alloc(), lines, Some(FINE))?);
     Ok(())
 }
 
 #[test]
 fn names_that_are_not_declared(rt: HostRuntime) -> Result<(), OutOfMemory> {
-    for text in [
-        b"r : => q :".as_slice(),
-        b"p : => r :",
-        b"a : => q :",
-        b"p : d => q :",
-        b"p : => q : { a d }",
-        b"p : { d } { d } => q : d",
-    ] {
-        assert_eq!(rt; faults(rt.alloc(), 3, text)?, Some(UNKNOWN));
-    }
+    let lines = b"r : => q :
+p : => r :
+a : => q :
+p : d => q :
+p : => q : { a d }
+p : { d } { d } => q : d";
+    assert!(rt; each_is(rt.alloc(), lines, Some(UNKNOWN))?);
     // One that stands twice in a set is both.
     let both = QueryFaults {
         twice: true,
         unknown: true,
         count: false,
     };
-    assert_eq!(rt; faults(rt.alloc(), 3, b"p : { d a d } => q :")?, Some(both));
+    assert!(rt; each_is(rt.alloc(), b"p : { d a d } => q :", Some(both))?);
     Ok(())
 }
 
 #[test]
 fn as_many_items_as_there_may_be(rt: HostRuntime) -> Result<(), OutOfMemory> {
     let most = many_items(rt.alloc(), b" a", 1_000)?;
-    let read = query(rt.alloc(), 3, &most)?.expect(&rt, "a query");
-    assert_eq!(rt; read.faults, FINE);
-    assert_eq!(rt; read.query.from.items.len(), 1_000);
+    assert!(rt; each_is(rt.alloc(), &most, Some(FINE))?);
     let more = many_items(rt.alloc(), b" a", 1_001)?;
-    assert_eq!(rt; faults(rt.alloc(), 3, &more)?, Some(TOO_LARGE));
+    assert!(rt; each_is(rt.alloc(), &more, Some(TOO_LARGE))?);
     // What stands behind them is read all the same.
     let broken = many_items(rt.alloc(), b" a* *", 1_001)?;
-    assert_eq!(rt; faults(rt.alloc(), 3, &broken)?, None);
-    let twice = QueryFaults {
+    assert!(rt; each_is(rt.alloc(), &broken, None)?);
+    let both = QueryFaults {
         twice: true,
         unknown: false,
         count: true,
     };
     let repeated = many_items(rt.alloc(), b" {a a}", 1_001)?;
-    assert_eq!(rt; faults(rt.alloc(), 3, &repeated)?, Some(twice));
+    assert!(rt; each_is(rt.alloc(), &repeated, Some(both))?);
     Ok(())
+}
+
+// Whether a query is too large where the document declares one symbol more than this, and fine
+// where it declares so many.
+fn turns_large(alloc: Global, text: &[u8], all: usize) -> Result<bool, OutOfMemory> {
+    let fine = faults(alloc, all, text)? == Some(FINE);
+    Ok(fine && faults(alloc, all.saturating_add(1), text)? == Some(TOO_LARGE))
 }
 
 #[test]
 fn as_many_edges_as_there_may_be(rt: HostRuntime) -> Result<(), OutOfMemory> {
-    // How many symbols the document declares, and whether the pattern is then too large.
-    for (text, all, answer) in [
-        (b"p : . => q :".as_slice(), 1_000_000, FINE),
-        (b"p : . => q :", 1_000_001, TOO_LARGE),
-        (b"p : . a => q :", 999_999, FINE),
-        (b"p : . a => q :", 1_000_000, TOO_LARGE),
-        (b"p : a* . => q :", 499_999, FINE),
-        (b"p : a* . => q :", 500_000, TOO_LARGE),
-        (b"p : => q : .* b .", 333_333, TOO_LARGE),
-        (b"p : => q : .* b .", 333_332, FINE),
-        (b"p : .* .* => q :", usize::MAX, TOO_LARGE),
-        (b"p : a* { a b c } => q : b", usize::MAX, FINE),
-    ] {
-        assert_eq!(rt; faults(rt.alloc(), all, text)?, Some(answer));
-    }
+    assert!(rt; turns_large(rt.alloc(), b"p : . => q :", 1_000_000)?);
+    assert!(rt; turns_large(rt.alloc(), b"p : . a => q :", 999_999)?);
+    assert!(rt; turns_large(rt.alloc(), b"p : a* . => q :", 499_999)?);
+    assert!(rt; turns_large(rt.alloc(), b"p : => q : .* b .", 333_332)?);
+    let far = faults(rt.alloc(), usize::MAX, b"p : .* .* => q :")?;
+    assert!(rt; far == Some(TOO_LARGE));
     Ok(())
 }
