@@ -1,8 +1,7 @@
 -- The items of words, read from the left: what they are where an item stands in front, and that
 -- there are none where none does.
-use Rattle.std.proofs.Common.{◌≡◌, ℕ, ◌+◌, ◌<◌, Bool, true, false, List, [], ◌∷◌, ◌++◌, length, map, Option, Some, None, refl, ap, ◌∙◌, append_assoc, inl, inr, length-append, arith}
+use Rattle.std.proofs.Common.{◌≡◌, ℕ, ◌+◌, ◌<◌, Bool, true, false, List, [], ◌∷◌, ◌++◌, length, map, Option, Some, None, refl, ap, ◌∙◌, append_assoc, length-append, arith}
 use Rattle.std.specs.Prelude.{option_map}
-use Rattle.std.proofs.lemmas.Bool.{cases_Bool}
 use Rattle.wpds_port.specs.declared.Mark.TheVariants.{Dot, Star, OpenBrace, CloseBrace}
 use Rattle.wpds_port.specs.declared.Word.{Word}
 use Rattle.wpds_port.specs.declared.Word.TheVariants.{Name, Mark as Sign}
@@ -64,29 +63,7 @@ not_in_braces [] (w ∷ ws) h g = go (items_reading ws)
     go None = refl
     go (Some r) = step_in_braces w ws r h g
 
--- ---- where no item begins
-
-abbrev pub begins_set : Word → Bool
-begins_set (Sign Dot) = true
-begins_set (Sign OpenBrace) = true
-begins_set (Name x) = true
-begins_set _ = false
-
-step_none : (w : Word) (r : ItemsReading) → begins_set w ≡ false → (item_before w r >>= items_in) ≡ None
-step_none (Sign Star) (Items is) h = refl
-step_none (Sign Dot) r h = cc
-step_none (Name x) r h = cc
-step_none (Sign OpenBrace) r h = cc
-step_none (Sign CloseBrace) (Items is) h = refl
-step_none (Sign CloseBrace) (Starred is) h = refl
-step_none _ _ h = refl
-
-pub no_item_begins : (w : Word) (ws : List Word) → begins_set w ≡ false → items_of (w ∷ ws) ≡ None
-no_item_begins w ws h = go (items_reading ws)
-  where
-    go : (o : Option ItemsReading) → ((o >>= item_before w) >>= items_in) ≡ None
-    go None = refl
-    go (Some r) = step_none w r h
+-- ---- where braces stay open
 
 open_none : (o : Option ItemsReading) → is_in_braces o ≡ false → ((o >>= item_before (Sign OpenBrace)) >>= items_in) ≡ None
 open_none None h = refl
@@ -97,24 +74,6 @@ open_none (Some (InBraces xs star is)) h = cc
 -- braces that don't end behind their names
 pub braces_left_open : (xs : List (List ℕ)) (ws : List Word) → begins_with_name ws ≡ false → begins_with_close ws ≡ false → items_of (Sign OpenBrace ∷ (map Name xs ++ ws)) ≡ None
 braces_left_open xs ws h g = open_none (items_reading (map Name xs ++ ws)) (not_in_braces xs ws h g)
-
-empty_none : (o : Option ItemsReading) → (((o >>= item_before (Sign CloseBrace)) >>= item_before (Sign OpenBrace)) >>= items_in) ≡ None
-empty_none None = refl
-empty_none (Some (Items is)) = refl
-empty_none (Some (Starred is)) = refl
-empty_none (Some (InBraces xs star is)) = refl
-
--- braces with no name in front
-pub braces_with_no_name : (ws : List Word) → begins_with_name ws ≡ false → items_of (Sign OpenBrace ∷ ws) ≡ None
-braces_with_no_name [] h = refl
-braces_with_no_name (w ∷ ws) h = elim (cases_Bool (begins_with_close (w ∷ ws))) [
-  | inl e ↦ closed w e
-  | inr e ↦ braces_left_open [] (w ∷ ws) h e
-]
-  where
-    closed : (v : Word) → begins_with_close (v ∷ ws) ≡ true → items_of (Sign OpenBrace ∷ v ∷ ws) ≡ None
-    closed (Sign CloseBrace) e = empty_none (items_reading ws)
-    closed _ e = cc
 
 -- ---- where an item stands in front
 

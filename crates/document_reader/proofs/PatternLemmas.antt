@@ -22,7 +22,7 @@ use Rattle.document_reader.specs.declared.queries.QueryRead.{QueryRead}
 use Rattle.document_reader.specs.ItemReading.{HasItem, AreItemsRead, HasItems}
 use Rattle.document_reader.specs.NameTables.{number_among}
 use Rattle.document_reader.specs.QueryReading.{is_amiss, IsPatternRead, IsQueryFrom}
-use Rattle.document_reader.proofs.SymbolLemmas.{unknown_push, known_number}
+use Rattle.document_reader.proofs.SymbolLemmas.{regroup, unknown_push, known_number}
 
 -- ---- items
 
@@ -43,9 +43,6 @@ items_ahead symbols ws left r q i h g read = record {
     go : (o : Option (List ItemForm)) → option_map (λ is. h.items ++ is) (option_map (λ is. g.item ∷ is) o) ≡ option_map (λ is. (h.items ++ g.item ∷ []) ++ is) o
     go None = refl
     go (Some is) = ap Some (sym (append_assoc h.items (g.item ∷ []) is))
-
-pub no_item_ahead : (symbols : List (List ℕ)) (ws left : List Word) (r : ItemsRead) (h : HasItems symbols ws r left) → items_of left ≡ None → items_of ws ≡ None
-no_item_ahead symbols ws left r h e = h.ahead ∙ ap (option_map (λ is. h.items ++ is)) e
 
 -- ---- a pattern
 
@@ -128,16 +125,6 @@ behind_same (w ∷ ws) = rw (implies_same w, behind_same ws) refl
 pub query_found : (ws front back : List Word) (p q : PatternForm) → front ≡ before (same_word (Sign Implies)) ws → Some back ≡ behind (same_word (Sign Implies)) ws → pattern_of front ≡ Some p → pattern_of back ≡ Some q → query_of ws ≡ Some (OfQuery p q)
 query_found ws front back p q f b hp hq = rw (sym (before_same ws), sym (behind_same ws), sym f, sym b, hp, hq) refl
 
-pub no_query_uncut : (ws : List Word) → None ≡ behind (same_word (Sign Implies)) ws → query_of ws ≡ None
-no_query_uncut ws b = go (pattern_of (before is_implies ws)) (sym (behind_same ws) ∙ sym b)
-  where
-    go : (o : Option PatternForm) → behind is_implies ws ≡ None → (o >>= (λ p. behind is_implies ws >>= (λ text. pattern_of text >>= (λ q. Some (OfQuery p q))))) ≡ None
-    go None e = refl
-    go (Some p) e = rw e refl
-
-pub no_query_from : (ws front : List Word) → front ≡ before (same_word (Sign Implies)) ws → pattern_of front ≡ None → query_of ws ≡ None
-no_query_from ws front f h = rw (sym (before_same ws), sym f, h) refl
-
 pub no_query_to : (ws back : List Word) → Some back ≡ behind (same_word (Sign Implies)) ws → pattern_of back ≡ None → query_of ws ≡ None
 no_query_to ws back b h = go (pattern_of (before is_implies ws)) (sym (behind_same ws) ∙ sym b)
   where
@@ -146,13 +133,6 @@ no_query_to ws back b h = go (pattern_of (before is_implies ws)) (sym (behind_sa
     go (Some p) e = rw (e, h) refl
 
 -- unknown controls and symbols of both
-regroup : (a b c d : Bool) → ((a || b) || (c || d)) ≡ ((a || c) || (b || d))
-regroup true b c d = refl
-regroup false true true d = refl
-regroup false true false d = refl
-regroup false false true d = refl
-regroup false false false d = refl
-
 either_unknown : (controls symbols : List (List ℕ)) (x y : List ℕ) (xs ys : List (List ℕ)) → ((has_unknown controls (x ∷ []) || has_unknown symbols xs) || (has_unknown controls (y ∷ []) || has_unknown symbols ys)) ≡ (has_unknown controls (x ∷ y ∷ []) || has_unknown symbols (xs ++ ys))
 either_unknown controls symbols x y xs ys =
     regroup (has_unknown controls (x ∷ [])) (has_unknown symbols xs) (has_unknown controls (y ∷ [])) (has_unknown symbols ys)

@@ -16,17 +16,14 @@ use Rattle.document_forms.specs.declared.pattern.SetText.TheVariants.{Listed}
 use Rattle.document_reader.specs.declared.items.SetRead.{SetRead}
 use Rattle.document_reader.specs.declared.items.ItemRead.{ItemRead}
 use Rattle.document_reader.specs.ItemReading.{begins_with_name, begins_with_close, begins_with_star, AreSymbolsRead, HasSymbols, IsSetRead, HasSet, HasItem}
-use Rattle.document_reader.proofs.ItemsLeftLemmas.{braces_left_open, braces_with_no_name, item_in_front, item_is_longer}
+use Rattle.document_reader.proofs.NumberedLemmas.{is_among-push}
+use Rattle.document_reader.proofs.ItemsLeftLemmas.{braces_left_open, item_in_front, item_is_longer}
 use Rattle.document_reader.specs.NameTables.{number_among}
 
 bytes_eq-sym : (x y : List ℕ) → bytes_eq x y ≡ bytes_eq y x
 bytes_eq-sym x y = same_from_decides (bytes_eq x y) (bytes_eq y x) (bytes_eq-Decides x y) (Decides-like (bytes_eq y x) sym sym (bytes_eq-Decides y x))
 
-among_push : (xs : List (List ℕ)) (x y : List ℕ) → is_among (xs ++ x ∷ []) y ≡ (is_among xs y || bytes_eq y x)
-among_push [] x y = grind arith
-among_push (z ∷ zs) x y = grind (arith, among_push zs x y)
-
-regroup : (a b c d : Bool) → ((a || b) || (c || d)) ≡ ((a || c) || (b || d))
+pub regroup : (a b c d : Bool) → ((a || b) || (c || d)) ≡ ((a || c) || (b || d))
 regroup true b c d = refl
 regroup false true true d = refl
 regroup false true false d = refl
@@ -35,7 +32,7 @@ regroup false false false d = refl
 
 twice_push : (xs : List (List ℕ)) (x : List ℕ) → has_twice (xs ++ x ∷ []) ≡ (has_twice xs || is_among xs x)
 twice_push [] x = refl
-twice_push (y ∷ ys) x = rw (among_push ys x y, twice_push ys x, bytes_eq-sym y x) (regroup (is_among ys y) (bytes_eq x y) (has_twice ys) (is_among ys x))
+twice_push (y ∷ ys) x = rw (is_among-push ys x y, twice_push ys x, bytes_eq-sym y x) (regroup (is_among ys y) (bytes_eq x y) (has_twice ys) (is_among ys x))
 
 or_false : (b : Bool) → (b || false) ≡ b
 or_false true = refl
@@ -66,7 +63,7 @@ known_number known x d = go (is_among known x)
     go false h = cc
 
 seen_push : (seen xs : List (List ℕ)) (x y : List ℕ) → ((z : List ℕ) → is_among seen z ≡ is_among xs z) → is_among (if not (is_among seen x) then seen ++ x ∷ [] else seen) y ≡ is_among (xs ++ x ∷ []) y
-seen_push seen xs x y h = go (is_among seen x) refl ∙ (ap (λ b. b || bytes_eq y x) (h y) ∙ sym (among_push xs x y))
+seen_push seen xs x y h = go (is_among seen x) refl ∙ (ap (λ b. b || bytes_eq y x) (h y) ∙ sym (is_among-push xs x y))
   where
     there : (t : Bool) → bytes_eq y x ≡ t → is_among seen x ≡ true → is_among seen y ≡ (is_among seen y || t)
     there true e g = let same : y ≡ x = (bytes_eq-Decides y x).0 e in let k : is_among seen y ≡ true = subst (λ z. is_among seen z ≡ true) (sym same) g in rw k refl
@@ -74,7 +71,7 @@ seen_push seen xs x y h = go (is_among seen x) refl ∙ (ap (λ b. b || bytes_eq
 
     go : (b : Bool) → is_among seen x ≡ b → is_among (if not b then seen ++ x ∷ [] else seen) y ≡ (is_among seen y || bytes_eq y x)
     go true g = there (bytes_eq y x) refl g
-    go false g = among_push seen x y
+    go false g = is_among-push seen x y
 
 -- one symbol more
 pub symbols_more : (symbols xs : List (List ℕ)) (x : List ℕ) (r q : SymbolsRead) (number : Option ℕ) (added : Bool) → AreSymbolsRead symbols xs r → number ≡ number_among symbols x → added ≡ not (is_among r.seen x) → q.numbers.items ≡ r.numbers.items ++ unwrap_or number 0 ∷ [] → q.seen ≡ (if added then r.seen ++ x ∷ [] else r.seen) → q.twice ≡ (r.twice || not added) → q.unknown ≡ (r.unknown || is_none number) → AreSymbolsRead symbols (xs ++ x ∷ []) q
@@ -96,15 +93,7 @@ symbols_ahead symbols ws left rest x r q h e read = record {
   read = read;
 }
 
--- where no name stands in front there is no set in braces
-pub no_braces : (symbols : List (List ℕ)) (ws left : List Word) (r : SymbolsRead) (h : HasSymbols symbols ws r left) → begins_with_name left ≡ false → length r.numbers.items ≡ 0 → items_of (Sign OpenBrace ∷ ws) ≡ None
-no_braces symbols ws left r h g e = go h.names h.front (sym h.read.count ∙ e)
-  where
-    go : (xs : List (List ℕ)) → ws ≡ map Name xs ++ left → length xs ≡ 0 → items_of (Sign OpenBrace ∷ ws) ≡ None
-    go [] f z = ap (λ vs. items_of (Sign OpenBrace ∷ vs)) f ∙ braces_with_no_name left g
-    go (x ∷ xs) f z = absurd (omega (arith, z))
-
--- nor where no brace closes them
+-- no items begin with braces that stay open
 pub open_braces : (symbols : List (List ℕ)) (ws left : List Word) (r : SymbolsRead) (h : HasSymbols symbols ws r left) → begins_with_name left ≡ false → begins_with_close left ≡ false → items_of (Sign OpenBrace ∷ ws) ≡ None
 open_braces symbols ws left r h g e = ap (λ vs. items_of (Sign OpenBrace ∷ vs)) h.front ∙ braces_left_open h.names left g e
 

@@ -41,7 +41,8 @@ pub record AreSymbolsRead (symbols xs : List (List ℕ)) (r : SymbolsRead) : Typ
   pub numbers : r.unknown ≡ false → r.numbers.items ≡ map (number_in symbols) xs
 
 -- Words begin with names, which are read, and these come behind them.
-pub record HasSymbols (symbols : List (List ℕ)) (ws : List Word) (r : SymbolsRead) (rest : List Word) : Type 0 where
+pub record HasSymbols
+    (symbols : List (List ℕ)) (ws : List Word) (r : SymbolsRead) (rest : List Word) : Type 0 where
   pub names : List (List ℕ)
   pub front : ws ≡ map Name names ++ rest
   pub read : AreSymbolsRead symbols names r
@@ -54,7 +55,8 @@ pub record IsSetRead (symbols : List (List ℕ)) (s : SetForm) (r : SetRead) : T
   pub value : r.unknown ≡ false → r.set ≡ set_value symbols s
 
 -- Words begin with a set, which is read, and these come behind it.
-pub record HasSet (symbols : List (List ℕ)) (ws : List Word) (r : SetRead) (rest : List Word) : Type 0 where
+pub record HasSet
+    (symbols : List (List ℕ)) (ws : List Word) (r : SetRead) (rest : List Word) : Type 0 where
   pub set : SetForm
   pub lawful : is_set set ≡ true
   pub front : ws ≡ set_words set ++ rest
@@ -70,16 +72,19 @@ pub record HasItem (symbols : List (List ℕ)) (ws : List Word) (r : ItemRead) :
 
 -- Items are read: whether they are too many, and what is amiss with their symbols; if they are not
 -- too many also their sizes, and their values if their symbols are known.
-pub record AreItemsRead (symbols : List (List ℕ)) (is : List ItemForm) (r : ItemsRead) : Type 0 where
+pub record AreItemsRead
+    (symbols : List (List ℕ)) (is : List ItemForm) (r : ItemsRead) : Type 0 where
   pub kept : length r.items.items ≡ min (length is) most_items
   pub long : r.long ≡ nat_lt most_items (length is)
-  pub counts : r.long ≡ false → (all : ℕ) → map (item_count all) r.items.items ≡ map (item_size all) is
+  pub counts : r.long ≡ false
+      → (all : ℕ) → map (item_count all) r.items.items ≡ map (item_size all) is
   pub twice : r.twice ≡ list_any (λ i. has_twice (set_names i.set)) is
   pub unknown : r.unknown ≡ has_unknown symbols (flat_map (λ i. set_names i.set) is)
   pub value : r.long ≡ false → r.unknown ≡ false → r.items.items ≡ map (item_value symbols) is
 
 -- Words begin with items, which are read: their items are these and those of the words behind.
-pub record HasItems (symbols : List (List ℕ)) (ws : List Word) (r : ItemsRead) (rest : List Word) : Type 0 where
+pub record HasItems
+    (symbols : List (List ℕ)) (ws : List Word) (r : ItemsRead) (rest : List Word) : Type 0 where
   pub items : List ItemForm
   pub ahead : items_of ws ≡ option_map (λ is. items ++ is) (items_of rest)
   pub read : AreItemsRead symbols items r

@@ -17,7 +17,8 @@ is_amiss f = f.twice || f.unknown || f.count
 -- ---- patterns
 
 -- What is read is this pattern: what is amiss with it, and its value where nothing is.
-pub record IsPatternRead (all : ℕ) (controls symbols : List (List ℕ)) (p : PatternForm) (r : PatternRead) : Type 0 where
+pub record IsPatternRead
+    (all : ℕ) (controls symbols : List (List ℕ)) (p : PatternForm) (r : PatternRead) : Type 0 where
   pub twice : r.faults.twice ≡ has_symbol_twice p
   pub unknown : r.faults.unknown
       ≡ (has_unknown controls (p.control ∷ []) || has_unknown symbols (pattern_symbols p))
@@ -25,7 +26,8 @@ pub record IsPatternRead (all : ℕ) (controls symbols : List (List ℕ)) (p : P
   pub value : is_amiss r.faults ≡ false → r.pattern ≡ pattern_value controls symbols p
 
 -- Words are read as a pattern, exactly where they are one.
-abbrev pub IsPatternOf : ℕ → (controls symbols : List (List ℕ)) → List Word → Option PatternRead → Type 0
+abbrev pub IsPatternOf :
+    ℕ → (controls symbols : List (List ℕ)) → List Word → Option PatternRead → Type 0
 IsPatternOf all controls symbols ws result = MatchOption result (pattern_of ws ≡ None)
     (λ r. (p : PatternForm) × (pattern_of ws ≡ Some p) × IsPatternRead all controls symbols p r)
 
@@ -33,7 +35,8 @@ IsPatternOf all controls symbols ws result = MatchOption result (pattern_of ws �
 
 -- What is read is the query from one pattern to another: what is amiss with it, and its value where
 -- nothing is.
-pub record IsQueryFrom (all : ℕ) (controls symbols : List (List ℕ)) (p q : PatternForm) (r : QueryRead) : Type 0 where
+pub record IsQueryFrom
+    (all : ℕ) (controls symbols : List (List ℕ)) (p q : PatternForm) (r : QueryRead) : Type 0 where
   pub twice : r.faults.twice ≡ (has_symbol_twice p || has_symbol_twice q)
   pub unknown : r.faults.unknown
       ≡ (
@@ -45,7 +48,8 @@ pub record IsQueryFrom (all : ℕ) (controls symbols : List (List ℕ)) (p q : P
   pub to : is_amiss r.faults ≡ false → r.query.to ≡ pattern_value controls symbols q
 
 -- Words are read as a query, exactly where they are one.
-abbrev pub IsQueryRead : ℕ → (controls symbols : List (List ℕ)) → List Word → Option QueryRead → Type 0
+abbrev pub IsQueryRead :
+    ℕ → (controls symbols : List (List ℕ)) → List Word → Option QueryRead → Type 0
 IsQueryRead all controls symbols ws result = MatchOption result (query_of ws ≡ None)
     (λ r. (p q : PatternForm) × (query_of ws ≡ Some (OfQuery p q))
     × IsQueryFrom all controls symbols p q r)

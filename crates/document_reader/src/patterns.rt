@@ -15,6 +15,7 @@ use std::alloc::Global;
 use wpds_base::{OutOfMemory, Sequence};
 use wpds_port::{Lexeme, Mark, Words};
 
+// the most items of a pattern, and the most edges of its automaton
 const MOST_ITEMS: usize = 1_000;
 
 const MOST_EDGES: usize = 1_000_000;
@@ -22,11 +23,11 @@ const MOST_EDGES: usize = 1_000_000;
 /// What is amiss with a query that has its form, or with one of its patterns.
 #[derive(Clone, Copy, Debug, PartialEq, Eq)]
 pub(crate) struct QueryFaults {
-    /// A symbol stands twice in a set.
+    /// Whether a symbol stands twice in a set.
     pub(crate) twice: bool,
-    /// A control or a symbol is not declared above.
+    /// Whether a control or a symbol is not declared above.
     pub(crate) unknown: bool,
-    /// A pattern has too many items or edges.
+    /// Whether a pattern has too many items or edges.
     pub(crate) count: bool,
 }
 
@@ -52,16 +53,15 @@ pub(crate) struct PatternRead {
     pub(crate) faults: QueryFaults,
 }
 
-// The items of a pattern, as far as they are read.
+// The items of a pattern, as far as they are read. Of too many only the first ones are kept.
 #[derive(Drop)]
 struct ItemsRead {
-    // the first 1,000 of them
     items: Vec<ItemText>,
-    // there are more
+    // whether they are too many
     long: bool,
-    // a symbol stands twice in a set
+    // whether a symbol stands twice in a set
     twice: bool,
-    // a symbol is not declared above
+    // whether a symbol is not declared above
     unknown: bool,
 }
 
