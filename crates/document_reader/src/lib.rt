@@ -3,10 +3,13 @@
 
 mod digits;
 mod headers;
+mod items;
 mod lexemes;
 mod lines;
 mod name_lines;
 mod names;
+mod patterns;
+mod queries;
 mod reading;
 mod returns;
 mod stubs;
@@ -18,5 +21,7 @@ mod weights_lines;
 pub use headers::language;
 pub use system::read_system;
 
+#[cfg(test)]
+mod query_tests;
 #[cfg(test)]
 mod tests;
