@@ -6,5 +6,6 @@ pub mod NameTables
 pub mod NamesOnce
 pub mod QueryReading
 pub mod Readings
+pub mod RuleReads
 pub mod WeightReads
 pub mod private

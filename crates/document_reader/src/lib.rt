@@ -12,6 +12,7 @@ mod patterns;
 mod queries;
 mod reading;
 mod returns;
+mod rules;
 mod stubs;
 mod symbols;
 mod system;

@@ -5,7 +5,7 @@ use Rattle.document_reader.proofs.items.read_symbols.Goals as goal
 pub loop-name-init : goal.loop-name-init
 loop-name-init c = record {
   names = [];
-  front = sym c.reborrow-left.ensures;
+  front = sym c.reborrow-left.ensures.same;
   read = c.new-read.ensures c.args.symbols.now;
 }
 

@@ -3,7 +3,7 @@ use Rattle.document_reader.proofs.PatternLemmas.{no_items_read, items_ahead}
 use Rattle.document_reader.proofs.patterns.read_items.Goals as goal
 
 pub loop-first-init : goal.loop-first-init
-loop-first-init c = rw c.reborrow-left.ensures (no_items_read c.args.symbols.now c.args.words.now c.new-read.result (c.new-read.ensures c.args.symbols.now))
+loop-first-init c = rw c.reborrow-left.ensures.same (no_items_read c.args.symbols.now c.args.words.now c.new-read.result (c.new-read.ensures c.args.symbols.now))
 
 pub loop-first-preserved : goal.loop-first-preserved
 loop-first-preserved c =

@@ -6,9 +6,9 @@ use Rattle.document_reader.proofs.returns.moved.Goals as goal
 
 pub returns-clause-form : goal.returns-clause-form
 returns-clause-form c =
-    ap (λ ws. Some (only_moves (moves_said ws))) c.reborrow.ensures
+    ap (λ ws. Some (only_moves (moves_said ws))) c.reborrow.ensures.same
     ∙ ap (option_map only_moves) (sym (moved_form c.args.words.now (sym c.if-not-are_moves.ensures)))
 
 pub returns-clause-said : goal.returns-clause-said
 returns-clause-said c =
-    (tt, ap are_pairs c.reborrow.ensures ∙ are_all_pairs c.args.words.now (sym c.if-not-are_moves.ensures))
+    (tt, ap are_pairs c.reborrow.ensures.same ∙ are_all_pairs c.args.words.now (sym c.if-not-are_moves.ensures))

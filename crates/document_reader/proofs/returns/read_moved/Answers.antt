@@ -7,8 +7,8 @@ use Rattle.document_reader.proofs.returns.read_moved.Goals as goal
 pub loop-pair-init : goal.loop-pair-init
 loop-pair-init c = (
   [],
-  ap moves_said c.reborrow-left.ensures,
-  ap all_pairs c.reborrow-left.ensures ∙ pairs_all c.args.words.now c.requires,
+  ap moves_said c.reborrow-left.ensures.same,
+  ap all_pairs c.reborrow-left.ensures.same ∙ pairs_all c.args.words.now c.requires,
   c.new-read.ensures c.args.items.now,
   λ seen h. names_none_yet seen c.args.names.now h,
 )

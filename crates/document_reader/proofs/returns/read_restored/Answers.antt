@@ -10,8 +10,8 @@ use Rattle.document_reader.proofs.returns.read_restored.Goals as goal
 pub loop-name-init : goal.loop-name-init
 loop-name-init c = (
   [],
-  ap names_in c.reborrow-left.ensures,
-  ap (list_all is_any_name) c.reborrow-left.ensures ∙ c.requires,
+  ap names_in c.reborrow-left.ensures.same,
+  ap (list_all is_any_name) c.reborrow-left.ensures.same ∙ c.requires,
   c.new-read.ensures c.args.items.now,
   λ seen h. names_none_yet seen c.args.names.now h,
 )
