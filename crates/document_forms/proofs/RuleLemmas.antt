@@ -30,7 +30,7 @@ use Rattle.document_forms.proofs.LawfulLemmas.{number_below, numbers_below, know
 
 -- ---- a weight is one of its own weights
 
-abbrev IsOwn : WeightsLine → WeightForm → Type 0
+abbrev pub IsOwn : WeightsLine → WeightForm → Type 0
 IsOwn weights OneForm = Unit {0}
 IsOwn weights NoneForm = Unit {0}
 IsOwn (Cost cap) (NumberForm n) = Unit {0}
@@ -62,7 +62,7 @@ own_own GenKill ws x h = genkill_own ws x h
 own_own Copy ws x h = copy_own (pairs ws) x h
 own_own Relation ws x h = relation_own ws x h
 
-weight_own : (u : WeightsLine) (ws : List Word) (x : WeightForm) → weight_of u ws ≡ Some x → IsOwn u x
+pub weight_own : (u : WeightsLine) (ws : List Word) (x : WeightForm) → weight_of u ws ≡ Some x → IsOwn u x
 weight_own u ws x h = one (is_only (codes "one") ws) h
   where
     none : (t : Bool) → (if t then Some NoneForm else own_weight u ws) ≡ Some x → IsOwn u x

@@ -12,6 +12,7 @@ mod NumberedLemmas
 mod PatternLemmas
 mod ReadingLemmas
 mod ReturnLemmas
+mod RuleLemmas
 mod SetLemmas
 mod SymbolLemmas
 mod SystemLemmas

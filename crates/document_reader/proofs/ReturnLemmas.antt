@@ -123,7 +123,7 @@ pair_none left all h same = sym (no left h) ∙ same ∙ pairs_told all
 
 -- ---- cut at the word `move`
 
-cut_same : (f g : Word → Bool) → ((w : Word) → f w ≡ g w) → (ws : List Word) → (before f ws ≡ before g ws) × (behind f ws ≡ behind g ws)
+pub cut_same : (f g : Word → Bool) → ((w : Word) → f w ≡ g w) → (ws : List Word) → (before f ws ≡ before g ws) × (behind f ws ≡ behind g ws)
 cut_same f g h [] = (refl, refl)
 cut_same f g h (w ∷ ws) = let m = cut_same f g h ws in (go (f w) (g w) (h w) m.0, gone (f w) (g w) (h w) m.1)
   where

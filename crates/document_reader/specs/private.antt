@@ -2,3 +2,4 @@ pub mod Digits
 pub mod LineForms
 pub mod NameLines
 pub mod Returns
+pub mod Rules

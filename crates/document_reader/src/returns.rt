@@ -6,8 +6,9 @@ ghost use Rattle.wpds_port.specs.declared.Word.TheVariants.{Name, Mark as Sign};
 ghost use Rattle.wpds_port.specs.Words.{word_of};
 ghost use Rattle.document_forms.specs.Words.{each_of_some, name_of};
 ghost use Rattle.std.specs.List.{list_all};
-ghost use Rattle.document_forms.specs.Returns.{MoveForm, moves_of, restore_of, only_moves, return_of};
+ghost use Rattle.document_forms.specs.Returns.{MoveForm, PlainReturn, moves_of, restore_of, only_moves, return_of};
 ghost use Rattle.document_forms.specs.Kinds.{allows_restore as allows_restore_of, allows_moves as allows_moves_of};
+ghost use Rattle.document_forms.specs.declared.weight.WeightsLine.{WeightsLine as WeightsLineValue};
 ghost use Rattle.document_reader.specs.NamesOnce.{HasNames};
 ghost use Rattle.document_reader.specs.private.NameLines.{names_in};
 ghost use Rattle.document_reader.specs.private.Returns.{is_any_name as is_any_name_of, begins_move, are_pairs, moves_said, move_form, moves_if_said, return_form, AreNumbersRead, AreMovesRead, AreNames, ArePairs, IsSaid, restored_in, moved_in, map_said, IsReadReturn, IsReturnRead};
@@ -148,14 +149,14 @@ pub(crate) fn return_words<'t>(words: &Words<'t>) -> Option<ReturnWords<'t>>
 
 // Names of a map as they are read.
 #[derive(Drop)]
-struct NamesRead {
-    numbers: Vec<u32>,
+pub(crate) struct NamesRead {
+    pub(crate) numbers: Vec<u32>,
     // Whether a name is none of the items.
-    unknown: bool,
+    pub(crate) unknown: bool,
 }
 
 impl NamesRead {
-    fn new(alloc: Global) -> NamesRead
+    pub(crate) fn new(alloc: Global) -> NamesRead
         ensures { (items : List (List ℕ)) → AreNumbersRead items [] result }
     {
         NamesRead {
@@ -164,7 +165,7 @@ impl NamesRead {
         }
     }
 
-    fn add(&mut self, items: &NameTable<'_>, name: &[u8]) -> Result<(), OutOfMemory>
+    pub(crate) fn add(&mut self, items: &NameTable<'_>, name: &[u8]) -> Result<(), OutOfMemory>
         ensures { (done : List (List ℕ)) → AreNumbersRead items.now done self.old
             → IfOk result (λ _. AreNumbersRead items.now (done ++ name.now ∷ []) self.new) }
     {
@@ -261,6 +262,20 @@ pub(crate) struct ReturnRead {
     pub(crate) unknown: bool,
     /// Whether the weights do not allow a word of it.
     pub(crate) foreign: bool,
+}
+
+impl ReturnRead {
+    /// The plain return.
+    pub(crate) fn plain() -> ReturnRead
+        ensures { (u : WeightsLineValue) (items : List (List ℕ)) → IsReadReturn u items PlainReturn result }
+    {
+        ReturnRead {
+            map: None,
+            twice: false,
+            unknown: false,
+            foreign: false,
+        }
+    }
 }
 
 // Whether the weights let `restore` stand.
@@ -369,12 +384,7 @@ fn read_said<'t>(
     ensures { IfOk result (IsReadReturn weights items.now (return_form said.now)) }
 {
     match said {
-        ReturnWords::Plain => Ok(ReturnRead {
-            map: None,
-            twice: false,
-            unknown: false,
-            foreign: false,
-        }),
+        ReturnWords::Plain => Ok(ReturnRead::plain()),
         ReturnWords::Map { restore, moves } => read_map(alloc, weights, items, restore, moves),
     }
 }

@@ -2,14 +2,16 @@
 
 ghost use Rattle.std.specs.Prelude.{◌≡◌, ℕ, ◌^◌, ◌+◌, ◌-◌, ◌*◌, List, IfOk, Some, None, option_map, if◌then◌else◌, nat_lt};
 ghost use Rattle.truth_tables.specs.Grammar.{number_of};
-ghost use Rattle.document_forms.specs.Weights.{NumberForm, cost_of};
-ghost use Rattle.document_reader.specs.WeightReads.{IsRead, small_number};
+ghost use Rattle.document_forms.specs.Weights.{NumberForm, OneForm, cost_of};
+ghost use Rattle.document_reader.specs.WeightReads.{IsRead, IsReadAs, IsWeightRead, small_number};
 
 mod facts;
 pub(crate) mod once;
 
 use crate::names::NameTable;
-use document_forms::WeightText;
+use document_forms::{WeightText, WeightsLine};
+use std::alloc::Global;
+use wpds_base::OutOfMemory;
 use wpds_port::{Lexeme, Words};
 
 /// What is amiss with a weight that has its form.
@@ -81,4 +83,32 @@ fn only_number<'t>(words: &Words<'t>) -> Option<&'t [u8]>
         Some((Lexeme::Number(digits), rest)) if rest.split_first().is_none() => Some(digits),
         _ => None,
     }
+}
+
+impl WeightRead {
+    /// The weight of a rule that has none.
+    pub(crate) fn one() -> WeightRead
+        ensures { (items : List (List ℕ)) → IsReadAs items OneForm result }
+    {
+        WeightRead {
+            value: WeightText::One,
+            faults: WeightFaults {
+                unknown: false,
+                unlawful: false,
+                deep: false,
+            },
+        }
+    }
+}
+
+// STUB
+pub(crate) fn read_weight(
+    alloc: Global,
+    weights: WeightsLine,
+    items: &NameTable<'_>,
+    words: &Words<'_>,
+) -> Result<Option<WeightRead>, OutOfMemory>
+    ensures { IfOk result (IsWeightRead weights items.now words.now) }
+{
+    Err(OutOfMemory)
 }
