@@ -1,5 +1,13 @@
+mod DigitLemmas
 mod EdgeLemmas
+mod FirstLinesLemmas
 mod ItemsLeftLemmas
+mod LineFormLemmas
+mod LineLemmas
+mod NameLineLemmas
 mod NumberedLemmas
 mod PatternLemmas
+mod ReadingLemmas
+mod SetLemmas
 mod SymbolLemmas
+mod SystemLemmas

@@ -1,160 +1,96 @@
--- What is read of the symbols of a set, and of the set.
-use Rattle.std.proofs.Common.{◌≡◌, ℕ, ◌+◌, ◌<◌, Bool, true, false, not, ◌||◌, cond, List, [], ◌∷◌, ◌++◌, length, map, Option, Some, None, refl, sym, ap, ◌∙◌, subst, append_assoc, arith}
-use Rattle.std.specs.Prelude.{bytes_eq, unwrap_or, is_none, if◌then◌else◌}
-use Rattle.std.proofs.lemmas.Bool.{or_parts}
-use Rattle.std.proofs.lemmas.List.{length_push, map_push}
-use Rattle.std.proofs.lemmas.List.Folds.{list_any-append}
-use Rattle.std.proofs.lemmas.Bool.Decides.{same_from_decides, Decides-like}
+-- The symbols of lines, each once.
+use Rattle.std.proofs.Common.{◌≡◌, ℕ, Bool, true, false, not, cond, List, [], ◌∷◌, ◌++◌, map, Option, Some, None, refl, sym, ap, ◌∙◌, subst, append_assoc, append-nil}
+use Rattle.std.specs.Prelude.{bytes_eq, filter, flat_map, option_map, unwrap_or}
+use Rattle.std.specs.List.{cons_option}
+use Rattle.std.proofs.lemmas.List.Elements.{filter-append}
 use Rattle.std.proofs.lemmas.Slice.Eq.{bytes_eq-Decides}
-use Rattle.document_forms.specs.Names.{is_among, number_in, has_twice, has_unknown}
-use Rattle.document_reader.specs.declared.items.SymbolsRead.{SymbolsRead}
-use Rattle.wpds_port.specs.declared.Mark.TheVariants.{OpenBrace, CloseBrace}
-use Rattle.wpds_port.specs.declared.Word.{Word}
-use Rattle.wpds_port.specs.declared.Word.TheVariants.{Name, Mark as Sign}
-use Rattle.document_forms.specs.Patterns.{Braced, is_set, set_words, star_words, items_of}
-use Rattle.document_forms.specs.declared.pattern.SetText.TheVariants.{Listed}
-use Rattle.document_reader.specs.declared.items.SetRead.{SetRead}
-use Rattle.document_reader.specs.declared.items.ItemRead.{ItemRead}
-use Rattle.document_reader.specs.ItemReading.{begins_with_name, begins_with_close, begins_with_star, AreSymbolsRead, HasSymbols, IsSetRead, HasSet, HasItem}
-use Rattle.document_reader.proofs.NumberedLemmas.{is_among-push}
-use Rattle.document_reader.proofs.ItemsLeftLemmas.{braces_left_open, item_in_front, item_is_longer}
-use Rattle.document_reader.specs.NameTables.{number_among}
+use Rattle.document_forms.specs.Lines.{Line}
+use Rattle.document_forms.specs.Names.{once}
+use Rattle.document_forms.specs.Forms.{Class, LineForm}
+use Rattle.document_forms.specs.Above.{names_on}
+use Rattle.document_forms.specs.FirstRefusal.{counted, forms}
+use Rattle.document_reader.specs.Readings.{declared_on, names_in}
 
-bytes_eq-sym : (x y : List ℕ) → bytes_eq x y ≡ bytes_eq y x
-bytes_eq-sym x y = same_from_decides (bytes_eq x y) (bytes_eq y x) (bytes_eq-Decides x y) (Decides-like (bytes_eq y x) sym sym (bytes_eq-Decides y x))
+-- ---- each name once, again
 
-pub regroup : (a b c d : Bool) → ((a || b) || (c || d)) ≡ ((a || c) || (b || d))
-regroup true b c d = refl
-regroup false true true d = refl
-regroup false true false d = refl
-regroup false false true d = refl
-regroup false false false d = refl
+abbrev other : List ℕ → List ℕ → Bool
+other x y = not (bytes_eq x y)
 
-twice_push :
-    (xs : List (List ℕ)) (x : List ℕ) → has_twice (xs ++ x ∷ []) ≡ (has_twice xs || is_among xs x)
-twice_push [] x = refl
-twice_push (y ∷ ys) x = rw (is_among-push ys x y, twice_push ys x, bytes_eq-sym y x) (regroup (is_among ys y) (bytes_eq x y) (has_twice ys) (is_among ys x))
+abbrev Names : Type 0
+Names = List (List ℕ)
 
-or_false : (b : Bool) → (b || false) ≡ b
-or_false true = refl
-or_false false = refl
+keeps : (p : List ℕ → Bool) (y : List ℕ) (ys : Names) → p y ≡ true → filter p (y ∷ ys) ≡ y ∷ filter p ys
+keeps p y ys h = ap (λ t. cond t (y ∷ filter p ys) (filter p ys)) h
 
-not_not : (b : Bool) → not (not b) ≡ b
-not_not true = refl
-not_not false = refl
+drops : (p : List ℕ → Bool) (y : List ℕ) (ys : Names) → p y ≡ false → filter p (y ∷ ys) ≡ filter p ys
+drops p y ys h = ap (λ t. cond t (y ∷ filter p ys) (filter p ys)) h
 
-none_among :
-    (known : List (List ℕ)) (x : List ℕ) → is_none (number_among known x) ≡ not (is_among known x)
-none_among known x = go (is_among known x)
+-- two tests in either order
+two_filters : (p q : List ℕ → Bool) (ys : Names) → filter p (filter q ys) ≡ filter q (filter p ys)
+two_filters p q [] = refl
+two_filters p q (y ∷ ys) = go (p y) (q y) refl refl (two_filters p q ys)
   where
-    go : (b : Bool) → is_none (cond b (Some (number_in known x)) None) ≡ not b
-    go true = refl
-    go false = refl
+    go : (s t : Bool) → p y ≡ s → q y ≡ t → filter p (filter q ys) ≡ filter q (filter p ys) → filter p (filter q (y ∷ ys)) ≡ filter q (filter p (y ∷ ys))
+    go true true e f h = ap (filter p) (keeps q y ys f) ∙ keeps p y (filter q ys) e ∙ ap (λ l. y ∷ l) h ∙ sym (keeps q y (filter p ys) f) ∙ ap (filter q) (sym (keeps p y ys e))
+    go true false e f h = ap (filter p) (drops q y ys f) ∙ h ∙ sym (drops q y (filter p ys) f) ∙ ap (filter q) (sym (keeps p y ys e))
+    go false true e f h = ap (filter p) (keeps q y ys f) ∙ drops p y (filter q ys) e ∙ h ∙ ap (filter q) (sym (drops p y ys e))
+    go false false e f h = ap (filter p) (drops q y ys f) ∙ h ∙ ap (filter q) (sym (drops p y ys e))
 
-pub unknown_push :
-    (known xs : List (List ℕ)) (x : List ℕ)
-    → has_unknown known (xs ++ x ∷ []) ≡ (has_unknown known xs || is_none (number_among known x))
-unknown_push known xs x =
-    list_any-append (λ y. not (is_among known y)) xs (x ∷ [])
-    ∙ ap (λ b. has_unknown known xs || b) (or_false (not (is_among known x)) ∙ sym (none_among known x))
-
--- a name that is known has its number
-pub known_number :
-    (known : List (List ℕ)) (x : List ℕ) (d : ℕ) → is_none (number_among known x) ≡ false
-    → unwrap_or (number_among known x) d ≡ number_in known x
-known_number known x d = go (is_among known x)
+filter_twice : (p : List ℕ → Bool) (ys : Names) → filter p (filter p ys) ≡ filter p ys
+filter_twice p [] = refl
+filter_twice p (y ∷ ys) = go (p y) refl (filter_twice p ys)
   where
-    go :
-        (b : Bool) → is_none (cond b (Some (number_in known x)) None) ≡ false
-        → unwrap_or (cond b (Some (number_in known x)) None) d ≡ number_in known x
-    go true h = refl
-    go false h = cc
+    go : (t : Bool) → p y ≡ t → filter p (filter p ys) ≡ filter p ys → filter p (filter p (y ∷ ys)) ≡ filter p (y ∷ ys)
+    go true e h = ap (filter p) (keeps p y ys e) ∙ keeps p y (filter p ys) e ∙ ap (λ l. y ∷ l) h ∙ sym (keeps p y ys e)
+    go false e h = ap (filter p) (drops p y ys e) ∙ h ∙ sym (drops p y ys e)
 
-seen_push :
-    (seen xs : List (List ℕ)) (x y : List ℕ) → ((z : List ℕ) → is_among seen z ≡ is_among xs z)
-    → is_among (if not (is_among seen x) then seen ++ x ∷ [] else seen) y ≡ is_among (xs ++ x ∷ []) y
-seen_push seen xs x y h = go (is_among seen x) refl ∙ (ap (λ b. b || bytes_eq y x) (h y) ∙ sym (is_among-push xs x y))
+-- without a name that the test drops anyway
+filter_without : (p : List ℕ → Bool) (x : List ℕ) (ys : Names) → p x ≡ false → filter p (filter (other x) ys) ≡ filter p ys
+filter_without p x [] h = refl
+filter_without p x (y ∷ ys) h = go (bytes_eq x y) refl (filter_without p x ys h)
   where
-    there :
-        (t : Bool) → bytes_eq y x ≡ t → is_among seen x ≡ true
-        → is_among seen y ≡ (is_among seen y || t)
-    there true e g = let same : y ≡ x = (bytes_eq-Decides y x).0 e in let k : is_among seen y ≡ true = subst (λ z. is_among seen z ≡ true) (sym same) g in rw k refl
-    there false e g = sym (or_false (is_among seen y))
+    go : (t : Bool) → bytes_eq x y ≡ t → filter p (filter (other x) ys) ≡ filter p ys → filter p (filter (other x) (y ∷ ys)) ≡ filter p (y ∷ ys)
+    go true e m = ap (filter p) (drops (other x) y ys (ap not e)) ∙ m ∙ sym (drops p y ys (subst (λ z. p z ≡ false) ((bytes_eq-Decides x y).0 e) h))
+    go false e m = ap (filter p) (keeps (other x) y ys (ap not e)) ∙ ap (λ l. cond (p y) (y ∷ l) l) m
 
-    go :
-        (b : Bool) → is_among seen x ≡ b
-        → is_among (if not b then seen ++ x ∷ [] else seen) y ≡ (is_among seen y || bytes_eq y x)
-    go true g = there (bytes_eq y x) refl g
-    go false g = is_among-push seen x y
-
--- one symbol more
-pub symbols_more :
-    (symbols xs : List (List ℕ)) (x : List ℕ) (r q : SymbolsRead) (number : Option ℕ) (added : Bool)
-    → AreSymbolsRead symbols xs r → number ≡ number_among symbols x
-    → added ≡ not (is_among r.seen x) → q.numbers.items ≡ r.numbers.items ++ unwrap_or number 0 ∷ []
-    → q.seen ≡ (if added then r.seen ++ x ∷ [] else r.seen) → q.twice ≡ (r.twice || not added)
-    → q.unknown ≡ (r.unknown || is_none number) → AreSymbolsRead symbols (xs ++ x ∷ []) q
-symbols_more symbols xs x r q number added h n a items seen twice unknown = record {
-  count = ap length items ∙ (length_push r.numbers.items (unwrap_or number 0) ∙ (ap (λ k. k + 1) h.count ∙ sym (length_push xs x)));
-  seen = λ y. ap (λ zs. is_among zs y) (seen ∙ ap (λ b. if b then r.seen ++ x ∷ [] else r.seen) a) ∙ seen_push r.seen xs x y h.seen;
-  twice = twice ∙ (ap (λ b. r.twice || not b) a ∙ (ap (λ b. r.twice || b) (not_not (is_among r.seen x) ∙ h.seen x) ∙ (ap (λ b. b || is_among xs x) h.twice ∙ sym (twice_push xs x))));
-  unknown = unknown ∙ (ap (λ o. r.unknown || is_none o) n ∙ (ap (λ b. b || is_none (number_among symbols x)) h.unknown ∙ sym (unknown_push symbols xs x)));
-  numbers = λ e. let k = or_parts r.unknown (is_none number) (sym unknown ∙ e) in items ∙ (ap (λ ks. ks ++ unwrap_or number 0 ∷ []) (h.numbers k.0) ∙ (ap (λ m. map (number_in symbols) xs ++ m ∷ []) (ap (λ o. unwrap_or o 0) n ∙ known_number symbols x 0 (ap is_none (sym n) ∙ k.1)) ∙ sym (map_push (number_in symbols) xs x)));
-}
-
--- ---- a set
-
--- a name in front is one symbol more
-pub symbols_ahead :
-    (symbols : List (List ℕ)) (ws left rest : List Word) (x : List ℕ) (r q : SymbolsRead) (h : HasSymbols symbols ws r left)
-    → left ≡ Name x ∷ rest → AreSymbolsRead symbols (h.names ++ x ∷ []) q
-    → HasSymbols symbols ws q rest
-symbols_ahead symbols ws left rest x r q h e read = record {
-  names = h.names ++ x ∷ [];
-  front = h.front ∙ (ap (λ vs. map Name h.names ++ vs) e ∙ (sym (append_assoc (map Name h.names) (Name x ∷ []) rest) ∙ ap (λ vs. vs ++ rest) (sym (map_push Name h.names x))));
-  read = read;
-}
-
--- no items begin with braces that stay open
-pub open_braces :
-    (symbols : List (List ℕ)) (ws left : List Word) (r : SymbolsRead) (h : HasSymbols symbols ws r left)
-    → begins_with_name left ≡ false → begins_with_close left ≡ false
-    → items_of (Sign OpenBrace ∷ ws) ≡ None
-open_braces symbols ws left r h g e = ap (λ vs. items_of (Sign OpenBrace ∷ vs)) h.front ∙ braces_left_open h.names left g e
-
-pub set_in_braces :
-    (symbols : List (List ℕ)) (ws left rest : List Word) (r : SymbolsRead) (q : SetRead) (h : HasSymbols symbols ws r left)
-    → left ≡ Sign CloseBrace ∷ rest → 0 < length r.numbers.items → q.set ≡ Listed r.numbers.items
-    → q.twice ≡ r.twice → q.unknown ≡ r.unknown → HasSet symbols (Sign OpenBrace ∷ ws) q rest
-set_in_braces symbols ws left rest r q h e some set twice unknown = record {
-  set = Braced h.names;
-  lawful = lawful h.names (omega (arith, some, h.read.count));
-  front = ap (λ vs. Sign OpenBrace ∷ vs) (h.front ∙ (ap (λ vs. map Name h.names ++ vs) e ∙ sym (append_assoc (map Name h.names) (Sign CloseBrace ∷ []) rest)));
-  read = record {
-    count = λ all. rw set h.read.count;
-    twice = twice ∙ h.read.twice;
-    unknown = unknown ∙ h.read.unknown;
-    value = λ u. set ∙ ap Listed (h.read.numbers (sym unknown ∙ u));
-  };
-}
+filter_once : (p : List ℕ → Bool) (xs : Names) → filter p (once xs) ≡ once (filter p xs)
+filter_once p [] = refl
+filter_once p (x ∷ xs) = go (p x) refl (filter_once p xs)
   where
-    lawful : (xs : List (List ℕ)) → 0 < length xs → is_set (Braced xs) ≡ true
-    lawful [] z = absurd (omega (arith, z))
-    lawful (x ∷ xs) z = refl
+    go : (t : Bool) → p x ≡ t → filter p (once xs) ≡ once (filter p xs) → filter p (once (x ∷ xs)) ≡ once (filter p (x ∷ xs))
+    go true e h =
+        keeps p x (filter (other x) (once xs)) e
+        ∙ ap (λ l. x ∷ l) (two_filters p (other x) (once xs) ∙ ap (filter (other x)) h)
+        ∙ ap once (sym (keeps p x xs e))
+    go false e h = drops p x (filter (other x) (once xs)) e ∙ filter_without p x (once xs) e ∙ h ∙ ap once (sym (drops p x xs e))
 
--- ---- an item
+filter_inner : (p : List ℕ → Bool) (zs ys : Names) → filter p (once (filter p zs ++ ys)) ≡ filter p (once (zs ++ ys))
+filter_inner p zs ys =
+    filter_once p (filter p zs ++ ys)
+    ∙ ap once (filter-append p (filter p zs) ys ∙ ap (λ l. l ++ filter p ys) (filter_twice p zs) ∙ sym (filter-append p zs ys))
+    ∙ sym (filter_once p (zs ++ ys))
 
-pub item_read :
-    (symbols : List (List ℕ)) (ws behind : List Word) (r : SetRead) (q : ItemRead) (h : HasSet symbols ws r behind)
-    → behind ≡ star_words q.star ++ q.rest → (q.star ≡ false → begins_with_star q.rest ≡ false)
-    → q.set ≡ r → HasItem symbols ws q
-item_read symbols ws behind r q h e one set = record {
-  item = record { set = h.set; star = q.star };
-  items = ap items_of words ∙ item_in_front h.set q.star q.rest h.lawful one;
-  shorter = subst (λ vs. length q.rest < length vs) (sym words) (item_is_longer h.set q.star q.rest h.lawful);
-  star = refl;
-  read = subst (IsSetRead symbols h.set) (sym set) h.read;
-}
+pub once_again : (xs ys : Names) → once (once xs ++ ys) ≡ once (xs ++ ys)
+once_again [] ys = refl
+once_again (x ∷ xs) ys = ap (λ l. x ∷ l) (filter_inner (other x) (once xs) ys ∙ ap (filter (other x)) (once_again xs ys))
+
+pub once_twice : (xs : Names) → once (once xs) ≡ once xs
+once_twice xs = ap once (sym (append-nil (once xs))) ∙ once_again xs [] ∙ ap once (append-nil xs)
+
+-- ---- the names of lines
+
+pub names_first : (c : Class) (l : Line) (ls : List Line) → names_in c (map counted (l ∷ ls)) ≡ declared_on c l.bytes ++ names_in c (map counted ls)
+names_first c l ls = go (counted l).form
   where
-    words : ws ≡ set_words h.set ++ (star_words q.star ++ q.rest)
-    words = h.front ∙ ap (λ vs. set_words h.set ++ vs) e
+    go : (o : Option LineForm) → flat_map (names_on c) (cons_option o (forms (map counted ls))) ≡ unwrap_or (option_map (names_on c) o) [] ++ names_in c (map counted ls)
+    go None = refl
+    go (Some f) = refl
+
+-- with a line's symbols more
+pub symbols_more : (c : Class) (old new : Names) (l : Line) (ls : List Line) → new ≡ once (old ++ declared_on c l.bytes) → once (new ++ names_in c (map counted ls)) ≡ once (old ++ names_in c (map counted (l ∷ ls)))
+symbols_more c old new l ls e =
+    let here = declared_on c l.bytes in
+    let rest = names_in c (map counted ls) in
+    ap (λ xs. once (xs ++ rest)) e
+    ∙ once_again (old ++ here) rest
+    ∙ ap once (append_assoc old here rest ∙ ap (λ xs. old ++ xs) (sym (names_first c l ls)))

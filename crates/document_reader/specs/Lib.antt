@@ -1,3 +1,6 @@
-pub mod ItemReading
+pub mod Found
+pub mod LinesLeft
 pub mod NameTables
 pub mod QueryReading
+pub mod Readings
+pub mod private

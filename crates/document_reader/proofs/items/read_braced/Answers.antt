@@ -1,6 +1,6 @@
 use Rattle.std.proofs.Common.{refl, ap, arith}
 use Rattle.document_forms.specs.declared.pattern.SetText.TheVariants.{Listed}
-use Rattle.document_reader.proofs.SymbolLemmas.{open_braces, set_in_braces}
+use Rattle.document_reader.proofs.SetLemmas.{open_braces, set_in_braces}
 use Rattle.document_reader.proofs.items.read_braced.Goals as goal
 
 pub returns-in_default : goal.returns-in_default

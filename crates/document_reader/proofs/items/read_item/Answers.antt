@@ -1,5 +1,5 @@
 use Rattle.std.proofs.Common.{refl}
-use Rattle.document_reader.proofs.SymbolLemmas.{item_read}
+use Rattle.document_reader.proofs.SetLemmas.{item_read}
 use Rattle.document_reader.proofs.items.read_item.Goals as goal
 
 pub returns : goal.returns

@@ -1,5 +1,5 @@
 use Rattle.std.proofs.Common.{[], sym}
-use Rattle.document_reader.proofs.SymbolLemmas.{symbols_ahead}
+use Rattle.document_reader.proofs.SetLemmas.{symbols_ahead}
 use Rattle.document_reader.proofs.items.read_symbols.Goals as goal
 
 pub loop-name-init : goal.loop-name-init

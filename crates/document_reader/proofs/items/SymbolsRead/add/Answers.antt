@@ -1,5 +1,5 @@
 use Rattle.std.proofs.Common.{rules}
-use Rattle.document_reader.proofs.SymbolLemmas.{symbols_more}
+use Rattle.document_reader.proofs.SetLemmas.{symbols_more}
 use Rattle.document_reader.proofs.items.SymbolsRead.add.Goals as goal
 
 pub returns : goal.returns

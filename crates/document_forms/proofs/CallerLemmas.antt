@@ -1,0 +1,2 @@
+-- What crates above may cite.
+pub use Rattle.document_forms.proofs.NameLemmas.{has_known, known_first, known_next, once_alone, once_is_once, once_joined, once_known, twice_is_once}

@@ -1,0 +1,4 @@
+pub mod Digits
+pub mod ItemReading
+pub mod LineForms
+pub mod NameLines
