@@ -7,7 +7,7 @@ use Rattle.wpds_port.specs.declared.Word.{Word}
 use Rattle.wpds_port.specs.declared.Word.TheVariants.{Name, Mark as Sign}
 use Rattle.document_forms.specs.Words.{◌>>=◌}
 use Rattle.document_forms.specs.Patterns.{SetForm, Dotted, Bare, Braced, ItemForm, item, set_words, star_words, is_set, ItemsReading, Items, Starred, InBraces, item_before, items_reading, items_in, items_of}
-use Rattle.document_reader.specs.ItemReading.{begins_with_name, begins_with_close, begins_with_star}
+use Rattle.document_reader.specs.private.ItemReading.{begins_with_name, begins_with_close, begins_with_star}
 
 -- ---- what a reading from the right waits for
 

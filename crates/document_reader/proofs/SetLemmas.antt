@@ -15,7 +15,7 @@ use Rattle.document_forms.specs.Patterns.{Braced, is_set, set_words, star_words,
 use Rattle.document_forms.specs.declared.pattern.SetText.TheVariants.{Listed}
 use Rattle.document_reader.specs.declared.items.SetRead.{SetRead}
 use Rattle.document_reader.specs.declared.items.ItemRead.{ItemRead}
-use Rattle.document_reader.specs.ItemReading.{begins_with_name, begins_with_close, begins_with_star, AreSymbolsRead, HasSymbols, IsSetRead, HasSet, HasItem}
+use Rattle.document_reader.specs.private.ItemReading.{begins_with_name, begins_with_close, begins_with_star, AreSymbolsRead, HasSymbols, IsSetRead, HasSet, HasItem}
 use Rattle.document_reader.proofs.NumberedLemmas.{is_among-push}
 use Rattle.document_reader.proofs.ItemsLeftLemmas.{braces_left_open, item_in_front, item_is_longer}
 use Rattle.document_reader.specs.NameTables.{number_among}

@@ -1,6 +1,5 @@
 pub mod FactReads
 pub mod Found
-pub mod ItemReading
 pub mod LinesLeft
 pub mod NameTables
 pub mod NamesOnce

@@ -1,4 +1,5 @@
 pub mod Digits
+pub mod ItemReading
 pub mod LineForms
 pub mod NameLines
 pub mod Returns

@@ -3,7 +3,7 @@ ghost use Rattle.wpds_port.specs.Words.{word_of};
 ghost use Rattle.wpds_port.specs.declared.Mark.TheVariants.{OpenBrace, CloseBrace};
 ghost use Rattle.wpds_port.specs.declared.Word.TheVariants.{Name, Mark as Sign};
 ghost use Rattle.document_forms.specs.Patterns.{Bare, star_words, items_of};
-ghost use Rattle.document_reader.specs.ItemReading.{begins_with_name, begins_with_close, begins_with_star, AreSymbolsRead, HasSymbols, IsSetRead, HasSet, HasItem};
+ghost use Rattle.document_reader.specs.private.ItemReading.{begins_with_name, begins_with_close, begins_with_star, AreSymbolsRead, HasSymbols, IsSetRead, HasSet, HasItem};
 
 use crate::names::NameTable;
 use document_forms::SetText;

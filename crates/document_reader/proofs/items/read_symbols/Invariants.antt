@@ -1,5 +1,5 @@
 use Rattle.std.proofs.Common.{length}
-use Rattle.document_reader.specs.ItemReading.{HasSymbols}
+use Rattle.document_reader.specs.private.ItemReading.{HasSymbols}
 use Rattle.document_reader.proofs.items.read_symbols.Given as goal
 
 abbrev pub invariant-loop-name : goal.invariant-loop-name

@@ -1,4 +1,4 @@
-use Rattle.document_reader.specs.ItemReading.{HasItem}
+use Rattle.document_reader.specs.private.ItemReading.{HasItem}
 use Rattle.document_reader.proofs.PatternLemmas.{no_items_read, items_ahead}
 use Rattle.document_reader.proofs.patterns.read_items.Goals as goal
 

@@ -1,5 +1,5 @@
 use Rattle.std.proofs.Common.{length}
-use Rattle.document_reader.specs.ItemReading.{HasItems}
+use Rattle.document_reader.specs.private.ItemReading.{HasItems}
 use Rattle.document_reader.proofs.patterns.read_items.Given as goal
 
 abbrev pub invariant-loop-first : goal.invariant-loop-first

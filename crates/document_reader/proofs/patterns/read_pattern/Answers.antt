@@ -1,5 +1,5 @@
 use Rattle.std.proofs.Common.{[], refl, rules}
-use Rattle.document_reader.specs.ItemReading.{HasItems}
+use Rattle.document_reader.specs.private.ItemReading.{HasItems}
 use Rattle.document_reader.proofs.PatternLemmas.{none_test, pattern_with, pattern_found, pattern_read}
 use Rattle.document_reader.proofs.patterns.read_pattern.Goals as goal
 
