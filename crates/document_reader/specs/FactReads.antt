@@ -1,5 +1,5 @@
 -- What reading facts that are generated and killed gives.
-use Rattle.std.specs.Prelude.{◌≡◌, ℕ, false, List, [], ◌∷◌, ◌++◌, map, Option, None, Some, option_map, MatchOption}
+use Rattle.std.specs.Prelude.{◌≡◌, ℕ, false, List, [], ◌∷◌, map, Option, None}
 use Rattle.wpds_port.specs.declared.Word.{Word}
 use Rattle.document_forms.specs.Names.{has_unknown}
 use Rattle.document_forms.specs.Weights.{SignForm, signs}

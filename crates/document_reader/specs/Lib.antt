@@ -1,4 +1,6 @@
 pub mod FactReads
+pub mod FormReads
 pub mod NameTables
 pub mod NamesOnce
+pub mod PairTexts
 pub mod WeightReads

@@ -6,11 +6,12 @@ ghost use Rattle.document_forms.specs.Weights.{NumberForm, cost_of};
 ghost use Rattle.document_reader.specs.WeightReads.{IsRead, small_number};
 
 mod facts;
+mod forms;
 mod once;
 
+use crate::names::NameTable;
 use document_forms::WeightText;
 use wpds_port::{Lexeme, Words};
-use crate::names::NameTable;
 
 /// What is amiss with a weight that has its form.
 #[derive(Clone, Copy, Debug)]

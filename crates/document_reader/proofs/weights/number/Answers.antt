@@ -1,7 +1,7 @@
-use Rattle.std.proofs.Common.{◌≡◌, ◌≤◌, ◌^◌, ℕ, ◌+◌, ◌*◌, ◌-◌, drop, get_or, sym, subst, ◌∙◌, arith}
+use Rattle.std.proofs.Common.{◌≤◌, ◌^◌, ℕ, ◌+◌, ◌*◌, ◌-◌, drop, get_or, sym, ◌∙◌, arith}
 use Rattle.std.proofs.lemmas.List.{at_drop_more, at_drop_all}
 use Rattle.std.proofs.lemmas.Bool.Decides.{nat_tests}
-use Rattle.truth_tables.specs.Grammar.{number_onto, number_of}
+use Rattle.truth_tables.specs.Grammar.{number_onto}
 use Rattle.document_reader.proofs.NumberLemmas.{number_grows, number_fits, number_passes}
 use Rattle.document_reader.proofs.weights.number.Goals as goal
 
