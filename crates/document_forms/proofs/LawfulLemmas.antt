@@ -1,16 +1,14 @@
 -- The numbers of names are below their count.
-use Rattle.std.proofs.Common.{◌≡◌, ◌≢◌, inl, inr, ℕ, suc, ◌+◌, ◌^◌, ◌<◌, ◌≤◌, Bool, true, false, not, cond, ◌&&◌, ◌||◌, List, [], ◌∷◌, ◌++◌, map, length, Option, Some, None, refl, sym, ap, ◌∙◌, subst, arith, lt_of_lt_of_le}
-use Rattle.std.specs.Prelude.{All, bytes_eq, flat_map, nat_lt, nat_le, unwrap_or, option_map, fold, bit_or}
-use Rattle.std.specs.List.{list_any}
-use Rattle.std.proofs.lemmas.Bool.{or_parts, or_from, and_parts, and_from, ltb-true, lt-ltb, ltb-false, leb-true}
-use Rattle.std.proofs.lemmas.List.Elements.{All-nil, All-cons, All-head, All-tail, All-append, All-weaker}
-use Rattle.truth_tables.specs.Formulas.{Formula, Constant as Const, Variable as Var, Opposite, Binary, Ternary, is_over}
-use Rattle.truth_tables.specs.Grammar.{Tree, Constant, Variable, Bracket, Inverse, Two, Table2, Table3, table_of, number_of, has_large_table, formula_of}
+use Rattle.std.proofs.Common.{◌≡◌, ℕ, ◌+◌, ◌<◌, Bool, true, false, not, cond, ◌&&◌, ◌||◌, List, [], ◌∷◌, ◌++◌, map, length, refl, arith}
+use Rattle.std.specs.Prelude.{bytes_eq, nat_lt}
+use Rattle.std.proofs.lemmas.Bool.{or_parts, or_from, lt-ltb, ltb-false}
+use Rattle.std.proofs.lemmas.List.Elements.{All-nil, All-cons}
+use Rattle.truth_tables.specs.Formulas.{is_over}
+use Rattle.truth_tables.specs.Grammar.{Tree, Constant, Variable, Bracket, Inverse, Two, Table2, Table3, tree_variables, table_of, number_of, has_large_table}
 use Rattle.truth_tables.specs.declared.Operator.{Operator}
 use Rattle.truth_tables.specs.declared.Operator.TheVariants.{Then as ThenOperator, Same as SameOperator, Other as OtherOperator, Or as OrOperator, Xor as XorOperator, And as AndOperator}
 use Rattle.document_forms.specs.Names.{is_among, has_unknown, number_in}
-use Rattle.document_forms.specs.Kinds.{tree_names}
-use Rattle.document_forms.specs.Documents.{over_numbers, expression_value}
+use Rattle.document_forms.specs.Documents.{expression_value}
 use Rattle.document_forms.specs.Lawful.{AreBelow}
 
 pub number_below : (names : List (List ℕ)) (x : List ℕ) → is_among names x ≡ true → number_in names x < length names
@@ -48,7 +46,7 @@ small_table OrOperator = refl
 small_table XorOperator = refl
 small_table AndOperator = refl
 
-pub is_over_names : (names : List (List ℕ)) (e : Tree) → has_unknown names (tree_names e) ≡ false → has_large_table e ≡ false → is_over (length names) (expression_value names e) ≡ true
+pub is_over_names : (names : List (List ℕ)) (e : Tree) → has_unknown names (tree_variables e) ≡ false → has_large_table e ≡ false → is_over (length names) (expression_value names e) ≡ true
 is_over_names names (Constant b) h t = refl
 is_over_names names (Variable x) h t =
     let k = or_parts (not (is_among names x)) false h in
@@ -56,14 +54,14 @@ is_over_names names (Variable x) h t =
 is_over_names names (Bracket e) h t = is_over_names names e h t
 is_over_names names (Inverse e) h t = is_over_names names e h t
 is_over_names names (Two o a b) h t =
-    let k = known_parts names (tree_names a) (tree_names b) h in
+    let k = known_parts names (tree_variables a) (tree_variables b) h in
     let s = or_parts (has_large_table a) (has_large_table b) t in
     and3 (nat_lt (table_of o) 16) (is_over (length names) (expression_value names a)) (is_over (length names) (expression_value names b)) (small_table o) (is_over_names names a k.0 s.0) (is_over_names names b k.1 s.1)
   where
     and3 : (x y z : Bool) → x ≡ true → y ≡ true → z ≡ true → (x && y && z) ≡ true
     and3 x y z e f g = rw (e, f, g) refl
 is_over_names names (Table2 n a b) h t =
-    let k = known_parts names (tree_names a) (tree_names b) h in
+    let k = known_parts names (tree_variables a) (tree_variables b) h in
     let s = or_parts (nat_lt 15 (number_of n)) (has_large_table a || has_large_table b) t in
     let u = or_parts (has_large_table a) (has_large_table b) s.1 in
     let few = ltb-false 15 (number_of n) s.0 in
@@ -72,8 +70,8 @@ is_over_names names (Table2 n a b) h t =
     and3 : (x y z : Bool) → x ≡ true → y ≡ true → z ≡ true → (x && y && z) ≡ true
     and3 x y z e f g = rw (e, f, g) refl
 is_over_names names (Table3 n a b c) h t =
-    let k = known_parts names (tree_names a) (tree_names b ++ tree_names c) h in
-    let m = known_parts names (tree_names b) (tree_names c) k.1 in
+    let k = known_parts names (tree_variables a) (tree_variables b ++ tree_variables c) h in
+    let m = known_parts names (tree_variables b) (tree_variables c) k.1 in
     let s = or_parts (nat_lt 255 (number_of n)) (has_large_table a || (has_large_table b || has_large_table c)) t in
     let u = or_parts (has_large_table a) (has_large_table b || has_large_table c) s.1 in
     let v = or_parts (has_large_table b) (has_large_table c) u.1 in

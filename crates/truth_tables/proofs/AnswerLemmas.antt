@@ -1,12 +1,9 @@
--- The text of an expression, and its answer.
-use Rattle.std.proofs.Common.{◌≡◌, ℕ, zero, suc, ◌+◌, ◌≤◌, Bool, true, false, not, ◌||◌, cond, List, [], ◌∷◌, length, take, drop, Option, Some, None, option_map, refl, sym, ap, ◌∙◌, subst, arith}
-use Rattle.std.specs.Prelude.{IsTrue, Result, Ok, Err, IfOk, nat_lt}
-use Rattle.std.proofs.lemmas.List.{length-map, length-take-le}
-use Rattle.wpds_base.specs.declared.OutOfMemory.{OutOfMemory}
+-- What reading words as an expression answers.
+use Rattle.std.proofs.Common.{◌≡◌, ℕ, Bool, true, false, not, ◌||◌, cond, List, Option, Some, None, option_map, refl, sym, ap, ◌∙◌, subst, arith}
+use Rattle.std.specs.Prelude.{IsTrue, Result, Ok, Err, nat_lt}
 use Rattle.std.specs.List.{list_all}
 use Rattle.std.proofs.lemmas.Bool.{ltb-true, ltb-false, lt-ltb, or_parts, not-true}
 use Rattle.wpds_port.specs.declared.Word.{Word}
-use Rattle.wpds_port.specs.declared.Token.{Token}
 use Rattle.wpds_port.specs.Tokens.{is_lawful_word}
 use Rattle.truth_tables.specs.Formulas.{has_small_tables}
 use Rattle.truth_tables.specs.Grammar.{Operator, ThenOperator, SameOperator, OtherOperator, OrOperator, XorOperator, AndOperator, Tree, Constant, Variable, Bracket, Inverse, Two, Table2, Table3, depth, number_of, table_of, has_large_table, formula_of}
@@ -19,33 +16,10 @@ use Rattle.truth_tables.specs.declared.operand.Unread.TheVariants.{Table, Deep}
 use Rattle.truth_tables.specs.declared.raw.RawExpr.{RawExpr}
 use Rattle.truth_tables.specs.declared.reading.ExprRead.{ExprRead}
 use Rattle.truth_tables.specs.declared.reading.ExprRead.TheVariants.{Read, Form, Table as TableAnswer, Deep as DeepAnswer}
-use Rattle.truth_tables.specs.Texts.{words_of, text_within, text_at, IsAnswer, IfRead, answer_on}
+use Rattle.truth_tables.specs.Texts.{IsAnswer, IfRead, answer_on}
 use Rattle.truth_tables.proofs.Readings.{is_tree}
 use Rattle.truth_tables.proofs.MachineLemmas.{made_of_tree}
 use Rattle.truth_tables.proofs.OutcomeLemmas.{outcome, made_so}
-
--- ---- the text
-
-dropped : (ts : List Token) (at : ℕ) → words_of (drop at ts) ≡ drop at (words_of ts)
-dropped ts zero = refl
-dropped [] (suc n) = refl
-dropped (t ∷ ts) (suc n) = dropped ts n
-
-counted : (ts : List Token) (n : ℕ) → n ≤ length ts → length (words_of (take n ts)) ≡ n
-counted ts n h = length-map (take n ts) (λ t. t.word) ∙ length-take-le n ts h
-
-pub record IsText (ts : List Token) (at n : ℕ) (text : List Token) : Type 0 where
-  pub words : words_of text ≡ text_at (words_of ts) at
-  pub length_is : at + n ≡ at + length (text_at (words_of ts) at)
-
-pub text_is : (ts rest text : List Token) (at n : ℕ) → rest ≡ drop at ts → text ≡ take n rest → n ≤ length rest → words_of (take n rest) ≡ text_within 0 (words_of rest) → IsText ts at n text
-text_is ts rest text at n r t within same =
-    let w : words_of text ≡ text_at (words_of ts) at = ap words_of t ∙ same ∙ ap (λ x. text_within 0 (words_of x)) r ∙ ap (text_within 0) (dropped ts at) in
-    record { words = w; length_is = ap (λ k. at + k) (sym (counted rest n within) ∙ sym (ap (λ x. length (words_of x)) t) ∙ ap length w) }
-
--- an answer on a text is that on equal words with an equal end
-pub moved : (limit end next : ℕ) (ws vs : List Word) (r : Result ExprRead OutOfMemory) → ws ≡ vs → next ≡ end → IfOk r (IsAnswer ws next limit) → IfOk r (IsAnswer vs end limit)
-moved limit end next ws vs r e f h = subst (λ n. IfOk r (IsAnswer vs n limit)) f (subst (λ x. IfOk r (IsAnswer x next limit)) e h)
 
 -- ---- answers
 
@@ -72,19 +46,12 @@ tree_made limit ws m h = go (tree_of ws) refl (h ∙ made_outcome limit ws)
         some_same : (x : Result Made Unread) → Some m ≡ Some x → m ≡ x
         some_same x h = cc
 
-answer_form : (limit end : ℕ) (ws : List Word) → None ≡ made_of (parts limit) ws → IsAnswer ws end limit Form
-answer_form limit end ws h e x = go (tree_of ws) ((is_tree ws e).1 x.1) (h ∙ made_outcome limit ws)
+answer_form : (limit : ℕ) (ws : List Word) → None ≡ made_of (parts limit) ws → IsAnswer ws limit Form
+answer_form limit ws h e x = go (tree_of ws) ((is_tree ws e).1 x.1) (h ∙ made_outcome limit ws)
   where
     go : (o : Option Tree) → o ≡ Some e → None ≡ option_map (λ e. outcome limit (has_large_table e) (depth e) (formula_of e)) o → ⊥
     go None is h = cc
     go (Some e) is h = cc
-
-pub answer_unlawful : (limit end : ℕ) (ws : List Word) → list_all is_lawful_word ws ≡ false → IsAnswer ws end limit Form
-answer_unlawful limit end ws h e x = true_false (list_all is_lawful_word ws) x.0 h
-  where
-    true_false : (b : Bool) → b ≡ true → b ≡ false → ⊥
-    true_false true h k = cc
-    true_false false h k = cc
 
 abbrev flags : Bool → Bool → Made → Result Made Unread
 flags large deep m = cond large (Err Table) (cond deep (Err Deep) (Ok m))
@@ -113,29 +80,29 @@ is_read true deep n m h = cc
 is_read false true n m h = cc
 is_read false false n m h = record { small = refl; within = refl; same = cc }
 
-answer_table : (limit end : ℕ) (ws : List Word) → list_all is_lawful_word ws ≡ true → Some (Err Table) ≡ made_of (parts limit) ws → IsAnswer ws end limit TableAnswer
-answer_table limit end ws lawful h =
+answer_table : (limit : ℕ) (ws : List Word) → list_all is_lawful_word ws ≡ true → Some (Err Table) ≡ made_of (parts limit) ws → IsAnswer ws limit TableAnswer
+answer_table limit ws lawful h =
     let m = tree_made limit ws (Err Table) h in
     (m.tree, (lawful, (is_tree ws m.tree).0 m.is), is_table (has_large_table m.tree) (nat_lt limit (depth m.tree)) _ m.what)
 
-answer_deep : (limit end : ℕ) (ws : List Word) → list_all is_lawful_word ws ≡ true → Some (Err Deep) ≡ made_of (parts limit) ws → IsAnswer ws end limit DeepAnswer
-answer_deep limit end ws lawful h =
+answer_deep : (limit : ℕ) (ws : List Word) → list_all is_lawful_word ws ≡ true → Some (Err Deep) ≡ made_of (parts limit) ws → IsAnswer ws limit DeepAnswer
+answer_deep limit ws lawful h =
     let m = tree_made limit ws (Err Deep) h in
     let d = is_deep (has_large_table m.tree) (nat_lt limit (depth m.tree)) _ m.what in
     (m.tree, (lawful, (is_tree ws m.tree).0 m.is), d.small, ltb-true limit (depth m.tree) d.deep_too)
 
-answer_read : (limit end next : ℕ) (ws : List Word) (e : RawExpr) (n : Made) → list_all is_lawful_word ws ≡ true → Some (Ok n) ≡ made_of (parts limit) ws → raw_formula e ≡ n.formula → next ≡ end
-    → IsAnswer ws end limit (Read e next)
-answer_read limit end next ws e n lawful h f same =
+answer_read : (limit : ℕ) (ws : List Word) (e : RawExpr) (n : Made) → list_all is_lawful_word ws ≡ true → Some (Ok n) ≡ made_of (parts limit) ws → raw_formula e ≡ n.formula
+    → IsAnswer ws limit (Read e)
+answer_read limit ws e n lawful h f =
     let m = tree_made limit ws (Ok n) h in
     let r = is_read (has_large_table m.tree) (nat_lt limit (depth m.tree)) n _ m.what in
-    (m.tree, (lawful, (is_tree ws m.tree).0 m.is), r.small, ltb-false limit (depth m.tree) r.within, f ∙ ap (λ (x : Made). x.formula) r.same, same)
+    (m.tree, (lawful, (is_tree ws m.tree).0 m.is), r.small, ltb-false limit (depth m.tree) r.within, f ∙ ap (λ (x : Made). x.formula) r.same)
 
-pub answer_made : (limit next : ℕ) (ws : List Word) (o : Option (Result Built Unread)) → list_all is_lawful_word ws ≡ true → option_map operand_of o ≡ made_of (parts limit) ws → IsAnswer ws next limit (answer_on o next)
-answer_made limit next ws None lawful h = answer_form limit next ws h
-answer_made limit next ws (Some (Ok b)) lawful h = answer_read limit next next ws b.expr (built_of b) lawful h refl refl
-answer_made limit next ws (Some (Err Table)) lawful h = answer_table limit next ws lawful h
-answer_made limit next ws (Some (Err Deep)) lawful h = answer_deep limit next ws lawful h
+pub answer_made : (limit : ℕ) (ws : List Word) (o : Option (Result Built Unread)) → list_all is_lawful_word ws ≡ true → option_map operand_of o ≡ made_of (parts limit) ws → IsAnswer ws limit (answer_on o)
+answer_made limit ws None lawful h = answer_form limit ws h
+answer_made limit ws (Some (Ok b)) lawful h = answer_read limit ws b.expr (built_of b) lawful h refl
+answer_made limit ws (Some (Err Table)) lawful h = answer_table limit ws lawful h
+answer_made limit ws (Some (Err Deep)) lawful h = answer_deep limit ws lawful h
 
 -- ---- tables
 
@@ -168,15 +135,8 @@ small_tables (Table3 n a b c) h =
     let m = or_parts (has_large_table b) (has_large_table c) l.1 in
     rw (small_tables a l.0, small_tables b m.0, small_tables c m.1) refl
 
-abbrev HasSmall : ExprRead → Type 0
-HasSmall r = IfRead r (λ e. IsTrue (has_small_tables (raw_formula e)))
-
-answer_small : (limit end : ℕ) (ws : List Word) (r : ExprRead) → IsAnswer ws end limit r → HasSmall r
-answer_small limit end ws (Read e n) h = subst (λ f. has_small_tables f ≡ true) (sym h.4) (small_tables h.0 (not-true (has_large_table h.0) h.2))
-answer_small limit end ws Form h = tt
-answer_small limit end ws TableAnswer h = tt
-answer_small limit end ws DeepAnswer h = tt
-
-pub read_small : (limit end : ℕ) (ws : List Word) (r : Result ExprRead OutOfMemory) → IfOk r (IsAnswer ws end limit) → IfOk r HasSmall
-read_small limit end ws (Ok r) h = answer_small limit end ws r h
-read_small limit end ws (Err e) h = tt
+pub answer_small : (limit : ℕ) (ws : List Word) (r : ExprRead) → IsAnswer ws limit r → IfRead r (λ e. IsTrue (has_small_tables (raw_formula e)))
+answer_small limit ws (Read e) h = subst (λ f. has_small_tables f ≡ true) (sym h.4) (small_tables h.0 (not-true (has_large_table h.0) h.2))
+answer_small limit ws Form h = tt
+answer_small limit ws TableAnswer h = tt
+answer_small limit ws DeepAnswer h = tt
