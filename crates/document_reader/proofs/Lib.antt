@@ -5,3 +5,5 @@ mod NamesOnceLemmas
 mod NumberLemmas
 mod NumberedLemmas
 mod PairLemmas
+mod PieceLemmas
+mod TreeLemmas

@@ -1,13 +1,15 @@
 //! The weight of a rule, from its words.
 
-ghost use Rattle.std.specs.Prelude.{◌≡◌, ℕ, ◌^◌, ◌+◌, ◌-◌, ◌*◌, List, IfOk, Some, None, option_map, if◌then◌else◌, nat_lt};
+ghost use Rattle.std.specs.Prelude.{◌≡◌, false, ℕ, ◌^◌, ◌+◌, ◌-◌, ◌*◌, List, IfOk, Some, None, option_map, if◌then◌else◌, nat_lt};
 ghost use Rattle.truth_tables.specs.Grammar.{number_of};
 ghost use Rattle.document_forms.specs.Weights.{NumberForm, cost_of};
-ghost use Rattle.document_reader.specs.WeightReads.{IsRead, small_number};
+ghost use Rattle.document_reader.specs.WeightReads.{IsRead, small_number, either};
 
+mod exprs;
 mod facts;
 mod forms;
 mod once;
+mod pieces;
 
 use crate::names::NameTable;
 use document_forms::WeightText;
@@ -22,6 +24,30 @@ pub(crate) struct WeightFaults {
     pub(crate) unlawful: bool,
     /// An expression is too deep.
     pub(crate) deep: bool,
+}
+
+impl WeightFaults {
+    /// Nothing is amiss.
+    pub(crate) fn none() -> WeightFaults
+        ensures { result ≡ record { unknown = false; unlawful = false; deep = false } }
+    {
+        WeightFaults {
+            unknown: false,
+            unlawful: false,
+            deep: false,
+        }
+    }
+
+    /// What is amiss with one of two parts.
+    pub(crate) fn or(self, other: WeightFaults) -> WeightFaults
+        ensures { result ≡ either self other }
+    {
+        WeightFaults {
+            unknown: self.unknown || other.unknown,
+            unlawful: self.unlawful || other.unlawful,
+            deep: self.deep || other.deep,
+        }
+    }
 }
 
 /// A weight that was read: its value, if nothing is amiss, and what is.

@@ -7,7 +7,7 @@ use Rattle.document_reader.proofs.weights.facts.read_facts.Goals as goal
 
 pub loop-sign-init : goal.loop-sign-init
 loop-sign-init c =
-    ([], c.new-facts.ensures c.args.items.now, ap genkill_of (sym c.reborrow-left.ensures) ∙ all_signs c.reborrow-left.result)
+    ([], c.new-facts.ensures c.args.items.now, ap genkill_of (sym c.reborrow-left.ensures.same) ∙ all_signs c.reborrow-left.result)
 
 pub loop-sign-preserved : goal.loop-sign-preserved
 loop-sign-preserved c =

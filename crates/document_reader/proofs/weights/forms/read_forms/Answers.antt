@@ -7,7 +7,7 @@ use Rattle.document_reader.proofs.weights.forms.read_forms.Goals as goal
 
 pub loop-name-init : goal.loop-name-init
 loop-name-init c =
-    ([], c.new-forms.ensures c.args.items.now, ap copy_of (sym c.reborrow-left.ensures) ∙ all_pairs c.reborrow-left.result)
+    ([], c.new-forms.ensures c.args.items.now, ap copy_of (sym c.reborrow-left.ensures.same) ∙ all_pairs c.reborrow-left.result)
 
 pub returns-in_default-read_parts : goal.returns-in_default-read_parts
 returns-in_default-read_parts c =

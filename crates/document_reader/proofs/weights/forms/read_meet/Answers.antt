@@ -12,8 +12,8 @@ pub loop-part-init : goal.loop-part-init
 loop-part-init c =
     let none : HasParts c.args.items.now (Parts []) c.new-parts.result = search rules in
     record {
-      read = ([], none, ap parts_in (sym c.reborrow-left.ensures) ∙ read_none (parts_in c.reborrow-left.result));
-      rest = ap from_pair (sym c.reborrow-left.ensures);
+      read = ([], none, ap parts_in (sym c.reborrow-left.ensures.same) ∙ read_none (parts_in c.reborrow-left.result));
+      rest = ap from_pair (sym c.reborrow-left.ensures.same);
     }
 
 pub loop-part-preserved : goal.loop-part-preserved
