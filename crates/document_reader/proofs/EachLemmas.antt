@@ -1,5 +1,5 @@
 -- Pieces of words, read one by one.
-use Rattle.std.proofs.Common.{◌≡◌, Bool, true, false, cond, List, [], ◌∷◌, ◌++◌, Option, None, Some, refl, sym, ap, append_assoc}
+use Rattle.std.proofs.Common.{◌∙◌, ◌≡◌, Bool, true, false, cond, List, [], ◌∷◌, ◌++◌, Option, None, Some, refl, sym, ap, append_assoc}
 use Rattle.std.specs.Prelude.{option_map}
 use Rattle.wpds_port.specs.declared.Word.{Word}
 use Rattle.document_forms.specs.Lines.{in_front}
@@ -39,3 +39,14 @@ parted_cut test (w ∷ ws) = go (test w) (parted_cut test ws)
         ≡ cond t [] (w ∷ before test ws) ∷ others test (cond t (Some ws) (behind test ws))
     go true e = refl
     go false e = ap (in_front w) e
+
+-- ---- pieces that were read, and one more
+
+pub piece_more : {A B C : Type 0} (f : A → Option B) (c : List B → C) (all : Option C) (done : List B) (old : List A) (p : A) (ps : List A) (y : B)
+    → all ≡ option_map (λ more. c (done ++ more)) (each f old) → old ≡ p ∷ ps → f p ≡ Some y
+    → all ≡ option_map (λ more. c ((done ++ y ∷ []) ++ more)) (each f ps)
+piece_more f c all done old p ps y e o k =
+    e
+    ∙ ap (λ l. option_map (λ more. c (done ++ more)) (each f l)) o
+    ∙ ap (option_map (λ more. c (done ++ more))) (each_some f p ps y k)
+    ∙ read_more c done y (each f ps)

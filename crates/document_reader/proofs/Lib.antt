@@ -1,3 +1,4 @@
+mod ActionLemmas
 mod EachLemmas
 mod FactLemmas
 mod FormLemmas

@@ -1,3 +1,4 @@
+pub mod ActionReads
 pub mod FactReads
 pub mod FormReads
 pub mod NameTables

@@ -1,10 +1,12 @@
 //! The weight of a rule, from its words.
 
-ghost use Rattle.std.specs.Prelude.{◌≡◌, false, ℕ, ◌^◌, ◌+◌, ◌-◌, ◌*◌, List, IfOk, Some, None, option_map, if◌then◌else◌, nat_lt};
+ghost use Rattle.std.specs.Prelude.{◌≡◌, ◌∷◌, [], MatchOption, false, ℕ, ◌^◌, ◌+◌, ◌-◌, ◌*◌, List, IfOk, Some, None, option_map, if◌then◌else◌, nat_lt};
+ghost use Rattle.wpds_port.specs.Words.{word_of};
 ghost use Rattle.truth_tables.specs.Grammar.{number_of};
-ghost use Rattle.document_forms.specs.Weights.{NumberForm, cost_of};
-ghost use Rattle.document_reader.specs.WeightReads.{IsRead, small_number, either};
+ghost use Rattle.document_forms.specs.Weights.{NumberForm, cost_of, is_only, own_weight};
+ghost use Rattle.document_reader.specs.WeightReads.{IsRead, IsWeightRead, small_number, either};
 
+mod actions;
 mod exprs;
 mod facts;
 mod forms;
@@ -12,7 +14,12 @@ mod once;
 mod pieces;
 
 use crate::names::NameTable;
-use document_forms::WeightText;
+use crate::weights::actions::read_actions;
+use crate::weights::facts::read_facts;
+use crate::weights::forms::read_forms;
+use document_forms::{WeightText, WeightsLine};
+use std::alloc::Global;
+use wpds_base::OutOfMemory;
 use wpds_port::{Lexeme, Words};
 
 /// What is amiss with a weight that has its form.
@@ -55,6 +62,72 @@ impl WeightFaults {
 pub(crate) struct WeightRead {
     pub(crate) value: WeightText,
     pub(crate) faults: WeightFaults,
+}
+
+impl WeightRead {
+    // A weight with which nothing is amiss.
+    fn without_fault(value: WeightText) -> WeightRead
+        ensures value { result.value ≡ value }
+        ensures faults { result.faults
+            ≡ record { unknown = false; unlawful = false; deep = false } }
+    {
+        WeightRead {
+            value,
+            faults: WeightFaults::none(),
+        }
+    }
+}
+
+/// Reads the weight of a rule in a document with these weights, over its facts or variables.
+///
+/// Nothing is returned where the words are no such weight. It answers out of memory where it gets
+/// none.
+pub(crate) fn read_weight<'t>(
+    alloc: Global,
+    weights: WeightsLine,
+    items: &NameTable<'_>,
+    words: &Words<'t>,
+) -> Result<Option<WeightRead>, OutOfMemory>
+    ensures { IfOk result (IsWeightRead weights items.now words.now) }
+{
+    if let Some(word) = only_word(words) {
+        if Lexeme::Name(b"one").is(word) {
+            return Ok(Some(WeightRead::without_fault(WeightText::One)));
+        }
+        if Lexeme::Name(b"none").is(word) {
+            return Ok(Some(WeightRead::without_fault(WeightText::Zero)));
+        }
+    }
+    read_own(alloc, weights, items, words)
+}
+
+// The word, where the words are one.
+fn only_word<'t>(words: &Words<'t>) -> Option<Lexeme<'t>>
+    ensures { MatchOption result ((x : List ℕ) → is_only x words.now ≡ false)
+        (λ w. words.now ≡ word_of w ∷ []) }
+{
+    match words.split_first() {
+        Some((word, rest)) if rest.split_first().is_none() => Some(word),
+        _ => None,
+    }
+}
+
+// A weight that is written only in documents with these weights.
+fn read_own<'t>(
+    alloc: Global,
+    weights: WeightsLine,
+    items: &NameTable<'_>,
+    words: &Words<'t>,
+) -> Result<Option<WeightRead>, OutOfMemory>
+    ensures { IfOk result (IsRead items.now (own_weight weights words.now)) }
+{
+    match weights {
+        WeightsLine::Reach => Ok(None),
+        WeightsLine::Cost { .. } => Ok(read_cost(words)),
+        WeightsLine::GenKill => read_facts(alloc, items, words),
+        WeightsLine::Copy => read_forms(alloc, items, words),
+        WeightsLine::Relation => read_actions(alloc, items, words),
+    }
 }
 
 /// The number that digits write, if 64 bits hold it.
