@@ -13,11 +13,6 @@ or_false : (x : Bool) → (x || false) ≡ x
 or_false true = refl
 or_false false = refl
 
-or_swap : (x y z : Bool) → (x || (y || z)) ≡ (y || (x || z))
-or_swap true true z = refl
-or_swap true false z = refl
-or_swap false y z = refl
-
 pub any_append : {A : Type 0} (test : A → Bool) (xs ys : List A) → list_any test (xs ++ ys) ≡ (list_any test xs || list_any test ys)
 any_append test [] ys = refl
 any_append test (x ∷ xs) ys = ap (λ b. test x || b) (any_append test xs ys) ∙ sym (or_assoc (test x) (list_any test xs) (list_any test ys))

@@ -3,7 +3,7 @@ use Rattle.std.proofs.Common.{◌≡◌, ◌≤◌, ◌∙◌, ℕ, Bool, true, 
 use Rattle.std.specs.Prelude.{not, ◌&&◌, ◌||◌, ◌==◌, nat_le, is_some, is_none, unwrap_or, codes}
 use Rattle.std.proofs.lemmas.Bool.{or_parts, le-leb}
 use Rattle.wpds_base.specs.Faults.{first_fault}
-use Rattle.wpds_base.specs.Limits.{most_pushed, most_copied}
+use Rattle.wpds_base.specs.Limits.{most_rules, most_pushed, most_copied}
 use Rattle.wpds_port.specs.declared.Kind.TheVariants.{Twice, Unknown, WeightText, Return, Count}
 use Rattle.wpds_port.specs.declared.Mark.TheVariants.{Arrow, Implies, Becomes, Differs, Colon, Semicolon, Comma, Dot, Star, Plus, Minus, Equal, Question, Not, And, Or, Xor, Open, Close, OpenBrace, CloseBrace}
 use Rattle.wpds_port.specs.declared.Word.{Word}
@@ -130,8 +130,21 @@ module _ (a : Above) (f : RuleForm) (p : RuleParts) (is : AreParts a f p) where
   same_amiss : weight_amiss p.weight ≡ (is_none weight_form || unwrap_or (option_map is_unlawful weight_form) false)
   same_amiss = of_weight (λ o. is_none o || unwrap_or (option_map is_unlawful o) false) weight_amiss (λ e. refl) (λ r x e m. m.unlawful)
 
-  same_deep : weight_deep p.weight ≡ unwrap_or (option_map is_deep weight_form) false
-  same_deep = of_weight (λ o. unwrap_or (option_map is_deep o) false) weight_deep (λ e. refl) (λ r x e m. m.deep)
+  abbrev is_amiss : Bool
+  is_amiss = is_none weight_form || unwrap_or (option_map is_unlawful weight_form) false
+
+  -- a weight that is amiss is refused before its depth counts
+  same_deep : is_amiss ≡ false → weight_deep p.weight ≡ unwrap_or (option_map is_deep weight_form) false
+  same_deep h =
+      of_weight (λ o. unwrap_or (option_map is_deep o) false) weight_deep (λ e. refl)
+      (λ r x e m. m.deep (sym (ap (λ o. is_none o || unwrap_or (option_map is_unlawful o) false) e) ∙ h))
+
+  before_count : (t u w m c d : Bool) → (w ≡ false → c ≡ d)
+      → first_fault ((t, Twice) ∷ (u, Unknown) ∷ (w, WeightText) ∷ (m, Return) ∷ (c, Count) ∷ []) ≡ first_fault ((t, Twice) ∷ (u, Unknown) ∷ (w, WeightText) ∷ (m, Return) ∷ (d, Count) ∷ [])
+  before_count true u w m c d h = refl
+  before_count false true w m c d h = refl
+  before_count false false true m c d h = refl
+  before_count false false false m c d h = ap (λ x. first_fault ((m, Return) ∷ (x, Count) ∷ [])) (h refl)
 
   same_unknown : is_unknown p ≡ has_unknown_name a f weight_form back_form
   same_unknown =
@@ -155,7 +168,9 @@ module _ (a : Above) (f : RuleForm) (p : RuleParts) (is : AreParts a f p) where
       ∙ ap (λ t. first_fault ((has_map_twice back_form, Twice) ∷ (t, Unknown) ∷ (weight_amiss p.weight, WeightText) ∷ (is_misplaced p, Return) ∷ (weight_deep p.weight || p.full, Count) ∷ [])) same_unknown
       ∙ ap (λ t. first_fault ((has_map_twice back_form, Twice) ∷ (has_unknown_name a f weight_form back_form, Unknown) ∷ (t, WeightText) ∷ (is_misplaced p, Return) ∷ (weight_deep p.weight || p.full, Count) ∷ [])) same_amiss
       ∙ ap (λ t. first_fault ((has_map_twice back_form, Twice) ∷ (has_unknown_name a f weight_form back_form, Unknown) ∷ (is_none weight_form || unwrap_or (option_map is_unlawful weight_form) false, WeightText) ∷ (t, Return) ∷ (weight_deep p.weight || p.full, Count) ∷ [])) same_misplaced
-      ∙ ap (λ t. first_fault ((has_map_twice back_form, Twice) ∷ (has_unknown_name a f weight_form back_form, Unknown) ∷ (is_none weight_form || unwrap_or (option_map is_unlawful weight_form) false, WeightText) ∷ ((is_some f.back && not (length f.right == 2)) || is_foreign_map a.weights back_form, Return) ∷ (t, Count) ∷ [])) (ap₂ (λ s t. s || t) same_deep is.full)
+      ∙ before_count (has_map_twice back_form) (has_unknown_name a f weight_form back_form) is_amiss ((is_some f.back && not (length f.right == 2)) || is_foreign_map a.weights back_form)
+      (weight_deep p.weight || p.full) (unwrap_or (option_map is_deep weight_form) false || nat_le most_rules a.rules)
+      (λ h. ap₂ (λ s t. s || t) (same_deep h) is.full)
 
   -- ---- nothing is amiss
 

@@ -1,14 +1,23 @@
 //! The weight of a rule, from its words.
 
-ghost use Rattle.std.specs.Prelude.{◌≡◌, ℕ, ◌^◌, ◌+◌, ◌-◌, ◌*◌, List, IfOk, Some, None, option_map, if◌then◌else◌, nat_lt};
+ghost use Rattle.std.specs.Prelude.{◌≡◌, ◌∷◌, [], MatchOption, false, ℕ, ◌^◌, ◌+◌, ◌-◌, ◌*◌, List, IfOk, Some, None, option_map, if◌then◌else◌, nat_lt};
+ghost use Rattle.wpds_port.specs.Words.{word_of};
 ghost use Rattle.truth_tables.specs.Grammar.{number_of};
-ghost use Rattle.document_forms.specs.Weights.{NumberForm, OneForm, cost_of};
-ghost use Rattle.document_reader.specs.WeightReads.{IsRead, IsReadAs, IsWeightRead, small_number};
+ghost use Rattle.document_forms.specs.Weights.{NumberForm, OneForm, cost_of, is_only, own_weight};
+ghost use Rattle.document_reader.specs.WeightReads.{IsRead, IsReadAs, IsWeightRead, either};
 
+mod actions;
+mod exprs;
 mod facts;
+mod forms;
 pub(crate) mod once;
+mod pieces;
 
+use crate::digits::number;
 use crate::names::NameTable;
+use crate::weights::actions::read_actions;
+use crate::weights::facts::read_facts;
+use crate::weights::forms::read_forms;
 use document_forms::{WeightText, WeightsLine};
 use std::alloc::Global;
 use wpds_base::OutOfMemory;
@@ -25,6 +34,30 @@ pub(crate) struct WeightFaults {
     pub(crate) deep: bool,
 }
 
+impl WeightFaults {
+    /// Nothing is amiss.
+    pub(crate) fn none() -> WeightFaults
+        ensures { result ≡ record { unknown = false; unlawful = false; deep = false } }
+    {
+        WeightFaults {
+            unknown: false,
+            unlawful: false,
+            deep: false,
+        }
+    }
+
+    /// What is amiss with one of two parts.
+    pub(crate) fn or(self, other: WeightFaults) -> WeightFaults
+        ensures { result ≡ either self other }
+    {
+        WeightFaults {
+            unknown: self.unknown || other.unknown,
+            unlawful: self.unlawful || other.unlawful,
+            deep: self.deep || other.deep,
+        }
+    }
+}
+
 /// A weight that was read: its value, if nothing is amiss, and what is.
 #[derive(Debug, Drop)]
 pub(crate) struct WeightRead {
@@ -32,30 +65,76 @@ pub(crate) struct WeightRead {
     pub(crate) faults: WeightFaults,
 }
 
-/// The number that digits write, if 64 bits hold it.
-pub(crate) fn number(digits: &[u8]) -> Option<u64>
-    ensures { result ≡ small_number digits.now }
-{
-    let mut number = 0;
-    for digit in digits {
-        match with_digit(number, *digit) {
-            Some(longer) => number = longer,
-            None => return None,
+impl WeightRead {
+    /// The weight of a rule that has none.
+    pub(crate) fn one() -> WeightRead
+        ensures { (items : List (List ℕ)) → IsReadAs items OneForm result }
+    {
+        WeightRead::without_fault(WeightText::One)
+    }
+
+    // A weight with which nothing is amiss.
+    fn without_fault(value: WeightText) -> WeightRead
+        ensures value { result.value ≡ value }
+        ensures faults { result.faults
+            ≡ record { unknown = false; unlawful = false; deep = false } }
+    {
+        WeightRead {
+            value,
+            faults: WeightFaults::none(),
         }
     }
-    Some(number)
 }
 
-// The number with a digit more, if 64 bits hold it.
-fn with_digit(number: u64, digit: u8) -> Option<u64>
-    ensures { result ≡ (let longer = 10 * number + (digit - 48) in
-        if nat_lt longer (2 ^ 64) then Some longer else None) }
+/// Reads the weight of a rule in a document with these weights, over its facts or variables.
+///
+/// Nothing is returned where the words are no such weight. It answers out of memory where it gets
+/// none.
+pub(crate) fn read_weight<'t>(
+    alloc: Global,
+    weights: WeightsLine,
+    items: &NameTable<'_>,
+    words: &Words<'t>,
+) -> Result<Option<WeightRead>, OutOfMemory>
+    ensures { IfOk result (IsWeightRead weights items.now words.now) }
 {
-    let longer = 10 * u128::from(number) + u128::from(digit.saturating_sub(b'0'));
-    if longer < 1 << 64 {
-        Some(longer as u64)
-    } else {
-        None
+    if let Some(word) = only_word(words) {
+        if Lexeme::Name(b"one").is(word) {
+            return Ok(Some(WeightRead::without_fault(WeightText::One)));
+        }
+        if Lexeme::Name(b"none").is(word) {
+            return Ok(Some(WeightRead::without_fault(WeightText::Zero)));
+        }
+    }
+    read_own(alloc, weights, items, words)
+}
+
+// The word, where the words are one.
+fn only_word<'t>(words: &Words<'t>) -> Option<Lexeme<'t>>
+    ensures { MatchOption result ((x : List ℕ) → is_only x words.now ≡ false)
+        (λ w. words.now ≡ word_of w ∷ []) }
+{
+    match words.split_first() {
+        Some((word, rest)) if rest.split_first().is_none() => Some(word),
+        _ => None,
+    }
+}
+
+// A weight that is written only in documents with these weights.
+fn read_own<'t>(
+    alloc: Global,
+    weights: WeightsLine,
+    items: &NameTable<'_>,
+    words: &Words<'t>,
+) -> Result<Option<WeightRead>, OutOfMemory>
+    ensures { IfOk result (IsRead items.now (own_weight weights words.now)) }
+{
+    match weights {
+        WeightsLine::Reach => Ok(None),
+        WeightsLine::Cost { .. } => Ok(read_cost(words)),
+        WeightsLine::GenKill => read_facts(alloc, items, words),
+        WeightsLine::Copy => read_forms(alloc, items, words),
+        WeightsLine::Relation => read_actions(alloc, items, words),
     }
 }
 
@@ -83,32 +162,4 @@ fn only_number<'t>(words: &Words<'t>) -> Option<&'t [u8]>
         Some((Lexeme::Number(digits), rest)) if rest.split_first().is_none() => Some(digits),
         _ => None,
     }
-}
-
-impl WeightRead {
-    /// The weight of a rule that has none.
-    pub(crate) fn one() -> WeightRead
-        ensures { (items : List (List ℕ)) → IsReadAs items OneForm result }
-    {
-        WeightRead {
-            value: WeightText::One,
-            faults: WeightFaults {
-                unknown: false,
-                unlawful: false,
-                deep: false,
-            },
-        }
-    }
-}
-
-// STUB
-pub(crate) fn read_weight(
-    alloc: Global,
-    weights: WeightsLine,
-    items: &NameTable<'_>,
-    words: &Words<'_>,
-) -> Result<Option<WeightRead>, OutOfMemory>
-    ensures { IfOk result (IsWeightRead weights items.now words.now) }
-{
-    Err(OutOfMemory)
 }

@@ -1,0 +1,174 @@
+-- Actions that were read, and one more.
+use Rattle.std.proofs.Common.{◌≡◌, ℕ, ◌+◌, ◌<◌, ◌≤◌, Bool, true, false, not, ◌||◌, List, [], ◌∷◌, ◌++◌, length, get_or, map, min, Option, None, Some, refl, sym, ap, ap₂, ◌∙◌, subst, arith, length-append}
+use Rattle.std.specs.Prelude.{nat_lt, ◌==◌, zip, flat_map, option_map, IsTrue, codes}
+use Rattle.std.specs.List.{list_any}
+use Rattle.std.proofs.lemmas.Bool.{or_parts, or_from, not-true}
+use Rattle.std.proofs.lemmas.Bool.Decides.{nat_tests}
+use Rattle.std.proofs.lemmas.List.{map-append}
+use Rattle.std.proofs.Math.Path.{fun_ext}
+use Rattle.wpds_port.specs.declared.Mark.TheVariants.{Becomes}
+use Rattle.wpds_port.specs.declared.Word.{Word}
+use Rattle.wpds_port.specs.declared.Word.TheVariants.{Name, Number, Mark as Sign}
+use Rattle.wpds_port.specs.Words.{same_word}
+use Rattle.truth_tables.specs.Grammar.{Tree, has_large_table}
+use Rattle.document_forms.specs.declared.weight.Assignment.{Assignment}
+use Rattle.document_forms.specs.Names.{number_in, has_unknown, is_among, has_twice}
+use Rattle.document_forms.specs.Words.{is_comma, is_becomes, before, behind, parted, parted_outside, name_of, each, each_of_some, ◌>>=◌}
+use Rattle.document_forms.specs.Weights.{ValueForm, ActionForm, ActionsForm, AssignForm, target_of, value_of as value_form, assign_of}
+use Rattle.document_forms.specs.Kinds.{value_names, value_trees, action_names, action_trees, is_uneven, is_unlawful, is_deep}
+use Rattle.document_forms.specs.Documents.{value_of, action_value, assignment_of}
+use Rattle.document_reader.specs.declared.weights.WeightFaults.{WeightFaults}
+use Rattle.document_reader.specs.declared.weights.actions.ActionRead.{ActionRead}
+use Rattle.document_reader.specs.declared.weights.actions.ActionsRead.{ActionsRead}
+use Rattle.document_reader.specs.declared.weights.actions.Values.{Values}
+use Rattle.document_reader.specs.declared.weights.exprs.ValueRead.{ValueRead}
+use Rattle.document_reader.specs.WeightReads.{is_sound, either}
+use Rattle.document_reader.specs.TreeReads.{HasFaults, HasValue, is_too_deep}
+use Rattle.document_reader.specs.ActionReads.{sides_of, HasValues, HasAction, HasActions, assigned}
+use Rattle.document_reader.proofs.NamesOnceLemmas.{any_append, any_push}
+use Rattle.document_reader.proofs.EachLemmas.{read_more}
+use Rattle.document_reader.proofs.FormLemmas.{flat_map_push}
+use Rattle.document_reader.proofs.TreeLemmas.{sound_parts}
+
+-- ---- faults of two parts
+
+pub either_faults : (u v l m d e : Bool) (f g : WeightFaults) → HasFaults u l d f → HasFaults v m e g → HasFaults (u || v) (l || m) (d || e) (either f g)
+either_faults u v l m d e f g a b = record {
+  unknown = ap₂ (λ x y. x || y) a.unknown b.unknown;
+  unlawful = ap₂ (λ x y. x || y) a.unlawful b.unlawful;
+  deep = λ h. let k = or_parts l m h in ap₂ (λ x y. x || y) (a.deep k.0) (b.deep k.1);
+}
+
+-- the same faults, told otherwise
+pub told_as : (u v l m d e : Bool) (f : WeightFaults) → u ≡ v → l ≡ m → d ≡ e → HasFaults u l d f → HasFaults v m e f
+told_as u v l m d e f p q r h = record { unknown = h.unknown ∙ p; unlawful = h.unlawful ∙ q; deep = λ k. h.deep (q ∙ k) ∙ r }
+
+pub sound_both : (f g : WeightFaults) → is_sound (either f g) ≡ true → (is_sound f ≡ true) × (is_sound g ≡ true)
+sound_both f g h =
+    let p = sound_parts (either f g) h in
+    let u = or_parts f.unknown g.unknown p.0 in
+    let l = or_parts f.unlawful g.unlawful p.1 in
+    let d = or_parts f.deep g.deep p.2 in
+    (sound f u.0 l.0 d.0, sound g u.1 l.1 d.1)
+  where
+    sound : (f : WeightFaults) → f.unknown ≡ false → f.unlawful ≡ false → f.deep ≡ false → is_sound f ≡ true
+    sound f u l d = ap not (or_from f.unknown (f.unlawful || f.deep) u (or_from f.unlawful f.deep l d))
+
+any_more : {A X : Type 0} (test : A → Bool) (f : X → List A) (xs : List X) (x : X) → (list_any test (flat_map f xs) || list_any test (f x)) ≡ list_any test (flat_map f (xs ++ x ∷ []))
+any_more test f xs x = sym (ap (list_any test) (flat_map_push f xs x) ∙ any_append test (flat_map f xs) (f x))
+
+-- ---- values
+
+pub values_faults : (items : List (List ℕ)) (vs : List ValueForm) (v : ValueForm) (f g : WeightFaults)
+    → HasFaults (has_unknown items (flat_map value_names vs)) (list_any has_large_table (flat_map value_trees vs)) (list_any is_too_deep (flat_map value_trees vs)) f
+    → HasFaults (has_unknown items (value_names v)) (list_any has_large_table (value_trees v)) (list_any is_too_deep (value_trees v)) g
+    → HasFaults (has_unknown items (flat_map value_names (vs ++ v ∷ []))) (list_any has_large_table (flat_map value_trees (vs ++ v ∷ []))) (list_any is_too_deep (flat_map value_trees (vs ++ v ∷ []))) (either f g)
+values_faults items vs v f g a b =
+    told_as _ _ _ _ _ _ (either f g)
+    (any_more (λ x. not (is_among items x)) value_names vs v)
+    (any_more has_large_table value_trees vs v)
+    (any_more is_too_deep value_trees vs v)
+    (either_faults _ _ _ _ _ _ f g a b)
+
+zip_none : (ts : List ℕ) → zip {X = ValueForm} ts [] ≡ []
+zip_none [] = refl
+zip_none (t ∷ ts) = refl
+
+zip_more : (ts : List ℕ) (vs : List ValueForm) (v : ValueForm) → length vs < length ts → zip ts (vs ++ v ∷ []) ≡ zip ts vs ++ (get_or ts (length vs) 0, v) ∷ []
+zip_more [] vs v h = absurd (omega arith)
+zip_more (t ∷ ts) [] v h = ap (λ l. (t, v) ∷ l) (zip_none ts)
+zip_more (t ∷ ts) (w ∷ vs) v h = ap (λ l. (t, w) ∷ l) (zip_more ts vs v (omega arith))
+
+zip_full : (ts : List ℕ) (vs : List ValueForm) (v : ValueForm) → length ts ≤ length vs → zip ts (vs ++ v ∷ []) ≡ zip ts vs
+zip_full [] vs v h = refl
+zip_full (t ∷ ts) [] v h = absurd (omega arith)
+zip_full (t ∷ ts) (w ∷ vs) v h = ap (λ l. (t, w) ∷ l) (zip_full ts vs v (omega arith))
+
+pub assigned_more : (items : List (List ℕ)) (ts : List ℕ) (vs : List ValueForm) (v : ValueForm) → length vs < length ts
+    → map (assigned items) (zip ts (vs ++ v ∷ [])) ≡ map (assigned items) (zip ts vs) ++ record { variable = get_or ts (length vs) 0; value = value_of items v } ∷ []
+assigned_more items ts vs v h =
+    ap (map (assigned items)) (zip_more ts vs v h) ∙ map-append (assigned items) (zip ts vs) ((get_or ts (length vs) 0, v) ∷ [])
+
+pub assigned_full : (items : List (List ℕ)) (ts : List ℕ) (vs : List ValueForm) (v : ValueForm) → length ts ≤ length vs
+    → map (assigned items) (zip ts (vs ++ v ∷ [])) ≡ map (assigned items) (zip ts vs)
+assigned_full items ts vs v h = ap (map (assigned items)) (zip_full ts vs v h)
+
+-- the targets' names in place of their numbers
+pub by_names : (items xs : List (List ℕ)) (vs : List ValueForm) → map (assigned items) (zip (map (number_in items) xs) vs) ≡ map (assignment_of items) (zip xs vs)
+by_names items [] vs = refl
+by_names items (x ∷ xs) [] = refl
+by_names items (x ∷ xs) (v ∷ vs) = ap (λ l. record { variable = number_in items x; value = value_of items v } ∷ l) (by_names items xs vs)
+
+pub uneven_counts : (t v : ℕ) → (nat_lt t v || nat_lt (min t v) t) ≡ not (t == v)
+uneven_counts t v = grind (arith, nat_tests)
+
+-- ---- actions
+
+regroup : (a b c d : Bool) → ((a || b) || (c || d)) ≡ ((a || c) || (b || d))
+regroup true b c d = refl
+regroup false true true d = refl
+regroup false true false d = refl
+regroup false false c d = refl
+
+pub actions_faults : (items : List (List ℕ)) (acts : List ActionForm) (a : ActionForm) (f g : WeightFaults)
+    → HasFaults (has_unknown items (flat_map action_names acts)) (is_unlawful (ActionsForm acts)) (is_deep (ActionsForm acts)) f
+    → HasFaults (has_unknown items (action_names a)) (is_uneven a || list_any has_large_table (action_trees a)) (list_any is_too_deep (action_trees a)) g
+    → HasFaults (has_unknown items (flat_map action_names (acts ++ a ∷ []))) (is_unlawful (ActionsForm (acts ++ a ∷ []))) (is_deep (ActionsForm (acts ++ a ∷ []))) (either f g)
+actions_faults items acts a f g p q =
+    told_as _ _ _ _ _ _ (either f g)
+    (any_more (λ x. not (is_among items x)) action_names acts a)
+    (regroup (list_any is_uneven acts) (list_any has_large_table (flat_map action_trees acts)) (is_uneven a) (list_any has_large_table (action_trees a))
+    ∙ ap₂ (λ x y. x || y) (sym (any_push is_uneven acts a)) (any_more has_large_table action_trees acts a))
+    (any_more is_too_deep action_trees acts a)
+    (either_faults _ _ _ _ _ _ f g p q)
+
+-- how many targets have a value so far, where one more has
+
+pub count_below : (t d s : ℕ) → s ≡ min t d → s < t → (d < t) × (s ≡ d)
+count_below t d s e h = (omega arith, omega arith)
+
+pub count_full : (t d s : ℕ) → s ≡ min t d → t ≤ s → t ≤ d
+count_full t d s e h = omega arith
+
+pub no_zip : (items : List (List ℕ)) (ts : List ℕ) → map (assigned items) (zip ts []) ≡ []
+no_zip items ts = ap (map (assigned items)) (zip_none ts)
+
+-- ---- the parts of an action
+
+becomes_test : same_word (Sign Becomes) ≡ is_becomes
+becomes_test = fun_ext go
+  where
+    go : (w : Word) → same_word (Sign Becomes) w ≡ is_becomes w
+    go (Name x) = refl
+    go (Number n) = refl
+    go (Sign Becomes) = refl
+    go (Sign m) = refl
+
+abbrev cut_in_two : List Word → Option (List Word) → Option ActionForm
+cut_in_two front back =
+    each target_of (parted is_comma front) >>= λ targets.
+    back >>= λ text.
+    each value_form (parted_outside 0 is_comma text) >>= λ values. Some (AssignForm targets values)
+
+pub both_sides : (ws front back : List Word)
+    → front ≡ before (same_word (Sign Becomes)) ws → Some back ≡ behind (same_word (Sign Becomes)) ws
+    → assign_of ws ≡ sides_of front back
+both_sides ws front back f b =
+    sym (ap (λ test. cut_in_two (before test ws) (behind test ws)) becomes_test) ∙ sym (ap₂ cut_in_two f b)
+
+pub sides_read : (front back : List Word) (xs : List (List ℕ)) (vs : List ValueForm)
+    → each target_of (parted is_comma front) ≡ Some xs → each value_form (parted_outside 0 is_comma back) ≡ Some vs
+    → sides_of front back ≡ Some (AssignForm xs vs)
+sides_read front back xs vs t v =
+    ap (λ o. o >>= λ targets. each value_form (parted_outside 0 is_comma back) >>= λ values. Some (AssignForm targets values)) t
+    ∙ ap (λ o. o >>= λ values. Some (AssignForm xs values)) v
+
+pub choose_more : (ws left rest : List Word) (done : List (List ℕ)) (x : List ℕ) (w : Word) (more : List Word)
+    → each_of_some name_of ws ≡ option_map (λ more. done ++ more) (each_of_some name_of left)
+    → left ≡ Name x ∷ rest → rest ≡ w ∷ more
+    → each_of_some name_of ws ≡ option_map (λ more. (done ++ x ∷ []) ++ more) (each_of_some name_of rest)
+choose_more ws left rest done x w more e l r =
+    e
+    ∙ ap (λ us. option_map (λ more. done ++ more) (each_of_some name_of us)) l
+    ∙ read_more (λ us. us) done x (each name_of rest)
+    ∙ ap (option_map (λ more. (done ++ x ∷ []) ++ more)) (ap (each name_of) r ∙ sym (ap (each_of_some name_of) r))
