@@ -291,7 +291,7 @@ fn read_targets<'t>(
 ) -> Result<Option<Targets<'t>>, OutOfMemory>
     ensures { IfOk result (λ read. MatchOption read (each target_of (parted is_comma words.now) ≡ None)
         (λ t. (xs : List (List ℕ)) × (each target_of (parted is_comma words.now) ≡ Some xs)
-            × HasTargets items.now xs t)) }
+        × HasTargets items.now xs t)) }
 {
     let mut targets = Targets::new(alloc);
     let mut pieces = Pieces::new(Cut::Commas, words);
@@ -322,7 +322,7 @@ fn read_values<'t>(
     ensures { IfOk result (λ read.
         MatchOption read (each value_of (parted_outside 0 is_comma words.now) ≡ None)
         (λ r. (vs : List ValueForm) × (each value_of (parted_outside 0 is_comma words.now) ≡ Some vs)
-            × HasValues items.now targets.now vs r)) }
+        × HasValues items.now targets.now vs r)) }
 {
     let mut values = Values::new(alloc);
     let mut pieces = Pieces::new(Cut::OutsideCommas, words);

@@ -19,7 +19,7 @@ returns-in_ok-numbered-in-Read c =
     let read = subst (λ r. IsAnswer c.reborrow-text.result 64 r) c.in-Read.is c.in_ok-raw.ensures.answer in
     let e = read.0 in
     let names = subst (λ ws. has_unknown items (tree_variables e) ≡ has_unknown items (map word_text (filter is_variable_word ws))) same
-        (ap (has_unknown items) (c.variables_among_words.ensures c.reborrow-text.result e read.1)) in
+    (ap (has_unknown items) (c.variables_among_words.ensures c.reborrow-text.result e read.1)) in
     let unknown = c.has_unknown_variable-unknown.ensures ∙ sym names in (
       e,
       ap tree_of (sym same) ∙ (c.one_tree.ensures c.reborrow-text.result e).1 read.1.1,
