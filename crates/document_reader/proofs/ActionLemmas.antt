@@ -1,31 +1,25 @@
 -- Actions that were read, and one more.
-use Rattle.std.proofs.Common.{◌≡◌, ℕ, ◌+◌, ◌<◌, ◌≤◌, Bool, true, false, not, ◌||◌, List, [], ◌∷◌, ◌++◌, length, get_or, map, min, Option, None, Some, refl, sym, ap, ap₂, ◌∙◌, subst, arith, length-append}
-use Rattle.std.specs.Prelude.{nat_lt, ◌==◌, zip, flat_map, option_map, IsTrue, codes}
+use Rattle.std.proofs.Common.{◌≡◌, ℕ, ◌<◌, ◌≤◌, Bool, true, false, not, ◌||◌, List, [], ◌∷◌, ◌++◌, length, get_or, map, min, Option, Some, refl, sym, ap, ap₂, ◌∙◌, arith}
+use Rattle.std.specs.Prelude.{zip, flat_map, option_map}
 use Rattle.std.specs.List.{list_any}
-use Rattle.std.proofs.lemmas.Bool.{or_parts, or_from, not-true}
-use Rattle.std.proofs.lemmas.Bool.Decides.{nat_tests}
+use Rattle.std.proofs.lemmas.Bool.{or_parts, or_from}
 use Rattle.std.proofs.lemmas.List.{map-append}
 use Rattle.std.proofs.Math.Path.{fun_ext}
 use Rattle.wpds_port.specs.declared.Mark.TheVariants.{Becomes}
 use Rattle.wpds_port.specs.declared.Word.{Word}
 use Rattle.wpds_port.specs.declared.Word.TheVariants.{Name, Number, Mark as Sign}
 use Rattle.wpds_port.specs.Words.{same_word}
-use Rattle.truth_tables.specs.Grammar.{Tree, has_large_table}
-use Rattle.document_forms.specs.declared.weight.Assignment.{Assignment}
-use Rattle.document_forms.specs.Names.{number_in, has_unknown, is_among, has_twice}
+use Rattle.truth_tables.specs.Grammar.{has_large_table}
+use Rattle.document_forms.specs.Names.{number_in, has_unknown, is_among}
 use Rattle.document_forms.specs.Words.{is_comma, is_becomes, before, behind, parted, parted_outside, name_of, each, each_of_some, ◌>>=◌}
-use Rattle.document_forms.specs.Weights.{ValueForm, ActionForm, ActionsForm, AssignForm, target_of, value_of as value_form, assign_of}
-use Rattle.document_forms.specs.Kinds.{value_names, value_trees, action_names, action_trees, is_uneven, is_unlawful, is_deep}
-use Rattle.document_forms.specs.Documents.{value_of, action_value, assignment_of}
+use Rattle.document_forms.specs.Weights.{ValueForm, ActionForm, AssignForm, target_of, value_of as value_form, assign_of}
+use Rattle.document_forms.specs.Kinds.{value_names, value_trees}
+use Rattle.document_forms.specs.Documents.{value_of, assignment_of}
 use Rattle.document_reader.specs.declared.weights.WeightFaults.{WeightFaults}
-use Rattle.document_reader.specs.declared.weights.actions.ActionRead.{ActionRead}
-use Rattle.document_reader.specs.declared.weights.actions.ActionsRead.{ActionsRead}
-use Rattle.document_reader.specs.declared.weights.actions.Values.{Values}
-use Rattle.document_reader.specs.declared.weights.exprs.ValueRead.{ValueRead}
 use Rattle.document_reader.specs.WeightReads.{is_sound, either}
-use Rattle.document_reader.specs.TreeReads.{HasFaults, HasValue, is_too_deep}
-use Rattle.document_reader.specs.ActionReads.{sides_of, HasValues, HasAction, HasActions, assigned}
-use Rattle.document_reader.proofs.NamesOnceLemmas.{any_append, any_push}
+use Rattle.document_reader.specs.TreeReads.{HasFaults, is_too_deep}
+use Rattle.document_reader.specs.ActionReads.{sides_of, assigned}
+use Rattle.document_reader.proofs.NamesOnceLemmas.{any_append}
 use Rattle.document_reader.proofs.EachLemmas.{read_more}
 use Rattle.document_reader.proofs.FormLemmas.{flat_map_push}
 use Rattle.document_reader.proofs.TreeLemmas.{sound_parts}
@@ -98,29 +92,6 @@ pub by_names : (items xs : List (List ℕ)) (vs : List ValueForm) → map (assig
 by_names items [] vs = refl
 by_names items (x ∷ xs) [] = refl
 by_names items (x ∷ xs) (v ∷ vs) = ap (λ l. record { variable = number_in items x; value = value_of items v } ∷ l) (by_names items xs vs)
-
-pub uneven_counts : (t v : ℕ) → (nat_lt t v || nat_lt (min t v) t) ≡ not (t == v)
-uneven_counts t v = grind (arith, nat_tests)
-
--- ---- actions
-
-regroup : (a b c d : Bool) → ((a || b) || (c || d)) ≡ ((a || c) || (b || d))
-regroup true b c d = refl
-regroup false true true d = refl
-regroup false true false d = refl
-regroup false false c d = refl
-
-pub actions_faults : (items : List (List ℕ)) (acts : List ActionForm) (a : ActionForm) (f g : WeightFaults)
-    → HasFaults (has_unknown items (flat_map action_names acts)) (is_unlawful (ActionsForm acts)) (is_deep (ActionsForm acts)) f
-    → HasFaults (has_unknown items (action_names a)) (is_uneven a || list_any has_large_table (action_trees a)) (list_any is_too_deep (action_trees a)) g
-    → HasFaults (has_unknown items (flat_map action_names (acts ++ a ∷ []))) (is_unlawful (ActionsForm (acts ++ a ∷ []))) (is_deep (ActionsForm (acts ++ a ∷ []))) (either f g)
-actions_faults items acts a f g p q =
-    told_as _ _ _ _ _ _ (either f g)
-    (any_more (λ x. not (is_among items x)) action_names acts a)
-    (regroup (list_any is_uneven acts) (list_any has_large_table (flat_map action_trees acts)) (is_uneven a) (list_any has_large_table (action_trees a))
-    ∙ ap₂ (λ x y. x || y) (sym (any_push is_uneven acts a)) (any_more has_large_table action_trees acts a))
-    (any_more is_too_deep action_trees acts a)
-    (either_faults _ _ _ _ _ _ f g p q)
 
 -- how many targets have a value so far, where one more has
 

@@ -1,5 +1,5 @@
 -- The first piece of words, and the others.
-use Rattle.std.proofs.Common.{◌≡◌, ℕ, Bool, true, false, cond, List, [], ◌∷◌, Option, None, Some, refl, sym, ap, ◌∙◌}
+use Rattle.std.proofs.Common.{◌≡◌, ℕ, Bool, true, false, List, [], ◌∷◌, Option, None, Some, refl, sym, ap, ◌∙◌}
 use Rattle.std.proofs.Math.Path.{fun_ext}
 use Rattle.std.specs.Prelude.{◌==◌, ◌&&◌}
 use Rattle.std.proofs.lemmas.Bool.{and_parts, eqb-true}
@@ -8,7 +8,7 @@ use Rattle.wpds_port.specs.declared.Word.{Word}
 use Rattle.wpds_port.specs.declared.Word.TheVariants.{Name, Number, Mark as Sign}
 use Rattle.wpds_port.specs.Words.{same_word, before, behind, before_outside, behind_outside, brackets_after}
 use Rattle.document_forms.specs.Lines.{in_front}
-use Rattle.document_forms.specs.Words.{is_comma, is_semicolon, parted, parted_outside}
+use Rattle.document_forms.specs.Words.{is_comma, is_semicolon, parted_outside}
 use Rattle.document_reader.specs.declared.weights.pieces.Cut.TheVariants.{Commas, Semicolons, OutsideCommas}
 use Rattle.document_reader.specs.Pieces.{pieces_of, pieces_left}
 use Rattle.document_reader.proofs.EachLemmas.{others, parted_cut}

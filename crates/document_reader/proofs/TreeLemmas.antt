@@ -1,8 +1,8 @@
 -- Expressions over items.
-use Rattle.std.proofs.Common.{◌≡◌, ◌↔◌, ℕ, ◌<◌, ◌≤◌, Bool, true, false, not, ◌||◌, List, [], ◌∷◌, ◌++◌, Option, None, Some, refl, sym, ap, ◌∙◌, subst, arith}
-use Rattle.std.specs.Prelude.{nat_lt, IsTrue, option_map}
-use Rattle.std.specs.List.{list_any, list_all}
-use Rattle.std.proofs.lemmas.Bool.{or_parts, or_from, and_parts, not-false, not-true, lt-ltb, le-ltb}
+use Rattle.std.proofs.Common.{◌≡◌, ◌↔◌, ℕ, ◌≤◌, Bool, true, false, not, ◌||◌, List, [], ◌∷◌, ◌++◌, Option, None, Some, refl, sym, ◌∙◌}
+use Rattle.std.specs.Prelude.{option_map}
+use Rattle.std.specs.List.{list_all}
+use Rattle.std.proofs.lemmas.Bool.{or_parts, not-false, not-true, le-ltb}
 use Rattle.wpds_base.specs.Limits.{most_depth}
 use Rattle.wpds_port.specs.declared.Word.{Word}
 use Rattle.wpds_port.specs.declared.Mark.TheVariants.{Star}
@@ -48,9 +48,6 @@ sound_parts f h =
 
 pub shallow : (e : Tree) → depth e ≤ most_depth → false ≡ is_too_deep e
 shallow e h = sym (le-ltb most_depth (depth e) h)
-
-pub deeper : (e : Tree) → most_depth < depth e → true ≡ is_too_deep e
-deeper e h = sym (lt-ltb most_depth (depth e) h)
 
 -- ---- values
 

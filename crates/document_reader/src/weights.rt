@@ -12,6 +12,8 @@ mod facts;
 mod forms;
 pub(crate) mod once;
 mod pieces;
+#[cfg(test)]
+mod tests;
 
 use crate::digits::number;
 use crate::names::NameTable;
@@ -26,11 +28,11 @@ use wpds_port::{Lexeme, Words};
 /// What is amiss with a weight that has its form.
 #[derive(Clone, Copy, Debug)]
 pub(crate) struct WeightFaults {
-    /// A name is no name of a fact or a variable.
+    /// A name is none of the facts or variables.
     pub(crate) unknown: bool,
     /// A number is too large, a name stands twice, or an assignment is uneven.
     pub(crate) unlawful: bool,
-    /// An expression is too deep.
+    /// An expression is too deep. This is told only where nothing is unlawful.
     pub(crate) deep: bool,
 }
 

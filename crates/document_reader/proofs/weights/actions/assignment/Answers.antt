@@ -1,14 +1,12 @@
 use Rattle.std.proofs.Common.{◌≡◌, true, false, not, ◌||◌, length, map, sym, ap, ap₂, ◌∙◌, subst, refl}
 use Rattle.std.specs.Prelude.{zip, flat_map, ◌==◌}
-use Rattle.std.specs.List.{list_any}
-use Rattle.truth_tables.specs.Grammar.{has_large_table}
 use Rattle.document_forms.specs.declared.weight.Action.TheVariants.{Assign}
 use Rattle.document_forms.specs.Names.{is_among, has_unknown}
 use Rattle.document_forms.specs.Weights.{AssignForm}
-use Rattle.document_forms.specs.Kinds.{value_names, value_trees, is_uneven}
+use Rattle.document_forms.specs.Kinds.{value_names, is_uneven}
 use Rattle.document_reader.specs.declared.weights.WeightFaults.{WeightFaults}
 use Rattle.document_reader.specs.WeightReads.{is_sound, either}
-use Rattle.document_reader.specs.TreeReads.{HasFaults, is_too_deep}
+use Rattle.document_reader.specs.TreeReads.{HasFaults}
 use Rattle.document_reader.specs.ActionReads.{HasValues, assigned}
 use Rattle.document_reader.proofs.NamesOnceLemmas.{any_append}
 use Rattle.document_reader.proofs.TreeLemmas.{sound_parts}

@@ -1,4 +1,4 @@
-use Rattle.std.proofs.Common.{sym, ap, ◌∙◌, subst}
+use Rattle.std.proofs.Common.{ap, subst}
 use Rattle.std.specs.Prelude.{option_map}
 use Rattle.document_forms.specs.declared.weight.Action.TheVariants.{Assume}
 use Rattle.document_forms.specs.Weights.{AssumeForm}

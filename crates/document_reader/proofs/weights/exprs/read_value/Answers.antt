@@ -1,4 +1,4 @@
-use Rattle.std.proofs.Common.{◌≡◌, Some, sym, ap, ◌∙◌, subst}
+use Rattle.std.proofs.Common.{sym, ap, ◌∙◌, subst}
 use Rattle.std.specs.Prelude.{option_map}
 use Rattle.document_forms.specs.declared.weight.ValueText.TheVariants.{Is}
 use Rattle.document_forms.specs.Weights.{TreeValue}
