@@ -1,3 +1,4 @@
+mod BodyLineLemmas
 mod DigitLemmas
 mod EdgeLemmas
 mod FactLemmas

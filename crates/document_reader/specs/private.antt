@@ -1,4 +1,5 @@
 pub mod Digits
 pub mod LineForms
+pub mod LineReads
 pub mod NameLines
 pub mod Returns

@@ -8,7 +8,7 @@ ghost use Rattle.document_reader.specs.Readings.{HasRead, above_now, only_weight
 
 use crate::lines::Lines;
 use crate::names::NameTable;
-use crate::stubs::read_line;
+use crate::body_lines::read_line;
 use document_forms::{QueryLine, RuleLine, WeightsLine, above_with_a_line};
 use std::alloc::Global;
 use wpds_port::{Kind, ReadFault, Refusal};
