@@ -1,26 +1,17 @@
 -- Lines behind the weights line.
-use Rattle.std.proofs.Common.{◌≡◌, ◌∙◌, ℕ, ◌≤◌, Bool, true, false, not, List, [], ◌∷◌, ◌++◌, length, Option, Some, None, refl, sym, ap, subst, append-nil, length-append, arith}
+use Rattle.std.proofs.Common.{◌≡◌, ◌∙◌, ℕ, ◌≤◌, true, List, [], ◌∷◌, ◌++◌, length, Option, Some, None, refl, sym, ap, subst, append-nil, length-append}
 use Rattle.std.specs.Global.{Vec}
-use Rattle.std.specs.Prelude.{option_map, nat_lt, ◌||◌, codes, IfNone, IfOk, Result, Ok, Err}
-use Rattle.std.specs.List.{list_any}
-use Rattle.std.proofs.lemmas.Bool.{or_parts, ltb-false}
-use Rattle.std.proofs.lemmas.Slice.Eq.{bytes_eq-Decides}
+use Rattle.std.specs.Prelude.{option_map, IfNone, IfOk, Result, Ok, Err}
 use Rattle.wpds_base.specs.Faults.{first_fault}
 use Rattle.wpds_base.specs.Lists.{IsOnce}
 use Rattle.wpds_port.specs.declared.Kind.{Kind}
-use Rattle.wpds_port.specs.declared.Kind.TheVariants.{Form, Twice, Count}
 use Rattle.wpds_port.specs.declared.Word.{Word}
-use Rattle.wpds_port.specs.declared.Word.TheVariants.{Name, Number, Mark as Sign}
-use Rattle.truth_tables.specs.Texts.{is_name}
-use Rattle.document_forms.specs.declared.weight.WeightsLine.{WeightsLine}
-use Rattle.document_forms.specs.declared.weight.WeightsLine.TheVariants.{Reach, Cost, GenKill, Copy, Relation}
-use Rattle.document_forms.specs.Above.{Above, has_class, most_names, item_class, class_names, with_line}
-use Rattle.document_forms.specs.Forms.{Class, Controls, Symbols, Facts, Variables, RuleForm, LineForm, OfWeights, OfNames, OfRule, OfQuery, names_of, rule_of, query_of, form_behind}
-use Rattle.document_forms.specs.Kinds.{conditions, names_conditions}
+use Rattle.document_forms.specs.Above.{Above, has_class, most_names, class_names, with_line}
+use Rattle.document_forms.specs.Forms.{Class, Controls, Symbols, Facts, Variables, RuleForm, LineForm, OfWeights, OfNames, OfRule, OfQuery, names_of, rule_of}
+use Rattle.document_forms.specs.Kinds.{conditions}
 use Rattle.document_forms.specs.FirstRefusal.{by_form}
-use Rattle.document_forms.specs.Names.{is_among, has_twice, once}
 use Rattle.document_forms.specs.declared.document.RuleLine.{RuleLine}
-use Rattle.document_forms.proofs.CallerLemmas.{once_joined}
+use Rattle.document_forms.proofs.CallerLemmas.{names_few, facts_limit, variables_limit}
 use Rattle.document_reader.specs.declared.reading.Reading.{Reading}
 use Rattle.document_reader.specs.declared.rules.RuleRead.{RuleRead}
 use Rattle.document_reader.specs.Readings.{above_now, TakesForm}
@@ -31,20 +22,10 @@ use Rattle.document_reader.specs.private.NameLines.{kind_of_names, Declares}
 -- ---- names
 
 -- the reading with other names of a class
-abbrev pub with_controls : Reading → List (List ℕ) → Reading
-with_controls r xs = record { weights = r.weights; controls = xs; symbols = r.symbols; items = r.items; rules = r.rules; queries = r.queries }
-
-abbrev pub with_symbols : Reading → List (List ℕ) → Reading
-with_symbols r xs = record { weights = r.weights; controls = r.controls; symbols = xs; items = r.items; rules = r.rules; queries = r.queries }
-
-abbrev pub with_items : Reading → List (List ℕ) → Reading
-with_items r xs = record { weights = r.weights; controls = r.controls; symbols = r.symbols; items = xs; rules = r.rules; queries = r.queries }
-
 abbrev pub with_names : Class → Reading → List (List ℕ) → Reading
-with_names Controls r xs = with_controls r xs
-with_names Symbols r xs = with_symbols r xs
-with_names Facts r xs = with_items r xs
-with_names Variables r xs = with_items r xs
+with_names Controls r xs = record r { controls = xs }
+with_names Symbols r xs = record r { symbols = xs }
+with_names _ r xs = record r { items = xs }
 
 abbrev known : Class → Reading → List (List ℕ)
 known c r = class_names (above_now r) c
@@ -61,7 +42,7 @@ names_taken Symbols r xs = record { above = refl; rules = sym (append-nil r.rule
 names_taken Facts r xs = record { above = refl; rules = sym (append-nil r.rules.items); queries = sym (append-nil r.queries.items) }
 names_taken Variables r xs = record { above = refl; rules = sym (append-nil r.rules.items); queries = sym (append-nil r.queries.items) }
 
--- the names of a class are declared, or refused
+-- The names of a class are declared, or refused.
 pub names_answered :
     {E : Type 0} (c : Class) (r : Reading) (new : List (List ℕ)) (ws : List Word) (result : Result (Option Kind) E) → has_class r.weights c ≡ true
     → IfOk result (λ k. k ≡ kind_of_names (known c r) (most_names r.weights c) (names_of ws)) → IfOk result (λ k. IfNone k (Declares (known c r) new ws))
@@ -76,9 +57,11 @@ names_answered c r new ws (Ok k) h e d =
 
 -- ---- rules
 
+-- the reading with other rules
 abbrev pub with_rules : Reading → Vec RuleLine → Reading
-with_rules r rules = record { weights = r.weights; controls = r.controls; symbols = r.symbols; items = r.items; rules = rules; queries = r.queries }
+with_rules r rules = record r { rules = rules }
 
+-- A rule that is read is taken where it has no kind.
 pub rule_taken :
     (all : ℕ) (r : Reading) (rules : Vec RuleLine) (ws : List Word) (f : RuleForm) (read : RuleRead) → HasFewItems (above_now r)
     → rule_of ws ≡ Some f → IsReadRule (above_now r) f read → read.kind ≡ None → rules.items ≡ r.rules.items ++ read.rule ∷ []
@@ -86,11 +69,15 @@ pub rule_taken :
 rule_taken all r rules ws f read few e m none more =
     record {
       kind = sym none ∙ m.kind ∙ ap (λ o. first_fault (by_form (conditions all (above_now r)) (option_map OfRule o))) (sym e);
-      taken = (OfRule f, ap (option_map OfRule) e, record {
-        above = ap (λ n. record a { rules = n }) (ap length more ∙ length-append r.rules.items (read.rule ∷ []));
-        rules = more ∙ ap (λ x. r.rules.items ++ x ∷ []) (m.value few none);
-        queries = sym (append-nil r.queries.items);
-      });
+      taken = (
+        OfRule f,
+        ap (option_map OfRule) e,
+        record {
+          above = ap (λ n. record a { rules = n }) (ap length more ∙ length-append r.rules.items (read.rule ∷ []));
+          rules = more ∙ ap (λ x. r.rules.items ++ x ∷ []) (m.value few none);
+          queries = sym (append-nil r.queries.items);
+        },
+      );
     }
   where
     a : Above
@@ -98,54 +85,21 @@ rule_taken all r rules ws f read few e m none more =
 
 -- ---- no more items than the weights have
 
-first_false : (c : Bool × Kind) (cs : List (Bool × Kind)) → first_fault (c ∷ cs) ≡ None → (c.0 ≡ false) × (first_fault cs ≡ None)
-first_false (true, k) cs h = cc
-first_false (false, k) cs h = (refl, h)
-
-items_few : (a : Above) (c : Class) (xs : List (List ℕ)) → IsOnce (class_names a c) → first_fault (names_conditions a c xs) ≡ None → (has_class a.weights c ≡ true) × (length (class_names a c ++ xs) ≤ most_names a.weights c)
-items_few a c xs o h =
-    let names = class_names a c in
-    let twice : Bool × Kind = (has_twice xs || list_any (is_among names) xs, Twice) in
-    let many : Bool × Kind = (nat_lt (most_names a.weights c) (length (once (names ++ xs))), Count) in
-    let l = first_false (not (has_class a.weights c), Form) (twice ∷ many ∷ []) h in
-    let m = first_false twice (many ∷ []) l.1 in
-    let t = or_parts (has_twice xs) (list_any (is_among names) xs) m.0 in
-    let few = ltb-false (most_names a.weights c) (length (once (names ++ xs))) (first_false many [] m.1).0 in (
-      is_true (has_class a.weights c) l.0,
-      subst (λ ys. length ys ≤ most_names a.weights c) (once_joined names xs o t.1 t.0) few,
-    )
-  where
-    is_true : (b : Bool) → not b ≡ false → b ≡ true
-    is_true true e = refl
-    is_true false e = cc
-
-facts_limit : (u : WeightsLine) → has_class u Facts ≡ true → most_names u Facts ≡ most_names u (item_class u)
-facts_limit Reach h = cc
-facts_limit (Cost cap) h = cc
-facts_limit GenKill h = refl
-facts_limit Copy h = cc
-facts_limit Relation h = cc
-
-variables_limit : (u : WeightsLine) → has_class u Variables ≡ true → most_names u Variables ≡ most_names u (item_class u)
-variables_limit Reach h = cc
-variables_limit (Cost cap) h = cc
-variables_limit GenKill h = cc
-variables_limit Copy h = refl
-variables_limit Relation h = refl
-
+-- also with an accepted line more
 few_with : (all : ℕ) (a : Above) (f : LineForm) → IsOnce a.items → HasFewItems a → first_fault (conditions all a f) ≡ None → HasFewItems (with_line a f)
 few_with all a (OfWeights w) o h e = h
 few_with all a (OfNames Controls xs) o h e = h
 few_with all a (OfNames Symbols xs) o h e = h
 few_with all a (OfNames Facts xs) o h e =
-    let m = items_few a Facts xs o e in
+    let m = names_few a Facts xs o e in
     subst (λ n. length (a.items ++ xs) ≤ n) (facts_limit a.weights m.0) m.1
 few_with all a (OfNames Variables xs) o h e =
-    let m = items_few a Variables xs o e in
+    let m = names_few a Variables xs o e in
     subst (λ n. length (a.items ++ xs) ≤ n) (variables_limit a.weights m.0) m.1
 few_with all a (OfRule r) o h e = h
 few_with all a (OfQuery p q) o h e = h
 
+-- also when a line is answered and has no kind
 pub few_answered :
     {E : Type 0} (all : ℕ) (old new : Reading) (form : Option LineForm) (result : Result (Option Kind) E) → IsOnce old.items → HasFewItems (above_now old)
     → IfOk result (IsAnswered all old new form) → IfOk result (λ k. IfNone k (HasFewItems (above_now new)))

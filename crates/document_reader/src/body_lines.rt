@@ -24,11 +24,22 @@ use std::alloc::Global;
 use wpds_base::OutOfMemory;
 use wpds_port::{Kind, Lexeme, Words};
 
+/// How many controls a document has at most.
 const MOST_CONTROLS: usize = 1_000;
+
+/// How many symbols a document has at most.
 const MOST_SYMBOLS: usize = 40_000;
+
+/// How many facts gen-kill weights have at most.
 const MOST_FACTS: usize = 1_024;
+
+/// How many variables copies have at most.
 const MOST_COPIED: usize = 64;
+
+/// How many variables relations have at most.
 const MOST_RELATED: usize = 24;
+
+/// How many queries a document has at most.
 const MOST_QUERIES: usize = 1_000;
 
 // The kind by which a further weights line is refused.
@@ -42,6 +53,7 @@ fn weights_kind(words: &Words) -> Kind
     }
 }
 
+// Declares the controls that the words behind `controls` are.
 fn declare_controls<'t>(
     reading: &mut Reading<'t>,
     words: &Words<'t>,
@@ -51,6 +63,7 @@ fn declare_controls<'t>(
     declare(&mut reading.controls, MOST_CONTROLS, words)
 }
 
+// Declares the symbols that the words behind `symbols` are.
 fn declare_symbols<'t>(
     reading: &mut Reading<'t>,
     words: &Words<'t>,
@@ -60,7 +73,7 @@ fn declare_symbols<'t>(
     declare(&mut reading.symbols, MOST_SYMBOLS, words)
 }
 
-// Facts are those of gen-kill weights.
+// Declares facts, which gen-kill weights alone have.
 fn declare_facts<'t>(
     reading: &mut Reading<'t>,
     words: &Words<'t>,
@@ -73,7 +86,7 @@ fn declare_facts<'t>(
     }
 }
 
-// Variables are those of copies and relations.
+// Declares variables, which copies and relations alone have.
 fn declare_variables<'t>(
     reading: &mut Reading<'t>,
     words: &Words<'t>,

@@ -1,5 +1,5 @@
-use Rattle.std.proofs.Common.{ap, sym}
-use Rattle.document_forms.specs.Above.{has_class, most_names}
+use Rattle.std.proofs.Common.{ap}
+use Rattle.document_forms.specs.Above.{has_class}
 use Rattle.document_forms.specs.Forms.{Variables}
 use Rattle.document_reader.proofs.BodyLineLemmas.{names_answered}
 use Rattle.document_reader.proofs.body_lines.declare_variables.Goals as goal

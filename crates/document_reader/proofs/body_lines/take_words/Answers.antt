@@ -1,13 +1,11 @@
-use Rattle.std.proofs.Common.{sym, ap, subst, ◌∙◌}
+use Rattle.std.proofs.Common.{sym, ap, ◌∙◌}
 use Rattle.std.proofs.lemmas.Result.{IfOk-weaker}
-use Rattle.std.specs.Prelude.{IfOk}
 use Rattle.wpds_base.specs.Faults.{first_fault}
 use Rattle.wpds_port.specs.Words.{word_of}
 use Rattle.document_forms.specs.FirstRefusal.{by_form}
 use Rattle.document_forms.specs.Kinds.{conditions}
 use Rattle.document_reader.specs.Readings.{above_now}
-use Rattle.document_reader.specs.private.LineReads.{IsAnswered}
-use Rattle.document_reader.proofs.LineFormLemmas.{weights_behind, controls_behind, symbols_behind, facts_behind, variables_behind, rule_behind, query_behind}
+use Rattle.document_reader.proofs.LineFormLemmas.{weights_behind, controls_behind, symbols_behind, facts_behind, variables_behind, rule_behind}
 use Rattle.document_reader.proofs.body_lines.take_words.Goals as goal
 
 pub returns-then-is_name : goal.returns-then-is_name
