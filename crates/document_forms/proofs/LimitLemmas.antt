@@ -53,7 +53,7 @@ three_false b c d i j k h =
     let m = first_false c j ((d, k) ∷ []) l.1 in
     (l.0, m.0, (first_false d k [] m.1).0)
 
-names_few : (a : Above) (c : Class) (xs : List (List ℕ)) → IsOnce (class_names a c) → first_fault (names_conditions a c xs) ≡ None → (has_class a.weights c ≡ true) × (length (class_names a c ++ xs) ≤ most_names a.weights c)
+pub names_few : (a : Above) (c : Class) (xs : List (List ℕ)) → IsOnce (class_names a c) → first_fault (names_conditions a c xs) ≡ None → (has_class a.weights c ≡ true) × (length (class_names a c ++ xs) ≤ most_names a.weights c)
 names_few a c xs o h =
     let known = class_names a c in
     let m = three_false (not (has_class a.weights c)) (has_twice xs || list_any (is_among known) xs) (nat_lt (most_names a.weights c) (length (once (known ++ xs)))) Form Twice Count h in
@@ -67,14 +67,14 @@ names_few a c xs o h =
     is_true true e = refl
     is_true false e = cc
 
-facts_limit : (u : WeightsLine) → has_class u Facts ≡ true → most_names u Facts ≡ most_names u (item_class u)
+pub facts_limit : (u : WeightsLine) → has_class u Facts ≡ true → most_names u Facts ≡ most_names u (item_class u)
 facts_limit Reach h = cc
 facts_limit (Cost cap) h = cc
 facts_limit GenKill h = refl
 facts_limit Copy h = cc
 facts_limit Relation h = cc
 
-variables_limit : (u : WeightsLine) → has_class u Variables ≡ true → most_names u Variables ≡ most_names u (item_class u)
+pub variables_limit : (u : WeightsLine) → has_class u Variables ≡ true → most_names u Variables ≡ most_names u (item_class u)
 variables_limit Reach h = cc
 variables_limit (Cost cap) h = cc
 variables_limit GenKill h = cc

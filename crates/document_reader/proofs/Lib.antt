@@ -1,4 +1,5 @@
 mod ActionLemmas
+mod BodyLineLemmas
 mod DigitLemmas
 mod EachLemmas
 mod EdgeLemmas

@@ -83,15 +83,32 @@ pub front_of : (line : List ℕ) (ws : List Word) (r : Option (Lexeme × List Wo
 front_of line ws None e h = form_lawful line ∙ ap (option_and_then form_in) e ∙ ap form_in h
 front_of line ws (Some p) e h = form_lawful line ∙ ap (option_and_then form_in) e ∙ ap form_in h
 
--- ---- lines of symbols
+-- ---- lines that begin with the word of their form
 
 name_is : (x : List ℕ) (w : Word) → is_name x w ≡ true → w ≡ Name x
 name_is x (Name y) h = ap Name (sym ((bytes_eq-Decides x y).0 h))
 name_is x (Number n) h = cc
 name_is x (Sign m) h = cc
 
-symbols_behind : (w : Word) (ws : List Word) → is_name (codes "symbols") w ≡ true → form_behind w ws ≡ option_map (OfNames Symbols) (names_of ws)
+pub controls_behind : (w : Word) (ws : List Word) → is_name (codes "controls") w ≡ true → form_behind w ws ≡ option_map (OfNames Controls) (names_of ws)
+controls_behind w ws h = ap (λ v. form_behind v ws) (name_is (codes "controls") w h)
+
+pub symbols_behind : (w : Word) (ws : List Word) → is_name (codes "symbols") w ≡ true → form_behind w ws ≡ option_map (OfNames Symbols) (names_of ws)
 symbols_behind w ws h = ap (λ v. form_behind v ws) (name_is (codes "symbols") w h)
+
+pub facts_behind : (w : Word) (ws : List Word) → is_name (codes "facts") w ≡ true → form_behind w ws ≡ option_map (OfNames Facts) (names_of ws)
+facts_behind w ws h = ap (λ v. form_behind v ws) (name_is (codes "facts") w h)
+
+pub variables_behind : (w : Word) (ws : List Word) → is_name (codes "variables") w ≡ true → form_behind w ws ≡ option_map (OfNames Variables) (names_of ws)
+variables_behind w ws h = ap (λ v. form_behind v ws) (name_is (codes "variables") w h)
+
+pub rule_behind : (w : Word) (ws : List Word) → is_name (codes "rule") w ≡ true → form_behind w ws ≡ option_map OfRule (rule_of ws)
+rule_behind w ws h = ap (λ v. form_behind v ws) (name_is (codes "rule") w h)
+
+pub query_behind : (w : Word) (ws : List Word) → is_name (codes "query") w ≡ true → form_behind w ws ≡ query_of ws
+query_behind w ws h = ap (λ v. form_behind v ws) (name_is (codes "query") w h)
+
+-- ---- lines of symbols
 
 abbrev symbols_in : Option LineForm → List (List ℕ)
 symbols_in f = unwrap_or (option_map (names_on Symbols) f) []

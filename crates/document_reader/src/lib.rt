@@ -1,6 +1,7 @@
 //! Reads the text of a pushdown system: its document, or its first refusal.
 #![tactic(auto)]
 
+mod body_lines;
 mod digits;
 mod headers;
 mod items;
@@ -13,7 +14,6 @@ mod queries;
 mod reading;
 mod returns;
 mod rules;
-mod stubs;
 mod symbols;
 mod system;
 mod weights;

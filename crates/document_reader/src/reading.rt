@@ -5,10 +5,11 @@ ghost use Rattle.wpds_port.specs.Refusals.{refusal};
 ghost use Rattle.wpds_port.specs.declared.Refusal.{Refusal as RefusalValue};
 ghost use Rattle.document_forms.specs.FirstRefusal.{Counted, counted, first_refused};
 ghost use Rattle.document_reader.specs.Readings.{HasRead, above_now, only_weights};
+ghost use Rattle.document_reader.specs.RuleReads.{HasFewItems};
 
+use crate::body_lines::read_line;
 use crate::lines::Lines;
 use crate::names::NameTable;
-use crate::stubs::read_line;
 use document_forms::{QueryLine, RuleLine, WeightsLine, above_with_a_line};
 use std::alloc::Global;
 use wpds_port::{Kind, ReadFault, Refusal};
@@ -57,6 +58,7 @@ pub(crate) fn read_body<'t>(
     reading: &mut Reading<'t>,
     lines: &mut Lines<'t>,
 ) -> Result<(), ReadFault>
+    requires few { HasFewItems (above_now reading.old) }
     ensures read { (ls : List Counted) → HasRead all ls reading.old
         → IfOk result (λ _. HasRead all (ls ++ map counted lines.old.lines) reading.new) }
     ensures refused { (ls : List Counted) (r : RefusalValue) → HasRead all ls reading.old

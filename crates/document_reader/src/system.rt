@@ -4,7 +4,8 @@ ghost use Rattle.std.specs.Prelude.{◌≡◌, ℕ, IfOk, Some, None, Err, map};
 ghost use Rattle.wpds_port.specs.declared.Refusal.{Refusal as RefusalValue};
 ghost use Rattle.document_forms.specs.Documents.{reads_as};
 ghost use Rattle.document_forms.specs.FirstRefusal.{counted, missing, FirstRefusal};
-ghost use Rattle.document_reader.specs.Readings.{HasRead, HasFirstTwo, document_now};
+ghost use Rattle.document_reader.specs.Readings.{HasRead, HasFirstTwo, above_now, document_now};
+ghost use Rattle.document_reader.specs.RuleReads.{HasFewItems};
 ghost use Rattle.document_reader.specs.Found.{found_first};
 
 use crate::headers::{header_kind, read_weights};
@@ -56,6 +57,7 @@ fn read_lines<'t>(alloc: Global, all: usize, mut lines: Lines<'t>) -> Result<Rea
 // Reads the header and the weights line.
 fn read_first_two<'t>(alloc: Global, lines: &mut Lines<'t>) -> Result<Reading<'t>, ReadFault>
     ensures read { IfOk result (HasFirstTwo lines.old.lines lines.new.lines) }
+    ensures few { IfOk result (λ r. HasFewItems (above_now r)) }
     ensures refused { (all : ℕ) (r : RefusalValue) → result ≡ Err (ReadFault.Refused r)
         → found_first all lines.old.after (map counted lines.old.lines) ≡ Some r }
     ensures after { lines.new.after ≡ lines.old.after }

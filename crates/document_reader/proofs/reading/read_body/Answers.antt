@@ -1,7 +1,8 @@
-use Rattle.std.proofs.Common.{◌≡◌, ◌++◌, ◌∷◌, [], Some, map, sym, ap, ◌∙◌, append_assoc}
+use Rattle.std.proofs.Common.{◌≡◌, ◌++◌, ◌∷◌, [], Some, map, sym, ap, subst, ◌∙◌, append_assoc, append-nil}
 use Rattle.wpds_port.specs.Refusals.{refusal}
 use Rattle.document_forms.specs.Lines.{Line}
 use Rattle.document_forms.specs.FirstRefusal.{counted, first_refused}
+use Rattle.document_reader.specs.Readings.{HasRead}
 use Rattle.document_reader.proofs.ReadingLemmas.{line_refused, line_taken}
 use Rattle.document_reader.proofs.reading.read_body.Goals as goal
 
@@ -17,6 +18,12 @@ returns-in-Some-2-clause-refused c = λ ls r h e.
     ∙ line_refused all m.0 c.loop-line.reading l c.next.new.self.lines c.in-Some-2.kind m.1 (sym c.in-Some-2.is ∙ c.in_ok-kind.ensures.kind)
     ∙ ap Some same
 
+pub returns-clause-read : goal.returns-clause-read
+returns-clause-read c = λ ls h.
+    let m = c.loop-line.invariant.read ls h in
+    subst (λ k. HasRead c.args.all k c.loop-line.reading)
+    (sym (append-nil m.0) ∙ sym (ap (λ k. m.0 ++ map counted k) c.in_default.ensures.lines.0) ∙ m.2) m.1
+
 pub loop-line-preserved : goal.loop-line-preserved
 loop-line-preserved c =
     let all = c.args.all in
@@ -31,5 +38,6 @@ loop-line-preserved c =
             append_assoc m.0 (counted l ∷ []) (map counted c.next.new.self.lines)
                 ∙ sym (ap (λ k. m.0 ++ map counted k) now) ∙ m.2,
           );
+      few = rw c.in_default-2.is at c.in_ok-kind.ensures.few;
       after = c.in-Some.ensures.after ∙ c.loop-line.invariant.after;
     }

@@ -1,0 +1,217 @@
+//! Lines behind the weights line.
+
+ghost use Rattle.std.specs.Prelude.{◌≡◌, ◌||◌, ◌∷◌, [], ℕ, IfOk, IfNone, Some, option_map};
+ghost use Rattle.wpds_base.specs.Faults.{first_fault};
+ghost use Rattle.wpds_port.specs.Words.{word_of};
+ghost use Rattle.document_forms.specs.Above.{Above};
+ghost use Rattle.document_forms.specs.FirstRefusal.{by_form};
+ghost use Rattle.document_forms.specs.Forms.{Controls, Symbols, Facts, Variables, OfWeights, OfRule, weights_of, rule_of, query_of, form_behind};
+ghost use Rattle.document_forms.specs.Kinds.{conditions};
+ghost use Rattle.document_reader.specs.Readings.{kind_on, above_now, Takes};
+ghost use Rattle.document_reader.specs.RuleReads.{HasFewItems};
+ghost use Rattle.document_reader.specs.private.LineReads.{IsAnswered, AreAnswered};
+
+use crate::lexemes::{is_name, line_front};
+use crate::lines::is_text;
+use crate::name_lines::declare;
+use crate::patterns::QueryFaults;
+use crate::queries::read_query;
+use crate::reading::Reading;
+use crate::rules::read_rule;
+use crate::weights_lines::said_weights;
+use document_forms::WeightsLine;
+use std::alloc::Global;
+use wpds_base::OutOfMemory;
+use wpds_port::{Kind, Lexeme, Words};
+
+/// How many controls a document has at most.
+const MOST_CONTROLS: usize = 1_000;
+
+/// How many symbols a document has at most.
+const MOST_SYMBOLS: usize = 40_000;
+
+/// How many facts gen-kill weights have at most.
+const MOST_FACTS: usize = 1_024;
+
+/// How many variables copies have at most.
+const MOST_COPIED: usize = 64;
+
+/// How many variables relations have at most.
+const MOST_RELATED: usize = 24;
+
+/// How many queries a document has at most.
+const MOST_QUERIES: usize = 1_000;
+
+// The kind by which a further weights line is refused.
+fn weights_kind(words: &Words) -> Kind
+    ensures { (all : ℕ) (a : Above) → Some result
+        ≡ first_fault (by_form (conditions all a) (option_map OfWeights (weights_of words.now))) }
+{
+    match said_weights(words) {
+        Some(_) => Kind::Twice,
+        None => Kind::Form,
+    }
+}
+
+// Declares the controls that the words behind `controls` are.
+fn declare_controls<'t>(
+    reading: &mut Reading<'t>,
+    words: &Words<'t>,
+) -> Result<Option<Kind>, OutOfMemory>
+    ensures { IfOk result (AreAnswered reading.old reading.new Controls words.now) }
+{
+    declare(&mut reading.controls, MOST_CONTROLS, words)
+}
+
+// Declares the symbols that the words behind `symbols` are.
+fn declare_symbols<'t>(
+    reading: &mut Reading<'t>,
+    words: &Words<'t>,
+) -> Result<Option<Kind>, OutOfMemory>
+    ensures { IfOk result (AreAnswered reading.old reading.new Symbols words.now) }
+{
+    declare(&mut reading.symbols, MOST_SYMBOLS, words)
+}
+
+// Declares facts, which gen-kill weights alone have.
+fn declare_facts<'t>(
+    reading: &mut Reading<'t>,
+    words: &Words<'t>,
+) -> Result<Option<Kind>, OutOfMemory>
+    ensures { IfOk result (AreAnswered reading.old reading.new Facts words.now) }
+{
+    match reading.weights {
+        WeightsLine::GenKill => declare(&mut reading.items, MOST_FACTS, words),
+        _ => Ok(Some(Kind::Form)),
+    }
+}
+
+// Declares variables, which copies and relations alone have.
+fn declare_variables<'t>(
+    reading: &mut Reading<'t>,
+    words: &Words<'t>,
+) -> Result<Option<Kind>, OutOfMemory>
+    ensures { IfOk result (AreAnswered reading.old reading.new Variables words.now) }
+{
+    match reading.weights {
+        WeightsLine::Copy => declare(&mut reading.items, MOST_COPIED, words),
+        WeightsLine::Relation => declare(&mut reading.items, MOST_RELATED, words),
+        _ => Ok(Some(Kind::Form)),
+    }
+}
+
+// Takes the rule that the words behind `rule` are.
+fn take_rule(
+    alloc: Global,
+    reading: &mut Reading<'_>,
+    words: &Words,
+) -> Result<Option<Kind>, OutOfMemory>
+    requires few { HasFewItems (above_now reading.old) }
+    ensures { IfOk result (λ k. (all : ℕ) → IsAnswered all reading.old reading.new
+        (option_map OfRule (rule_of words.now)) k) }
+{
+    let Some(read) = read_rule(alloc, reading, words)? else {
+        return Ok(Some(Kind::Form));
+    };
+    if let Some(kind) = read.kind {
+        return Ok(Some(kind));
+    }
+    reading.rules.push(read.rule)?;
+    Ok(None)
+}
+
+// The kind by which a query is refused.
+fn query_kind(faults: QueryFaults, many: bool) -> Option<Kind>
+    ensures { result ≡ first_fault ((faults.twice, Kind.Twice) ∷ (faults.unknown, Kind.Unknown)
+        ∷ (faults.count || many, Kind.Count) ∷ []) }
+{
+    if faults.twice {
+        return Some(Kind::Twice);
+    }
+    if faults.unknown {
+        return Some(Kind::Unknown);
+    }
+    if faults.count || many {
+        return Some(Kind::Count);
+    }
+    None
+}
+
+// Takes the query that the words behind `query` are.
+fn take_query(
+    alloc: Global,
+    all: usize,
+    reading: &mut Reading<'_>,
+    words: &Words,
+) -> Result<Option<Kind>, OutOfMemory>
+    ensures { IfOk result (IsAnswered all reading.old reading.new (query_of words.now)) }
+{
+    let Some(read) = read_query(alloc, all, &reading.controls, &reading.symbols, words)? else {
+        return Ok(Some(Kind::Form));
+    };
+    let many = reading.queries.len() >= MOST_QUERIES;
+    if let Some(kind) = query_kind(read.faults, many) {
+        return Ok(Some(kind));
+    }
+    reading.queries.push(read.query)?;
+    Ok(None)
+}
+
+// Takes what the words behind the first one declare or ask.
+fn take_words<'t>(
+    alloc: Global,
+    all: usize,
+    reading: &mut Reading<'t>,
+    first: Lexeme<'t>,
+    words: &Words<'t>,
+) -> Result<Option<Kind>, OutOfMemory>
+    requires few { HasFewItems (above_now reading.old) }
+    ensures { IfOk result (IsAnswered all reading.old reading.new
+        (form_behind (word_of first.entry) words.now)) }
+{
+    if is_name(first, b"weights") {
+        return Ok(Some(weights_kind(words)));
+    }
+    if is_name(first, b"controls") {
+        return declare_controls(reading, words);
+    }
+    if is_name(first, b"symbols") {
+        return declare_symbols(reading, words);
+    }
+    if is_name(first, b"facts") {
+        return declare_facts(reading, words);
+    }
+    if is_name(first, b"variables") {
+        return declare_variables(reading, words);
+    }
+    if is_name(first, b"rule") {
+        return take_rule(alloc, reading, words);
+    }
+    if is_name(first, b"query") {
+        return take_query(alloc, all, reading, words);
+    }
+    Ok(Some(Kind::Form))
+}
+
+/// Reads a line behind the weights line: takes what it declares or asks, or tells the kind by
+/// which it is refused.
+pub(crate) fn read_line<'t>(
+    alloc: Global,
+    all: usize,
+    reading: &mut Reading<'t>,
+    line: &'t [u8],
+) -> Result<Option<Kind>, OutOfMemory>
+    requires few { HasFewItems (above_now reading.old) }
+    ensures few { IfOk result (λ k. IfNone k (HasFewItems (above_now reading.new))) }
+    ensures kind { IfOk result (λ k. k ≡ kind_on all (above_now reading.old) line.now) }
+    ensures taken { IfOk result (λ k. IfNone k (Takes reading.old reading.new line.now)) }
+{
+    reading.items.stands_once();
+    if !is_text(line) {
+        return Ok(Some(Kind::NotText));
+    }
+    let Some((first, words)) = line_front(line) else {
+        return Ok(Some(Kind::Form));
+    };
+    take_words(alloc, all, reading, first, &words)
+}
