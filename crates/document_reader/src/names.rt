@@ -101,7 +101,8 @@ fn number_for<'t>(
     name: &'t [u8],
     next: u32,
 ) -> Result<u32, OutOfMemory>
-    ensures number { IfOk result (λ number. number ≡ unwrap_or (at_name numbers.old name.now) next) }
+    ensures number { IfOk result (λ number.
+        number ≡ unwrap_or (at_name numbers.old name.now) next) }
     ensures numbers { IfOk result (λ number. (x : List ℕ) → at_name numbers.new x
         ≡ (if bytes_eq name.now x then Some number else at_name numbers.old x)) }
     ensures err { OnErr result ((x : List ℕ) → at_name numbers.new x ≡ at_name numbers.old x) }

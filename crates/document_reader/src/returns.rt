@@ -197,7 +197,8 @@ impl MovesRead {
 
     fn add(&mut self, items: &NameTable<'_>, pair: MoveWords) -> Result<(), OutOfMemory>
         ensures { (done : List MoveForm) → AreMovesRead items.now done self.old
-            → IfOk result (λ _. AreMovesRead items.now (done ++ move_form pair.entry ∷ []) self.new) }
+            → IfOk result (λ _.
+            AreMovesRead items.now (done ++ move_form pair.entry ∷ []) self.new) }
     {
         match (items.number_of(pair.to), items.number_of(pair.from)) {
             (Some(to), Some(from)) => self.moves.push(Move { to, from })?,
@@ -267,7 +268,8 @@ pub(crate) struct ReturnRead {
 impl ReturnRead {
     /// The plain return.
     pub(crate) fn plain() -> ReturnRead
-        ensures { (u : WeightsLineValue) (items : List (List ℕ)) → IsReadReturn u items PlainReturn result }
+        ensures { (u : WeightsLineValue) (items : List (List ℕ))
+            → IsReadReturn u items PlainReturn result }
     {
         ReturnRead {
             map: None,
@@ -305,8 +307,9 @@ fn is_unknown(weights: WeightsLine, restored: bool, moved: bool) -> bool
 
 // Whether the weights do not let a word stand that is there.
 fn is_foreign(weights: WeightsLine, restores: bool, moves: bool) -> bool
-    ensures { result
-        ≡ ((restores && not (allows_restore_of weights)) || (moves && not (allows_moves_of weights))) }
+    ensures { let away = not (allows_restore_of weights) in
+        let still = not (allows_moves_of weights) in
+        result ≡ ((restores && away) || (moves && still)) }
 {
     (restores && !allows_restore(weights)) || (moves && !allows_moves(weights))
 }

@@ -97,7 +97,8 @@ fn declared(said: WeightsWords) -> Option<WeightsLine>
 /// The weights that the second line declares, or the kind by which its form is refused.
 pub(crate) fn weights_line(line: &[u8]) -> Result<WeightsLine, Kind>
     ensures weights { IfOk result (SaysWeights line.now) }
-    ensures kind { result_err result ≡ first_fault (by_form weights_conditions (line_form line.now)) }
+    ensures kind { result_err result
+        ≡ first_fault (by_form weights_conditions (line_form line.now)) }
 {
     let Some((first, words)) = line_front(line) else {
         return Err(Kind::Form);

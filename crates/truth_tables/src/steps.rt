@@ -128,7 +128,8 @@ fn at_operator<'t>(
     operator: Operator,
 ) -> Result<Option<Position<'t>>, OutOfMemory>
     ensures { IfOk result (λ o. progress_of o stack.new.items
-        ≡ after_operator (parts limit) operator (stack_of stack.old.items) (operand_of operand.entry)) }
+        ≡ after_operator (parts limit) operator
+        (stack_of stack.old.items) (operand_of operand.entry)) }
 {
     let joined = join(alloc, limit, stack, operator.least_left(), operand)?;
     open(stack, OpenPart::Operator(operator, joined))
@@ -171,7 +172,8 @@ pub(crate) fn step<'t>(
     lexeme: Lexeme<'t>,
 ) -> Result<Option<Position<'t>>, OutOfMemory>
     ensures { IfOk result (λ o. progress_of o stack.new.items
-        ≡ progress (parts limit) (position_of position.entry stack.old.items) (word_of lexeme.entry)) }
+        ≡ progress (parts limit)
+        (position_of position.entry stack.old.items) (word_of lexeme.entry)) }
 {
     match (position, lexeme) {
         (Position::Wanted, lexeme) => at_operand(limit, stack, lexeme),

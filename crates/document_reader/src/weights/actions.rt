@@ -289,7 +289,8 @@ fn read_targets<'t>(
     items: &NameTable<'_>,
     words: &Words<'t>,
 ) -> Result<Option<Targets<'t>>, OutOfMemory>
-    ensures { IfOk result (λ read. MatchOption read (each target_of (parted is_comma words.now) ≡ None)
+    ensures { IfOk result (λ read.
+        MatchOption read (each target_of (parted is_comma words.now) ≡ None)
         (λ t. (xs : List (List ℕ)) × (each target_of (parted is_comma words.now) ≡ Some xs)
         × HasTargets items.now xs t)) }
 {
@@ -321,7 +322,8 @@ fn read_values<'t>(
 ) -> Result<Option<Values>, OutOfMemory>
     ensures { IfOk result (λ read.
         MatchOption read (each value_of (parted_outside 0 is_comma words.now) ≡ None)
-        (λ r. (vs : List ValueForm) × (each value_of (parted_outside 0 is_comma words.now) ≡ Some vs)
+        (λ r. (vs : List ValueForm)
+        × (each value_of (parted_outside 0 is_comma words.now) ≡ Some vs)
         × HasValues items.now targets.now vs r)) }
 {
     let mut values = Values::new(alloc);
@@ -354,8 +356,8 @@ fn assignment(targets: Targets<'_>, values: Values) -> ActionRead
 
 // Whether there are not as many values as targets.
 fn is_uneven(targets: &[u32], values: &Values) -> bool
-    ensures { (items : List (List ℕ)) (vs : List ValueForm) → HasValues items targets.now vs values.now
-        → result ≡ not (length targets.now == length vs) }
+    ensures { (items : List (List ℕ)) (vs : List ValueForm)
+        → HasValues items targets.now vs values.now → result ≡ not (length targets.now == length vs) }
 {
     values.more || values.assignments.len() < targets.len()
 }

@@ -69,7 +69,8 @@ impl PartsRead {
     }
 
     fn add_number(&mut self, negative: bool, digits: &[u8])
-        ensures { (items : List (List ℕ)) (done : List PartForm) → HasParts items (Parts done) self.old
+        ensures { (items : List (List ℕ)) (done : List PartForm)
+            → HasParts items (Parts done) self.old
             → HasParts items (Parts (done ++ OfNumber negative digits.now ∷ [])) self.new }
     {
         match whole(negative, digits) {
@@ -237,7 +238,8 @@ fn nothing() -> FormText
 // The meet of the parts up to the next pair, and the words from there on.
 fn read_meet<'t>(items: &NameTable<'_>, words: &Words<'t>) -> Option<(PartsRead, Words<'t>)>
     ensures parts { MatchOption result (parts_in words.now ≡ None)
-        (λ p. (ps : List PartForm) × (parts_in words.now ≡ Some ps) × HasParts items.now (Parts ps) p.0) }
+        (λ p. (ps : List PartForm) × (parts_in words.now ≡ Some ps)
+        × HasParts items.now (Parts ps) p.0) }
     ensures rest { IfSome result (λ p. p.1 ≡ from_pair words.now) }
 {
     let mut parts = PartsRead::new(nothing());
