@@ -357,7 +357,8 @@ fn assignment(targets: Targets<'_>, values: Values) -> ActionRead
 // Whether there are not as many values as targets.
 fn is_uneven(targets: &[u32], values: &Values) -> bool
     ensures { (items : List (List ℕ)) (vs : List ValueForm)
-        → HasValues items targets.now vs values.now → result ≡ not (length targets.now == length vs) }
+        → HasValues items targets.now vs values.now
+        → result ≡ not (length targets.now == length vs) }
 {
     values.more || values.assignments.len() < targets.len()
 }
