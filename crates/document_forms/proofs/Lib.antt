@@ -1,4 +1,5 @@
 mod LineLemmas
+mod SaidWordLemmas
 mod ItemLemmas
 mod NameLemmas
 mod CutLemmas
