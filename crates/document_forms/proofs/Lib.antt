@@ -1,5 +1,6 @@
 mod LineLemmas
 mod SaidWordLemmas
+mod SaidLineLemmas
 mod ItemLemmas
 mod NameLemmas
 mod CutLemmas
