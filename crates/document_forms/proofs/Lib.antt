@@ -1,6 +1,7 @@
 mod LineLemmas
-mod SaidWordLemmas
-mod SaidLineLemmas
+mod WrittenWordLemmas
+mod WrittenNameLemmas
+mod WrittenLineLemmas
 mod ItemLemmas
 mod NameLemmas
 mod CutLemmas

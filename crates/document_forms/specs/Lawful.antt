@@ -1,8 +1,9 @@
 -- What every document keeps to: its numbers are those of its names, its counts are within the
 -- limits, and what may stand once stands once.
-use Rattle.std.specs.Prelude.{◌≡◌, IsTrue, ℕ, ◌<◌, ◌≤◌, ◌^◌, ◌⊎◌, Bool, List, [], length, map, All, Option, Some, None}
-use Rattle.wpds_base.specs.Limits.{most_controls, most_symbols, most_rules, most_queries, most_cost, most_pushed, most_items, most_edges}
+use Rattle.std.specs.Prelude.{◌≡◌, IsTrue, IsFalse, ℕ, ◌<◌, ◌≤◌, ◌^◌, ◌⊎◌, Bool, List, [], length, map, All, Option, Some, None}
+use Rattle.wpds_base.specs.Limits.{longest_name, most_controls, most_symbols, most_rules, most_queries, most_cost, most_pushed, most_items, most_edges}
 use Rattle.wpds_base.specs.Lists.{IsOnce}
+use Rattle.wpds_port.specs.Tokens.{is_name_text}
 use Rattle.truth_tables.specs.Formulas.{is_over}
 use Rattle.document_forms.specs.declared.weight.WeightsLine.{WeightsLine}
 use Rattle.document_forms.specs.declared.weight.WeightsLine.TheVariants.{Cost, GenKill, Copy, Relation}
@@ -22,6 +23,7 @@ use Rattle.document_forms.specs.declared.pattern.PatternText.{PatternText}
 use Rattle.document_forms.specs.declared.document.MapText.{MapText}
 use Rattle.document_forms.specs.declared.document.RuleLine.{RuleLine}
 use Rattle.document_forms.specs.declared.document.QueryLine.{QueryLine}
+use Rattle.document_forms.specs.Names.{is_reserved}
 use Rattle.document_forms.specs.Above.{item_class, most_names}
 use Rattle.document_forms.specs.Kinds.{allows_restore, allows_moves, edges}
 use Rattle.document_forms.specs.Documents.{Document}
@@ -109,6 +111,12 @@ pub record IsQueryLine (all controls symbols : ℕ) (q : QueryLine) : Type 0 whe
 abbrev pub IsWeightsLine : WeightsLine → Type 0
 IsWeightsLine (Cost cap) = (1 ≤ cap) × (cap ≤ most_cost)
 IsWeightsLine _ = Unit {0}
+
+-- A name that may be declared: one word, which is not too long and is not reserved.
+pub record IsName (x : List ℕ) : Type 0 where
+  pub text : IsTrue (is_name_text x)
+  pub short : length x ≤ longest_name
+  pub free : IsFalse (is_reserved x)
 
 -- Names of a class, at most so many, and none twice.
 pub record AreNames (most : ℕ) (names : List (List ℕ)) : Type 0 where

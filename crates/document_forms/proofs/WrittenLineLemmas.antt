@@ -12,7 +12,7 @@ use Rattle.document_forms.specs.Forms.{form_of, line_words}
 use Rattle.document_forms.specs.FormWords.{is_some_list}
 use Rattle.document_forms.specs.FirstRefusal.{Counted, counted, counted_with, counted_lines}
 use Rattle.document_forms.proofs.LineLemmas.{is_cut}
-use Rattle.document_forms.proofs.SaidWordLemmas.{HasWords, OneCutting, words_said}
+use Rattle.document_forms.proofs.WrittenWordLemmas.{HasWords, OneCutting, words_said}
 
 -- ---- words are text
 
