@@ -205,3 +205,15 @@ says_spaced (t ∷ []) ws s =
 says_spaced (t ∷ u ∷ ts) ws s =
     subst (Says (spaced (t ∷ u ∷ ts))) (sym s.4)
     (says_apart t (spaced (u ∷ ts)) s.0 s.1 s.2 (says_spaced (u ∷ ts) s.1 s.3))
+
+pub say_one : (t : List ℕ) (ws : List Word) → Says t ws → SayAll (t ∷ []) ws
+say_one t ws s = (ws, [], s, refl, sym (append-nil ws))
+
+-- a word in front of a text, without a blank
+pub says_glued : (w : Word) (u : List ℕ) (vs : List Word) → is_word w ≡ true → is_lawful_word w ≡ true → ((rest : List ℕ) → stops w (u ++ rest) ≡ true) → Says u vs → Says (word_text w ++ u) (w ∷ vs)
+says_glued w u vs h l e s = record {
+  here = λ rest xs f k.
+    subst (λ x. HasWords x (w ∷ (vs ++ xs))) (sym (append_assoc (word_text w) u rest))
+    (word_before w (u ++ rest) (vs ++ xs) h (e rest) (s.here rest xs f k));
+  lawful = and_from (is_lawful_word w) (list_all is_lawful_word vs) l s.lawful;
+}

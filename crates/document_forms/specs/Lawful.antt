@@ -1,6 +1,6 @@
 -- What every document keeps to: its numbers are those of its names, its counts are within the
 -- limits, and what may stand once stands once.
-use Rattle.std.specs.Prelude.{◌≡◌, IsTrue, IsFalse, ℕ, ◌<◌, ◌≤◌, ◌^◌, ◌⊎◌, Bool, List, [], length, map, All, Option, Some, None}
+use Rattle.std.specs.Prelude.{◌≡◌, ◌≢◌, IsTrue, IsFalse, ℕ, ◌<◌, ◌≤◌, ◌^◌, ◌⊎◌, Bool, List, [], length, map, All, Option, Some, None}
 use Rattle.wpds_base.specs.Limits.{longest_name, most_controls, most_symbols, most_rules, most_queries, most_cost, most_pushed, most_items, most_edges}
 use Rattle.wpds_base.specs.Lists.{IsOnce}
 use Rattle.wpds_port.specs.Tokens.{is_name_text}
@@ -105,6 +105,18 @@ pub record IsPatternText (all controls symbols : ℕ) (p : PatternText) : Type 0
 pub record IsQueryLine (all controls symbols : ℕ) (q : QueryLine) : Type 0 where
   pub from : IsPatternText all controls symbols q.from
   pub to : IsPatternText all controls symbols q.to
+
+-- ---- what is written in a row has one at least
+
+abbrev pub HasSymbol : SetText → Type 0
+HasSymbol AllSymbols = Unit {0}
+HasSymbol (Listed gs) = gs ≢ []
+
+abbrev pub HasSymbols : PatternText → Type 0
+HasSymbols p = All (λ i. HasSymbol i.set) p.items
+
+abbrev pub HasSets : QueryLine → Type 0
+HasSets q = HasSymbols q.from × HasSymbols q.to
 
 -- ---- documents
 
