@@ -109,10 +109,10 @@ written_query p q h =
 
 module _ {A B : Type 0} (f : A → Option B) where
   -- the first item and the others
-  abbrev Parts : A → List A → List B → Type 0
+  abbrev pub Parts : A → List A → List B → Type 0
   Parts x xs ys = (y : B) × (zs : List B) × (f x ≡ Some y) × (each f xs ≡ Some zs) × (y ∷ zs ≡ ys)
 
-  of_each : (x : A) (xs : List A) (ys : List B) → each f (x ∷ xs) ≡ Some ys → Parts x xs ys
+  pub of_each : (x : A) (xs : List A) (ys : List B) → each f (x ∷ xs) ≡ Some ys → Parts x xs ys
   of_each x xs ys h = first (f x) refl h
     where
       rest : (y : B) → f x ≡ Some y → (o : Option (List B)) → each f xs ≡ o → option_map (λ zs. y ∷ zs) o ≡ Some ys → Parts x xs ys

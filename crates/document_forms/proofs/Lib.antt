@@ -1,6 +1,7 @@
 mod LineLemmas
 mod WrittenWordLemmas
 mod WrittenNameLemmas
+mod WrittenMapLemmas
 mod WrittenQueryLemmas
 mod WrittenLineLemmas
 mod ItemLemmas
