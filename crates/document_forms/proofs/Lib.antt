@@ -14,6 +14,7 @@ mod RuleLemmas
 mod PatternLemmas
 mod GrowthLemmas
 mod LimitLemmas
+mod SaidFormLemmas
 mod DocumentLemmas
 mod KindLemmas
 mod RefusalLemmas

@@ -24,7 +24,7 @@ use Rattle.document_forms.specs.declared.document.MapText.{MapText}
 use Rattle.document_forms.specs.declared.document.RuleLine.{RuleLine}
 use Rattle.document_forms.specs.declared.document.QueryLine.{QueryLine}
 use Rattle.document_forms.specs.Names.{is_reserved}
-use Rattle.document_forms.specs.Above.{item_class, most_names}
+use Rattle.document_forms.specs.Above.{item_class, has_class, most_names}
 use Rattle.document_forms.specs.Kinds.{allows_restore, allows_moves, edges}
 use Rattle.document_forms.specs.Documents.{Document}
 
@@ -176,6 +176,7 @@ pub record IsName (x : List ℕ) : Type 0 where
 pub record AreNames (most : ℕ) (names : List (List ℕ)) : Type 0 where
   pub few : length names ≤ most
   pub once : IsOnce names
+  pub lawful : All IsName names
 
 -- a rule or a query over the names of a document
 abbrev pub IsRuleOf : Document → RuleLine → Type 0
@@ -190,7 +191,12 @@ pub record IsDocument (d : Document) : Type 0 where
   pub controls : AreNames most_controls d.controls
   pub symbols : AreNames most_symbols d.symbols
   pub items : AreNames (most_names d.weights (item_class d.weights)) d.items
+  -- weights that have no such names go without
+  pub has_items : IsTrue (has_class d.weights (item_class d.weights)) ⊎ (d.items ≡ [])
   pub rules : All (IsRuleOf d) d.rules
+  pub maps : All HasMap (map (λ r. r.map) d.rules)
   pub few_rules : length d.rules ≤ most_rules
   pub queries : All (IsQueryOf d) d.queries
+  pub sets : All HasSets d.queries
+  pub asked : d.queries ≢ []
   pub few_queries : length d.queries ≤ most_queries

@@ -19,6 +19,8 @@ ghost use Rattle.document_forms.specs.Patterns.{ItemForm, PatternForm, items_of,
 ghost use Rattle.wpds_port.specs.declared.Kind.{Kind};
 ghost use Rattle.wpds_port.specs.declared.Refusal.{Refusal};
 
+use wpds_port::one_list_of_tokens;
+
 /// Bytes have a document or a first refusal, never both, and one at most of each.
 pub fn one_document_or_one_refusal()
     ensures one { (bytes : List ℕ)
@@ -66,7 +68,9 @@ pub fn one_form_a_line()
 /// A document that is read is over its own names and within the limits.
 pub fn documents_are_lawful()
     ensures { (bytes : List ℕ) (d : Document) → reads_as bytes d → IsDocument d }
-{}
+{
+    one_list_of_tokens();
+}
 
 /// An accepted rule or query is over the names above it.
 pub fn accepted_lines_are_lawful()
