@@ -2,6 +2,8 @@ mod LineLemmas
 mod WrittenWordLemmas
 mod WrittenNameLemmas
 mod WrittenMapLemmas
+mod WrittenRuleLemmas
+mod WrittenWeightLemmas
 mod WrittenQueryLemmas
 mod WrittenLineLemmas
 mod ItemLemmas
