@@ -162,10 +162,10 @@ counted_forms : OneCutting → (ls : List Line) → HaveForms (map counted ls)
 counted_forms cut [] = tt
 counted_forms cut (l ∷ ls) = ((λ f e. said_form cut l.bytes f e), counted_forms cut ls)
 
-forms_first : (l : Counted) (f : LineForm) (ls : List Counted) → l.form ≡ Some f → forms (l ∷ ls) ≡ f ∷ forms ls
+pub forms_first : (l : Counted) (f : LineForm) (ls : List Counted) → l.form ≡ Some f → forms (l ∷ ls) ≡ f ∷ forms ls
 forms_first l f ls e = ap (λ o. cons_option o (forms ls)) e
 
-forms_more : (ls : List Counted) (l : Counted) (f : LineForm) → l.form ≡ Some f → forms (ls ++ l ∷ []) ≡ forms ls ++ f ∷ []
+pub forms_more : (ls : List Counted) (l : Counted) (f : LineForm) → l.form ≡ Some f → forms (ls ++ l ∷ []) ≡ forms ls ++ f ∷ []
 forms_more ls l f e = filter_map-append (λ k. k.form) ls (l ∷ []) ∙ ap (λ fs. forms ls ++ fs) (forms_first l f [] e)
 
 -- a line with no kind has a form that has none

@@ -18,6 +18,7 @@ mod GrowthLemmas
 mod LimitLemmas
 mod SaidFormLemmas
 mod DocumentLemmas
+mod WrittenDocumentLemmas
 mod KindLemmas
 mod RefusalLemmas
 mod RefusalExamples
