@@ -48,7 +48,7 @@ pattern_written _ p h = cc
 written_pattern : (p : PatternForm) → are_items p.items ≡ true → pattern_of (pattern_words p) ≡ Some p
 written_pattern p h = ap (option_map (λ is. record { control = p.control; items = is })) ((are_items_lem (items_words p.items) p.items).1 (h, refl))
 
-none_append : (test : Word → Bool) (us vs : List Word) → has_none test us ≡ true → has_none test vs ≡ true → has_none test (us ++ vs) ≡ true
+pub none_append : (test : Word → Bool) (us vs : List Word) → has_none test us ≡ true → has_none test vs ≡ true → has_none test (us ++ vs) ≡ true
 none_append test [] vs h k = k
 none_append test (u ∷ us) vs h k =
     let m = and_parts (not (test u)) (has_none test us) h in

@@ -3,6 +3,8 @@ mod WrittenWordLemmas
 mod WrittenNameLemmas
 mod WrittenMapLemmas
 mod WrittenRuleLemmas
+mod WrittenListLemmas
+mod WrittenFactLemmas
 mod WrittenWeightLemmas
 mod WrittenQueryLemmas
 mod WrittenLineLemmas

@@ -43,7 +43,7 @@ no_words word names (k ∷ ks) r h b =
     (no_words word names ks r h (All-tail (λ n. n < length names) k ks b))
 
 -- a name does not go on a mark
-begins_other : (b c : ℕ) → begins_name c ≡ false → begins_name b ≡ true → not (b == c) ≡ true
+pub begins_other : (b c : ℕ) → begins_name c ≡ false → begins_name b ≡ true → not (b == c) ≡ true
 begins_other b c f h = ap not (false_from_ne_true (b == c) (λ e. differ (sym h ∙ ap begins_name (eqb-true b c e) ∙ f)))
   where
     differ : true ≡ false → ⊥
