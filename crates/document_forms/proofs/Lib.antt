@@ -5,6 +5,8 @@ mod WrittenMapLemmas
 mod WrittenRuleLemmas
 mod WrittenListLemmas
 mod WrittenFactLemmas
+mod WrittenBitLemmas
+mod WrittenCopyLemmas
 mod WrittenWeightLemmas
 mod WrittenQueryLemmas
 mod WrittenLineLemmas

@@ -166,7 +166,7 @@ module _ (all : ℕ) (symbols : List (List ℕ)) (once : IsOnce symbols) where
       and_from (is_set (set_form symbols i.set i.star)) (are_items (map (item_form symbols) is))
       (some_set i.set i.star (All-head (λ j. HasSymbol j.set) i is h)) (some_items is (All-tail (λ j. HasSymbol j.set) i is h))
 
-not_more : (m n : ℕ) → n ≤ m → nat_lt m n ≡ false
+pub not_more : (m n : ℕ) → n ≤ m → nat_lt m n ≡ false
 not_more m n l = false_from_ne_true (nat_lt m n) (λ e. absurd (omega (arith, ltb-true m n e)))
 
 pub not_full : (m n : ℕ) → n < m → nat_le m n ≡ false
