@@ -7,6 +7,8 @@ mod WrittenListLemmas
 mod WrittenFactLemmas
 mod WrittenBitLemmas
 mod WrittenCopyLemmas
+mod WrittenExpressionLemmas
+mod WrittenActionLemmas
 mod WrittenWeightLemmas
 mod WrittenQueryLemmas
 mod WrittenLineLemmas

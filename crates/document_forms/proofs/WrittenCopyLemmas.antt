@@ -34,7 +34,7 @@ use Rattle.document_forms.proofs.WrittenNameLemmas.{number_named, numbers_named,
 use Rattle.document_forms.proofs.WrittenMapLemmas.{no_word, begins_other}
 use Rattle.document_forms.proofs.WrittenQueryLemmas.{not_full, not_more}
 use Rattle.document_forms.proofs.WrittenRuleLemmas.{WeightIs}
-use Rattle.document_forms.proofs.WrittenListLemmas.{SayEach, between, says_listed, NoneHas, parted_between, none_between, each_again}
+use Rattle.document_forms.proofs.WrittenListLemmas.{SayEach, between, says_listed, NoneHas, parted_between, none_between, each_again, fronted, fronted_first}
 use Rattle.document_forms.proofs.WrittenBitLemmas.{bits_again, set_below}
 
 -- ---- numbers with a sign
@@ -369,14 +369,6 @@ module _ (names : List (List ℕ)) (named : All IsName names) (once : IsOnce nam
       go : (ps : List PartForm) → has_none is_equal (undefined_words ps) ≡ true
       go [] = refl
       go (p ∷ ps) = none_between is_equal (Sign Comma) refl (map part_words (p ∷ ps)) (none_in_parts is_equal part_no_equal (p ∷ ps))
-
-  abbrev fronted : List Word → List (List Word) → List (List Word)
-  fronted [] ps = ps
-  fronted (w ∷ ws) ps = in_front w (fronted ws ps)
-
-  fronted_first : (ws p : List Word) (ps : List (List Word)) → fronted ws (p ∷ ps) ≡ (ws ++ p) ∷ ps
-  fronted_first [] p ps = refl
-  fronted_first (w ∷ ws) p ps = ap (in_front w) (fronted_first ws p ps)
 
   abbrev no_equal_first : List Word → Bool
   no_equal_first [] = true

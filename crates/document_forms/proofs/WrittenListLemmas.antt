@@ -85,3 +85,17 @@ each_again f g P k [] h = refl
 each_again {B = B} f g P k (y ∷ ys) h =
     ap (λ o. elim o as (λ _. Option (List B)) [ None ↦ None | Some z ↦ option_map (λ zs. z ∷ zs) (each f (map g ys)) ]) (k y (All-head P y ys h))
     ∙ ap (option_map (λ zs. y ∷ zs)) (each_again f g P k ys (All-tail P y ys h))
+
+-- ---- words in front of pieces
+
+abbrev pub fronted : List Word → List (List Word) → List (List Word)
+fronted [] ps = ps
+fronted (w ∷ ws) ps = in_front w (fronted ws ps)
+
+pub fronted_first : (ws p : List Word) (ps : List (List Word)) → fronted ws (p ∷ ps) ≡ (ws ++ p) ∷ ps
+fronted_first [] p ps = refl
+fronted_first (w ∷ ws) p ps = ap (in_front w) (fronted_first ws p ps)
+
+pub fronted_both : (us vs : List Word) (ps : List (List Word)) → fronted (us ++ vs) ps ≡ fronted us (fronted vs ps)
+fronted_both [] vs ps = refl
+fronted_both (u ∷ us) vs ps = ap (in_front u) (fronted_both us vs ps)
