@@ -2,7 +2,7 @@
 use Rattle.std.proofs.Common.{◌≡◌, ◌≢◌, ℕ, zero, suc, ◌+◌, ◌<◌, ◌≤◌, Bool, true, false, not, cond, ◌&&◌, ◌||◌, ◌==◌, List, [], ◌∷◌, ◌++◌, map, length, Option, Some, None, refl, sym, ap, ap₂, ◌∙◌, subst, append_assoc, append-nil, arith}
 use Rattle.std.specs.Prelude.{All, bytes_eq, codes, flat_map, nat_lt, if◌then◌else◌, option_map, zip}
 use Rattle.std.specs.List.{list_any}
-use Rattle.std.proofs.lemmas.Bool.{and_from, or_from}
+use Rattle.std.proofs.lemmas.Bool.{and_from, or_from, eq-eqb}
 use Rattle.std.proofs.lemmas.List.Elements.{All-nil, All-cons, All-head, All-tail}
 use Rattle.std.proofs.lemmas.List.{length-map}
 use Rattle.wpds_base.specs.Limits.{most_depth}
@@ -330,7 +330,7 @@ module _ (names : List (List ℕ)) (named : All IsName names) (once : IsOnce nam
   action_trees_pass test f (Assign ps) h = values_pass test f ps h.1
 
   same_lengths : (ps : List Assignment) → (length (map (name names) (variables ps)) == length (values_form ps)) ≡ true
-  same_lengths ps = Rattle.std.proofs.lemmas.Bool.eq-eqb (length (map (name names) (variables ps))) (length (values_form ps)) (length-map (variables ps) (name names) ∙ length-map ps (λ p. p.variable) ∙ sym (length-map ps (λ p. value_form p.value)))
+  same_lengths ps = eq-eqb (length (map (name names) (variables ps))) (length (values_form ps)) (length-map (variables ps) (name names) ∙ length-map ps (λ p. p.variable) ∙ sym (length-map ps (λ p. value_form p.value)))
 
   action_even : (a : Action) → IsOne a → is_uneven (action_form a) ≡ false
   action_even (Assume f) h = refl
