@@ -22,6 +22,10 @@ pub implies_only : (w : Word) → is_implies w ≡ true → w ≡ Sign Implies
 implies_only (Sign Implies) h = refl
 implies_only _ h = cc
 
+pub equal_only : (w : Word) → is_equal w ≡ true → w ≡ Sign Equal
+equal_only (Sign Equal) h = refl
+equal_only w h = cc
+
 pub name_only : (x : List ℕ) (w : Word) → is_name x w ≡ true → w ≡ Name x
 name_only x (Name y) h = ap Name (sym ((bytes_eq-Decides x y).0 h))
 name_only x (Number n) h = cc

@@ -141,7 +141,7 @@ some_moves (p ∷ ps) ms h =
     let m = of_each move_of p ps ms h in
     (subst (λ l. is_some_list l ≡ true) m.4 refl, moves_joined (p ∷ ps) ms h)
 
-moves_written : (ws : List Word) (ms : List MoveForm) → moves_of ws ≡ Some ms → (is_some_list ms ≡ true) × (flat_map move_words ms ≡ ws)
+pub moves_written : (ws : List Word) (ms : List MoveForm) → moves_of ws ≡ Some ms → (is_some_list ms ≡ true) × (flat_map move_words ms ≡ ws)
 moves_written ws ms h = let k = go (pairs ws) h in (k.0, k.1 ∙ pairs_joined ws)
   where
     go : (ps : List (List Word)) → moves_in ps ≡ Some ms → (is_some_list ms ≡ true) × (flat_map move_words ms ≡ all_pieces ps)
@@ -165,7 +165,7 @@ each_move : (ms : List MoveForm) → each move_of (map move_words ms) ≡ Some m
 each_move [] = refl
 each_move (m ∷ ms) = ap (option_map (λ ys. m ∷ ys)) (each_move ms)
 
-written_moves : (ms : List MoveForm) → is_some_list ms ≡ true → moves_of (flat_map move_words ms) ≡ Some ms
+pub written_moves : (ms : List MoveForm) → is_some_list ms ≡ true → moves_of (flat_map move_words ms) ≡ Some ms
 written_moves [] h = cc
 written_moves (m ∷ ms) h = ap moves_in (pairs_of_moves (m ∷ ms)) ∙ each_move (m ∷ ms)
 

@@ -8,11 +8,10 @@ use Rattle.std.proofs.lemmas.Slice.Eq.{bytes_eq-Decides}
 use Rattle.wpds_base.specs.Limits.{most_depth}
 use Rattle.wpds_base.specs.Lists.{IsIn, IsOnce}
 use Rattle.truth_tables.specs.Formulas.{Formula, Constant as Const, Variable as Var, Opposite, Binary, Ternary, is_over}
-use Rattle.truth_tables.specs.Grammar.{Tree, Constant, Variable, Bracket, Inverse, Two, Table2, Table3, table_of, number_of, has_large_table, depth, formula_of}
+use Rattle.truth_tables.specs.Grammar.{Tree, Constant, Variable, Bracket, Inverse, Two, Table2, Table3, tree_variables, table_of, number_of, has_large_table, depth, formula_of}
 use Rattle.truth_tables.specs.declared.Operator.{Operator}
 use Rattle.truth_tables.specs.declared.Operator.TheVariants.{Then as ThenOperator, Same as SameOperator, Other as OtherOperator, Or as OrOperator, Xor as XorOperator, And as AndOperator}
 use Rattle.document_forms.specs.Names.{is_among, has_twice, has_unknown, number_in, name}
-use Rattle.document_forms.specs.Kinds.{tree_names}
 use Rattle.document_forms.specs.Documents.{over_numbers, expression_value}
 use Rattle.document_forms.specs.Lawful.{AreBelow, AreSome, nesting, has_small_ternaries, IsExpressionText}
 use Rattle.document_forms.proofs.NameLemmas.{twice_is_once}
@@ -52,7 +51,7 @@ small_table OrOperator = refl
 small_table XorOperator = refl
 small_table AndOperator = refl
 
-pub is_over_names : (names : List (List ℕ)) (e : Tree) → has_unknown names (tree_names e) ≡ false → has_large_table e ≡ false → is_over (length names) (expression_value names e) ≡ true
+pub is_over_names : (names : List (List ℕ)) (e : Tree) → has_unknown names (tree_variables e) ≡ false → has_large_table e ≡ false → is_over (length names) (expression_value names e) ≡ true
 is_over_names names (Constant b) h t = refl
 is_over_names names (Variable x) h t =
     let k = or_parts (not (is_among names x)) false h in
@@ -60,14 +59,14 @@ is_over_names names (Variable x) h t =
 is_over_names names (Bracket e) h t = is_over_names names e h t
 is_over_names names (Inverse e) h t = is_over_names names e h t
 is_over_names names (Two o a b) h t =
-    let k = known_parts names (tree_names a) (tree_names b) h in
+    let k = known_parts names (tree_variables a) (tree_variables b) h in
     let s = or_parts (has_large_table a) (has_large_table b) t in
     and3 (nat_lt (table_of o) 16) (is_over (length names) (expression_value names a)) (is_over (length names) (expression_value names b)) (small_table o) (is_over_names names a k.0 s.0) (is_over_names names b k.1 s.1)
   where
     and3 : (x y z : Bool) → x ≡ true → y ≡ true → z ≡ true → (x && y && z) ≡ true
     and3 x y z e f g = rw (e, f, g) refl
 is_over_names names (Table2 n a b) h t =
-    let k = known_parts names (tree_names a) (tree_names b) h in
+    let k = known_parts names (tree_variables a) (tree_variables b) h in
     let s = or_parts (nat_lt 15 (number_of n)) (has_large_table a || has_large_table b) t in
     let u = or_parts (has_large_table a) (has_large_table b) s.1 in
     let few = ltb-false 15 (number_of n) s.0 in
@@ -76,8 +75,8 @@ is_over_names names (Table2 n a b) h t =
     and3 : (x y z : Bool) → x ≡ true → y ≡ true → z ≡ true → (x && y && z) ≡ true
     and3 x y z e f g = rw (e, f, g) refl
 is_over_names names (Table3 n a b c) h t =
-    let k = known_parts names (tree_names a) (tree_names b ++ tree_names c) h in
-    let m = known_parts names (tree_names b) (tree_names c) k.1 in
+    let k = known_parts names (tree_variables a) (tree_variables b ++ tree_variables c) h in
+    let m = known_parts names (tree_variables b) (tree_variables c) k.1 in
     let s = or_parts (nat_lt 255 (number_of n)) (has_large_table a || (has_large_table b || has_large_table c)) t in
     let u = or_parts (has_large_table a) (has_large_table b || has_large_table c) s.1 in
     let v = or_parts (has_large_table b) (has_large_table c) u.1 in
@@ -127,7 +126,7 @@ small_ternaries names (Table3 n a b c) t =
     and_from (nat_le (number_of n) 255) (f && (g && h)) (le-leb (number_of n) 255 (ltb-false 255 (number_of n) s.0))
     (and_from f (g && h) (small_ternaries names a u.0) (and_from g h (small_ternaries names b v.0) (small_ternaries names c v.1)))
 
-pub expression_lawful : (names : List (List ℕ)) (e : Tree) → has_unknown names (tree_names e) ≡ false → has_large_table e ≡ false → nat_lt most_depth (depth e) ≡ false → IsExpressionText (length names) (expression_value names e)
+pub expression_lawful : (names : List (List ℕ)) (e : Tree) → has_unknown names (tree_variables e) ≡ false → has_large_table e ≡ false → nat_lt most_depth (depth e) ≡ false → IsExpressionText (length names) (expression_value names e)
 expression_lawful names e h t d = record {
   over = is_over_names names e h t;
   ternaries = small_ternaries names e t;

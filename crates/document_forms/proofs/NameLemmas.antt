@@ -34,7 +34,7 @@ filter_append x (y ∷ ys) zs = go (other x y) (filter_append x ys zs)
     go true e = ap (λ l. y ∷ l) e
     go false e = e
 
-once_alone : (ys : List (List ℕ)) → has_twice ys ≡ false → once ys ≡ ys
+pub once_alone : (ys : List (List ℕ)) → has_twice ys ≡ false → once ys ≡ ys
 once_alone [] h = refl
 once_alone (y ∷ ys) h =
     let k = or_parts (is_among ys y) (has_twice ys) h in
@@ -153,7 +153,7 @@ once_filtered x (y ∷ ys) h = go (other x y) (once_filtered x ys h.1)
     go true m = (λ i. h.0 (in_filtered x y ys i).0, m)
     go false m = m
 
-once_is_once : (xs : List (List ℕ)) → IsOnce (once xs)
+pub once_is_once : (xs : List (List ℕ)) → IsOnce (once xs)
 once_is_once [] = tt
 once_is_once (x ∷ xs) = (λ i. (in_filtered x x (once xs) i).1 refl, once_filtered x (once xs) (once_is_once xs))
 
@@ -165,3 +165,101 @@ pub once_joined : (known xs : List (List ℕ)) → IsOnce known → list_any (is
 once_joined known xs o n t =
     let alone = once_alone known (once_twice known o) in
     once_more known xs (subst (λ ks. NoneAmong ks xs) (sym alone) (none_among known xs n)) t ∙ ap (λ ks. ks ++ xs) alone
+
+-- ---- names that are added one by one
+
+filter_again : (x : List ℕ) (ys : List (List ℕ)) → filter (other x) (filter (other x) ys) ≡ filter (other x) ys
+filter_again x [] = refl
+filter_again x (y ∷ ys) = go (other x y) refl (filter_again x ys)
+  where
+    go : (t : Bool) → other x y ≡ t → filter (other x) (filter (other x) ys) ≡ filter (other x) ys
+        → filter (other x) (cond t (y ∷ filter (other x) ys) (filter (other x) ys)) ≡ cond t (y ∷ filter (other x) ys) (filter (other x) ys)
+    go true e more = rw e (ap (λ l. y ∷ l) more)
+    go false e more = more
+
+filter_swap : (x z : List ℕ) (ys : List (List ℕ)) → filter (other x) (filter (other z) ys) ≡ filter (other z) (filter (other x) ys)
+filter_swap x z [] = refl
+filter_swap x z (y ∷ ys) = go (other x y) (other z y) refl refl (filter_swap x z ys)
+  where
+    go : (s t : Bool) → other x y ≡ s → other z y ≡ t → filter (other x) (filter (other z) ys) ≡ filter (other z) (filter (other x) ys)
+        → filter (other x) (cond t (y ∷ filter (other z) ys) (filter (other z) ys)) ≡ filter (other z) (cond s (y ∷ filter (other x) ys) (filter (other x) ys))
+    go true true d e more = rw (d, e) (ap (λ l. y ∷ l) more)
+    go true false d e more = rw e more
+    go false true d e more = rw d more
+    go false false d e more = more
+
+-- a name that is left out anyway may stand there or not
+filter_skip : (x : List ℕ) (ks xs : List (List ℕ)) → filter (other x) (once (ks ++ x ∷ xs)) ≡ filter (other x) (once (ks ++ xs))
+filter_skip x [] xs = rw (ap not ((bytes_eq-Decides x x).1 refl)) (filter_again x (once xs))
+filter_skip x (k ∷ ks) xs = go (other x k) refl (filter_skip x ks xs)
+  where
+    inside : filter (other x) (once (ks ++ x ∷ xs)) ≡ filter (other x) (once (ks ++ xs)) → filter (other x) (filter (other k) (once (ks ++ x ∷ xs))) ≡ filter (other x) (filter (other k) (once (ks ++ xs)))
+    inside more = filter_swap x k (once (ks ++ x ∷ xs)) ∙ ap (filter (other k)) more ∙ sym (filter_swap x k (once (ks ++ xs)))
+
+    go : (t : Bool) → other x k ≡ t → filter (other x) (once (ks ++ x ∷ xs)) ≡ filter (other x) (once (ks ++ xs))
+        → cond t (k ∷ filter (other x) (filter (other k) (once (ks ++ x ∷ xs)))) (filter (other x) (filter (other k) (once (ks ++ x ∷ xs)))) ≡ cond t (k ∷ filter (other x) (filter (other k) (once (ks ++ xs)))) (filter (other x) (filter (other k) (once (ks ++ xs))))
+    go true e more = ap (λ l. k ∷ l) (inside more)
+    go false e more = inside more
+
+-- a name that is known adds nothing
+pub once_known : (ks : List (List ℕ)) (x : List ℕ) (xs : List (List ℕ)) → is_among ks x ≡ true → once (ks ++ x ∷ xs) ≡ once (ks ++ xs)
+once_known [] x xs h = cc
+once_known (k ∷ ks) x xs h = go (bytes_eq x k) refl h (once_known ks x xs)
+  where
+    go : (t : Bool) → bytes_eq x k ≡ t → (t || is_among ks x) ≡ true → (is_among ks x ≡ true → once (ks ++ x ∷ xs) ≡ once (ks ++ xs)) → once ((k ∷ ks) ++ x ∷ xs) ≡ once ((k ∷ ks) ++ xs)
+    go true e i more = let same : x ≡ k = (bytes_eq-Decides x k).0 e in ap (λ l. k ∷ l) (subst (λ y. filter (other y) (once (ks ++ x ∷ xs)) ≡ filter (other y) (once (ks ++ xs))) same (filter_skip x ks xs))
+    go false e i more = ap (λ l. k ∷ filter (other k) l) (more i)
+
+among_either : (ks : List (List ℕ)) (x y : List ℕ) → is_among (ks ++ x ∷ []) y ≡ (is_among ks y || bytes_eq y x)
+among_either [] x y = or_none (bytes_eq y x)
+  where
+    or_none : (t : Bool) → (t || false) ≡ t
+    or_none true = refl
+    or_none false = refl
+among_either (k ∷ ks) x y = ap (λ t. bytes_eq y k || t) (among_either ks x y) ∙ grouped (bytes_eq y k) (is_among ks y) (bytes_eq y x)
+  where
+    grouped : (a b c : Bool) → (a || (b || c)) ≡ ((a || b) || c)
+    grouped true b c = refl
+    grouped false b c = refl
+
+equal_both_ways : (x y : List ℕ) → bytes_eq x y ≡ bytes_eq y x
+equal_both_ways x y = go (bytes_eq x y) refl
+  where
+    go : (t : Bool) → bytes_eq x y ≡ t → t ≡ bytes_eq y x
+    go true e = sym ((bytes_eq-Decides y x).1 (sym ((bytes_eq-Decides x y).0 e)))
+    go false e = sym (same_both_ways x y e)
+
+any_either : (ks : List (List ℕ)) (x : List ℕ) (xs : List (List ℕ)) → list_any (is_among (ks ++ x ∷ [])) xs ≡ (list_any (is_among ks) xs || is_among xs x)
+any_either ks x [] = refl
+any_either ks x (y ∷ ys) =
+    ap (λ t. t || list_any (is_among (ks ++ x ∷ [])) ys) (among_either ks x y ∙ ap (λ t. is_among ks y || t) (equal_both_ways y x))
+    ∙ ap (λ t. (is_among ks y || bytes_eq x y) || t) (any_either ks x ys)
+    ∙ mixed (is_among ks y) (bytes_eq x y) (list_any (is_among ks) ys) (is_among ys x)
+  where
+    mixed : (a b c d : Bool) → ((a || b) || (c || d)) ≡ ((a || c) || (b || d))
+    mixed true b c d = refl
+    mixed false true true d = refl
+    mixed false true false d = refl
+    mixed false false c d = refl
+
+-- one of these names is known, or stands twice
+abbrev pub has_known : List (List ℕ) → List (List ℕ) → Bool
+has_known ks xs = has_twice xs || list_any (is_among ks) xs
+
+pub known_first : (ks : List (List ℕ)) (x : List ℕ) (xs : List (List ℕ)) → is_among ks x ≡ true → has_known ks (x ∷ xs) ≡ true
+known_first ks x xs h = rw h (any_true (is_among xs x || has_twice xs))
+  where
+    any_true : (t : Bool) → (t || true) ≡ true
+    any_true true = refl
+    any_true false = refl
+
+pub known_next : (ks : List (List ℕ)) (x : List ℕ) (xs : List (List ℕ)) → is_among ks x ≡ false → has_known ks (x ∷ xs) ≡ has_known (ks ++ x ∷ []) xs
+known_next ks x xs h = rw h (turned (is_among xs x) (has_twice xs) (list_any (is_among ks) xs) ∙ ap (λ t. has_twice xs || t) (sym (any_either ks x xs)))
+  where
+    turned : (a b c : Bool) → ((a || b) || c) ≡ (b || (c || a))
+    turned true true c = refl
+    turned true false true = refl
+    turned true false false = refl
+    turned false true c = refl
+    turned false false true = refl
+    turned false false false = refl

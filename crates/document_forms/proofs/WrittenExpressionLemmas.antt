@@ -9,14 +9,13 @@ use Rattle.wpds_port.specs.declared.Mark.TheVariants.{Becomes, Semicolon, Comma,
 use Rattle.wpds_port.specs.declared.Word.{Word}
 use Rattle.wpds_port.specs.declared.Word.TheVariants.{Name, Number, Mark as Sign}
 use Rattle.truth_tables.specs.Formulas.{Formula, Constant as Const, Variable as Var, Opposite, Binary, Ternary, is_over}
-use Rattle.truth_tables.specs.Grammar.{Tree, Constant, Variable, Inverse, Table2, Table3, digit_of, tree_words, level, is_expression_word, is_grouped, Writes, depth, number_of, has_large_table}
+use Rattle.truth_tables.specs.Grammar.{Tree, Constant, Variable, Inverse, Table2, Table3, digit_of, tree_words, tree_variables, level, is_expression_word, is_grouped, Writes, depth, number_of, has_large_table}
 use Rattle.truth_tables.specs.Stacks.{tree_of}
-use Rattle.truth_tables.specs.Texts.{brackets_after}
+use Rattle.wpds_port.specs.Words.{brackets_after}
 use Rattle.document_forms.specs.Lines.{in_front}
 use Rattle.document_forms.specs.Names.{is_reserved, has_unknown, name}
 use Rattle.document_forms.specs.Words.{is_comma, is_semicolon, is_becomes, is_return, parted_outside}
 use Rattle.document_forms.specs.FormWords.{has_none}
-use Rattle.document_forms.specs.Kinds.{tree_names}
 use Rattle.document_forms.specs.Documents.{expression_value}
 use Rattle.document_forms.specs.Writing.{expression_text}
 use Rattle.document_forms.specs.Lawful.{IsName, nesting, has_small_ternaries, IsExpressionText}
@@ -286,14 +285,14 @@ module _ (names : List (List ℕ)) (named : All IsName names) (once : IsOnce nam
       (or_from (has_large_table (tree_at f)) (has_large_table (tree_at g) || has_large_table (tree_at i)) (tree_small f h.1)
       (or_from (has_large_table (tree_at g)) (has_large_table (tree_at i)) (tree_small g h.2) (tree_small i h.3)))
 
-  pub tree_known : (f : Formula ℕ) → IsFit f → has_unknown names (tree_names (tree_at f)) ≡ false
+  pub tree_known : (f : Formula ℕ) → IsFit f → has_unknown names (tree_variables (tree_at f)) ≡ false
   tree_known (Const b) h = refl
   tree_known (Var k) h = known_more names (name names k) [] (name_among names k h) refl
   tree_known (Opposite f) h = tree_known f h
-  tree_known (Binary t f g) h = known_both names (tree_names (tree_at f)) (tree_names (tree_at g)) (tree_known f h.1) (tree_known g h.2)
+  tree_known (Binary t f g) h = known_both names (tree_variables (tree_at f)) (tree_variables (tree_at g)) (tree_known f h.1) (tree_known g h.2)
   tree_known (Ternary t f g i) h =
-      known_both names (tree_names (tree_at f)) (tree_names (tree_at g) ++ tree_names (tree_at i)) (tree_known f h.1)
-      (known_both names (tree_names (tree_at g)) (tree_names (tree_at i)) (tree_known g h.2) (tree_known i h.3))
+      known_both names (tree_variables (tree_at f)) (tree_variables (tree_at g) ++ tree_variables (tree_at i)) (tree_known f h.1)
+      (known_both names (tree_variables (tree_at g)) (tree_variables (tree_at i)) (tree_known g h.2) (tree_known i h.3))
 
   -- ---- words that stand in no expression
 

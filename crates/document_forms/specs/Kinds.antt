@@ -3,7 +3,7 @@ use Rattle.std.specs.Prelude.{ℕ, ◌+◌, ◌*◌, ◌^◌, Bool, true, false,
 use Rattle.std.specs.List.{list_any}
 use Rattle.wpds_base.specs.Limits.{most_rules, most_queries, most_items, most_edges, most_cost, most_depth}
 use Rattle.wpds_port.specs.declared.Word.{Word}
-use Rattle.truth_tables.specs.Grammar.{Tree, Constant, Variable, Bracket, Inverse, Two, Table2, Table3, depth, number_of, has_large_table}
+use Rattle.truth_tables.specs.Grammar.{Tree, depth, number_of, has_large_table, tree_variables}
 use Rattle.document_forms.specs.declared.weight.WeightsLine.{WeightsLine}
 use Rattle.document_forms.specs.declared.weight.WeightsLine.TheVariants.{GenKill, Copy, Relation}
 use Rattle.document_forms.specs.Names.{is_among, has_twice, once, has_unknown}
@@ -21,16 +21,6 @@ Conditions = List (Bool × Kind)
 
 -- ---- the names of a weight
 
--- the variables of an expression, as often as they stand
-abbrev pub tree_names : Tree → List (List ℕ)
-tree_names (Constant b) = []
-tree_names (Variable x) = x ∷ []
-tree_names (Bracket e) = tree_names e
-tree_names (Inverse e) = tree_names e
-tree_names (Two o a b) = tree_names a ++ tree_names b
-tree_names (Table2 n a b) = tree_names a ++ tree_names b
-tree_names (Table3 n a b c) = tree_names a ++ (tree_names b ++ tree_names c)
-
 abbrev pub part_names : PartForm → List (List ℕ)
 part_names (OfVariable x) = x ∷ []
 part_names (OfNumber negative n) = []
@@ -41,10 +31,10 @@ parts_names _ = []
 
 abbrev pub value_names : ValueForm → List (List ℕ)
 value_names FreeValue = []
-value_names (TreeValue e) = tree_names e
+value_names (TreeValue e) = tree_variables e
 
 abbrev pub action_names : ActionForm → List (List ℕ)
-action_names (AssumeForm e) = tree_names e
+action_names (AssumeForm e) = tree_variables e
 action_names (ChooseForm xs) = xs
 action_names (AssignForm xs vs) = xs ++ flat_map value_names vs
 

@@ -3,8 +3,9 @@ use Rattle.std.specs.Prelude.{ℕ, Bool, true, false, ◌&&◌, ◌==◌, List, 
 use Rattle.wpds_port.specs.declared.Mark.TheVariants.{Comma, Colon, Semicolon, Equal, Implies, Becomes}
 use Rattle.wpds_port.specs.declared.Word.{Word}
 use Rattle.wpds_port.specs.declared.Word.TheVariants.{Name, Mark as Sign}
+use Rattle.wpds_port.specs.Words.{brackets_after}
 pub use Rattle.wpds_port.specs.Words.{before, behind}
-use Rattle.truth_tables.specs.Texts.{is_name, brackets_after}
+use Rattle.truth_tables.specs.Texts.{is_name}
 use Rattle.document_forms.specs.Lines.{in_front}
 
 -- ---- the marks that cut

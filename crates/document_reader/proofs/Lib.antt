@@ -1,1 +1,17 @@
+mod DigitLemmas
+mod EdgeLemmas
+mod FactLemmas
+mod FirstLinesLemmas
+mod ItemsLeftLemmas
+mod LineFormLemmas
+mod LineLemmas
+mod NameLineLemmas
+mod NamesOnceLemmas
+mod NumberLemmas
 mod NumberedLemmas
+mod PatternLemmas
+mod ReadingLemmas
+mod ReturnLemmas
+mod SetLemmas
+mod SymbolLemmas
+mod SystemLemmas

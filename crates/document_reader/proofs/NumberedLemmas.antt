@@ -14,7 +14,7 @@ use Rattle.document_reader.specs.NameTables.{IsNumbered, at_name, number_among}
 differ : false ≡ true → ⊥
 differ e = cc
 
-is_among-push :
+pub is_among-push :
     (names : List (List ℕ)) (x y : List ℕ)
     → is_among (names ++ x ∷ []) y ≡ (is_among names y || bytes_eq y x)
 is_among-push [] x y = grind arith

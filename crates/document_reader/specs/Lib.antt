@@ -1,1 +1,11 @@
+pub mod FactReads
+pub mod Found
+pub mod ItemReading
+pub mod LinesLeft
 pub mod NameTables
+pub mod NamesOnce
+pub mod QueryReading
+pub mod Readings
+pub mod RuleReads
+pub mod WeightReads
+pub mod private

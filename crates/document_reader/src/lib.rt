@@ -1,6 +1,28 @@
-//! Reads the text of a pushdown system, once from front to back: its document, or its first refusal.
+//! Reads the text of a pushdown system: its document, or its first refusal.
 #![tactic(auto)]
 
+mod digits;
+mod headers;
+mod items;
+mod lexemes;
+mod lines;
+mod name_lines;
 mod names;
+mod patterns;
+mod queries;
+mod reading;
+mod returns;
+mod rules;
+mod stubs;
+mod symbols;
+mod system;
+mod weights;
+mod weights_lines;
+
+pub use headers::language;
+pub use system::read_system;
+
+#[cfg(test)]
+mod query_tests;
 #[cfg(test)]
 mod tests;

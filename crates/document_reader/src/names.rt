@@ -42,12 +42,18 @@ impl<'t> NameTable<'t> {
         }
     }
 
-    /// How many names there are. Each stands once.
+    /// How many names there are.
     pub(crate) fn len(&self) -> usize
-        ensures number { result ≡ length self.now }
-        ensures once { IsOnce self.now }
+        ensures { result ≡ length self.now }
     {
         self.order.len()
+    }
+
+    /// Each name stands once.
+    pub(crate) fn stands_once(&self)
+        ensures { IsOnce self.now }
+    {
+        let _ = &self.order;
     }
 
     /// The number of a name, if it is there.

@@ -1,7 +1,8 @@
+mod AnswerLemmas
 mod MachineLemmas
 mod OperandLemmas
 mod OutcomeLemmas
-mod StackLemmas
-mod TextLemmas
 mod Readings
+mod StackLemmas
 mod Trees
+mod VariableLemmas

@@ -73,6 +73,11 @@ least_right o = operator_level o + 1
 abbrev pub is_expression_word : List ℕ → Bool
 is_expression_word x = bytes_eq x (codes "return") || bytes_eq x (codes "tab2") || bytes_eq x (codes "tab3")
 
+-- a name other than `tab2` and `tab3`: among the words of an expression, a variable
+abbrev pub is_variable_word : Word → Bool
+is_variable_word (Name x) = not (bytes_eq x (codes "tab2") || bytes_eq x (codes "tab3"))
+is_variable_word _ = false
+
 -- the tree groups as the levels say
 abbrev pub is_grouped : Tree → Bool
 is_grouped (Constant b) = true
@@ -119,6 +124,16 @@ has_large_table (Inverse e) = has_large_table e
 has_large_table (Two o a b) = has_large_table a || has_large_table b
 has_large_table (Table2 n a b) = nat_lt most_table2 (number_of n) || (has_large_table a || has_large_table b)
 has_large_table (Table3 n a b c) = nat_lt most_table3 (number_of n) || (has_large_table a || (has_large_table b || has_large_table c))
+
+-- the variables, as often as they stand
+abbrev pub tree_variables : Tree → List (List ℕ)
+tree_variables (Constant b) = []
+tree_variables (Variable x) = x ∷ []
+tree_variables (Bracket e) = tree_variables e
+tree_variables (Inverse e) = tree_variables e
+tree_variables (Two o a b) = tree_variables a ++ tree_variables b
+tree_variables (Table2 n a b) = tree_variables a ++ tree_variables b
+tree_variables (Table3 n a b c) = tree_variables a ++ (tree_variables b ++ tree_variables c)
 
 -- ---- the operator tables
 

@@ -12,7 +12,7 @@ use Rattle.truth_tables.specs.declared.raw.RawExpr.{RawExpr, Const as Const', Va
 -- the formula that an expression in memory is
 abbrev pub raw_formula : RawExpr → Formula (List ℕ)
 raw_formula (Const' b) = Const b
-raw_formula (Var' x) = Var x
+raw_formula (Var' x) = Var x.now
 raw_formula (Not' p e) = Opposite (raw_formula e)
 raw_formula (Two' t p e q f) = Binary t (raw_formula e) (raw_formula f)
 raw_formula (Three' t p e q f r g) = Ternary t (raw_formula e) (raw_formula f) (raw_formula g)

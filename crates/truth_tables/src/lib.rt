@@ -11,14 +11,16 @@ mod reading;
 mod stack;
 mod steps;
 mod tables;
+mod variables;
 
 pub use expr::{Expr, eval};
 pub use instances::{instance2, instance3};
-pub use laws::{one_making, one_tree};
+pub use laws::{one_making, one_tree, variables_among_words};
 pub use operator::Operator;
 pub use raw::RawExpr;
 pub use reading::{ExprRead, read_expr};
 pub use tables::{Table2, Table3, value2, value3};
+pub use variables::is_variable;
 
 #[cfg(test)]
 mod tests;

@@ -4,7 +4,6 @@ ghost use Rattle.truth_tables.specs.Operands.{both_of, level_more, built_of, ope
 use crate::RawExpr;
 use std::alloc::Global;
 use wpds_base::OutOfMemory;
-use wpds_port::Text;
 
 /// Why an expression that has its form is not read.
 #[derive(Clone, Copy, Debug, PartialEq, Eq)]
@@ -17,13 +16,13 @@ pub(crate) enum Unread {
 
 /// An expression that was read, and how deep it was written.
 #[derive(Drop)]
-pub(crate) struct Built {
-    pub(crate) expr: RawExpr,
+pub(crate) struct Built<'t> {
+    pub(crate) expr: RawExpr<'t>,
     pub(crate) depth: u32,
 }
 
 /// A part of an expression while it is read: built, as long as it is not too deep.
-pub(crate) type Operand = Result<Built, Unread>;
+pub(crate) type Operand<'t> = Result<Built<'t>, Unread>;
 
 /// The number of a table, if it is not too large.
 pub(crate) type TableNumber = Result<u8, Unread>;
@@ -41,8 +40,8 @@ fn both<A: Drop, B: Drop>(a: Result<A, Unread>, b: Result<B, Unread>) -> Result<
 }
 
 // An expression over parts of this depth.
-fn above(limit: u32, below: u32, expr: RawExpr) -> Operand
-    ensures { operand_of result ≡ level_more limit below (raw_formula expr) }
+fn above<'t>(limit: u32, below: u32, expr: RawExpr<'t>) -> Operand<'t>
+    ensures { operand_of result ≡ level_more limit below (raw_formula expr.entry) }
 {
     if below < limit {
         Ok(Built {
@@ -55,23 +54,22 @@ fn above(limit: u32, below: u32, expr: RawExpr) -> Operand
 }
 
 /// A constant as an expression.
-pub(crate) fn constant(limit: u32, value: bool) -> Operand
+pub(crate) fn constant<'t>(limit: u32, value: bool) -> Operand<'t>
     ensures { operand_of result ≡ level_more limit 0 (Const value) }
 {
     above(limit, 0, RawExpr::Const(value))
 }
 
-/// A variable as an expression. Its name is copied.
-pub(crate) fn variable(alloc: Global, limit: u32, name: &Text) -> Result<Operand, OutOfMemory>
-    ensures { IfOk result (λ e. operand_of e ≡ level_more limit 0 (Var name.now)) }
+/// A variable as an expression.
+pub(crate) fn variable<'t>(limit: u32, name: &'t [u8]) -> Operand<'t>
+    ensures { operand_of result ≡ level_more limit 0 (Var name.now) }
 {
-    let name = Text::of(alloc, name.as_bytes())?;
-    Ok(above(limit, 0, RawExpr::Var(name)))
+    above(limit, 0, RawExpr::Var(name))
 }
 
 /// An expression in brackets, which is one level deeper.
-pub(crate) fn bracket(limit: u32, operand: Operand) -> Operand
-    ensures { operand_of result ≡ bracketed limit (operand_of operand) }
+pub(crate) fn bracket<'t>(limit: u32, operand: Operand<'t>) -> Operand<'t>
+    ensures { operand_of result ≡ bracketed limit (operand_of operand.entry) }
 {
     match operand {
         Ok(built) => above(limit, built.depth, built.expr),
@@ -80,8 +78,12 @@ pub(crate) fn bracket(limit: u32, operand: Operand) -> Operand
 }
 
 /// The inverse of an expression, which is one level deeper.
-pub(crate) fn inverse(alloc: Global, limit: u32, operand: Operand) -> Result<Operand, OutOfMemory>
-    ensures { IfOk result (λ e. operand_of e ≡ opposite limit (operand_of operand)) }
+pub(crate) fn inverse<'t>(
+    alloc: Global,
+    limit: u32,
+    operand: Operand<'t>,
+) -> Result<Operand<'t>, OutOfMemory>
+    ensures { IfOk result (λ e. operand_of e ≡ opposite limit (operand_of operand.entry)) }
 {
     match operand {
         Ok(built) => {
@@ -93,15 +95,15 @@ pub(crate) fn inverse(alloc: Global, limit: u32, operand: Operand) -> Result<Ope
 }
 
 #[tactic(auto, using(crate::proofs::OperandLemmas::two_built, crate::proofs::OperandLemmas::two_unread))]
-pub(crate) fn two(
+pub(crate) fn two<'t>(
     alloc: Global,
     limit: u32,
     table: TableNumber,
-    left: Operand,
-    right: Operand,
-) -> Result<Operand, OutOfMemory>
+    left: Operand<'t>,
+    right: Operand<'t>,
+) -> Result<Operand<'t>, OutOfMemory>
     ensures { IfOk result (λ e. operand_of e
-        ≡ two_made limit table (operand_of left) (operand_of right)) }
+        ≡ two_made limit table (operand_of left.entry) (operand_of right.entry)) }
 {
     match both(table, both(left, right)) {
         Ok((table, (left, right))) => {
@@ -118,16 +120,16 @@ pub(crate) fn two(
 }
 
 #[tactic(auto, using(crate::proofs::OperandLemmas::three_built, crate::proofs::OperandLemmas::three_unread))]
-pub(crate) fn three(
+pub(crate) fn three<'t>(
     alloc: Global,
     limit: u32,
     table: TableNumber,
-    a: Operand,
-    b: Operand,
-    c: Operand,
-) -> Result<Operand, OutOfMemory>
+    a: Operand<'t>,
+    b: Operand<'t>,
+    c: Operand<'t>,
+) -> Result<Operand<'t>, OutOfMemory>
     ensures { IfOk result (λ e. operand_of e
-        ≡ three_made limit table (operand_of a) (operand_of b) (operand_of c)) }
+        ≡ three_made limit table (operand_of a.entry) (operand_of b.entry) (operand_of c.entry)) }
 {
     match both(table, both(a, both(b, c))) {
         Ok((table, (a, (b, c)))) => {

@@ -1,34 +1,31 @@
 ghost use Rattle.std.specs.Prelude.{◌≡◌, IfOk, option_map};
-ghost use Rattle.truth_tables.specs.Machine.{closed, behind_comma, behind_close, behind_mark, behind_name, progress, at_last, Wanted};
+ghost use Rattle.truth_tables.specs.Machine.{closed};
 ghost use Rattle.truth_tables.specs.Operands.{operand_of, parts};
-ghost use Rattle.truth_tables.specs.private.Positions.{stack_of, position_of};
+ghost use Rattle.truth_tables.specs.private.Positions.{stack_of};
 
 use crate::Operator;
-use crate::operand::{
-    Operand, TableNumber, bracket, constant, inverse, table_number, three, two, variable,
-};
+use crate::operand::{Operand, TableNumber, inverse, two};
 use std::alloc::Global;
 use wpds_base::OutOfMemory;
-use wpds_port::{Mark, Text, Word};
 
 /// What stands open before an operand.
 #[derive(Drop)]
-pub(crate) enum OpenPart {
+pub(crate) enum OpenPart<'t> {
     Not,
-    Operator(Operator, Operand),
+    Operator(Operator, Operand<'t>),
     Bracket,
     /// A table of two places, before its first and its second operand.
     First2(TableNumber),
-    Second2(TableNumber, Operand),
+    Second2(TableNumber, Operand<'t>),
     /// A table of three places, before its first, its second and its third operand.
     First3(TableNumber),
-    Second3(TableNumber, Operand),
-    Third3(TableNumber, Operand, Operand),
+    Second3(TableNumber, Operand<'t>),
+    Third3(TableNumber, Operand<'t>, Operand<'t>),
 }
 
 /// Where the reading of an expression stands, beside the stack of what is open.
 #[derive(Drop)]
-pub(crate) enum Position {
+pub(crate) enum Position<'t> {
     /// An operand is wanted.
     Wanted,
     /// Behind `tab2` or `tab3`.
@@ -38,20 +35,20 @@ pub(crate) enum Position {
     Counted2(TableNumber),
     Counted3(TableNumber),
     /// Behind an operand.
-    Behind(Operand),
+    Behind(Operand<'t>),
 }
 
 /// Joins an operand with what is open before it and binds at least as strongly.
 #[tactic(auto, using(crate::proofs::StackLemmas::joins_not, crate::proofs::StackLemmas::joins_two, crate::proofs::StackLemmas::joins_less, crate::proofs::StackLemmas::joins_other))]
-pub(crate) fn join(
+pub(crate) fn join<'t>(
     alloc: Global,
     limit: u32,
-    stack: &mut Vec<OpenPart>,
+    stack: &mut Vec<OpenPart<'t>>,
     level: u8,
-    operand: Operand,
-) -> Result<Operand, OutOfMemory>
+    operand: Operand<'t>,
+) -> Result<Operand<'t>, OutOfMemory>
     ensures { IfOk result (λ e. (stack_of stack.new.items, operand_of e)
-        ≡ closed (parts limit) level (stack_of stack.old.items) (operand_of operand)) }
+        ≡ closed (parts limit) level (stack_of stack.old.items) (operand_of operand.entry)) }
 {
     let mut joined = operand;
     while let Some(top) = stack.pop() {

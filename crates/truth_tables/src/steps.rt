@@ -1,5 +1,6 @@
 ghost use Rattle.std.specs.Prelude.{◌≡◌, ℕ, IfOk, List, option_map};
 ghost use Rattle.wpds_port.specs.declared.Mark.TheVariants.{Comma, Close};
+ghost use Rattle.wpds_port.specs.Words.{word_of};
 ghost use Rattle.truth_tables.specs.Machine.{behind_comma, behind_close, behind_mark, after_operator, behind_name, behind_number, progress, at_last, Wanted};
 ghost use Rattle.truth_tables.specs.Operands.{operand_of, parts};
 ghost use Rattle.truth_tables.specs.private.Positions.{stack_of, position_of, progress_of, part_pushed};
@@ -10,32 +11,30 @@ use crate::operand::{Operand, bracket, constant, table_number, three, two, varia
 use crate::stack::{OpenPart, Position, join};
 use std::alloc::Global;
 use wpds_base::OutOfMemory;
-use wpds_port::{Mark, Text, Word};
+use wpds_port::{Lexeme, Mark};
 
 // A name where an operand is wanted.
-fn at_name(alloc: Global, limit: u32, name: &Text) -> Result<Option<Position>, OutOfMemory>
-    ensures { IfOk result (λ o. (ps : List OpenPartValue) → progress_of o ps
-        ≡ behind_name (parts limit) (stack_of ps) name.now) }
+fn at_name<'t>(limit: u32, name: &'t [u8]) -> Option<Position<'t>>
+    ensures { (ps : List OpenPartValue) → progress_of result ps
+        ≡ behind_name (parts limit) (stack_of ps) name.now }
 {
-    let bytes = name.as_bytes();
-    if bytes == b"return".as_slice() {
-        return Ok(None);
+    if name == b"return".as_slice() {
+        return None;
     }
-    if bytes == b"tab2".as_slice() {
-        return Ok(Some(Position::Behind2));
+    if name == b"tab2".as_slice() {
+        return Some(Position::Behind2);
     }
-    if bytes == b"tab3".as_slice() {
-        return Ok(Some(Position::Behind3));
+    if name == b"tab3".as_slice() {
+        return Some(Position::Behind3);
     }
-    Ok(Some(Position::Behind(variable(alloc, limit, name)?)))
+    Some(Position::Behind(variable(limit, name)))
 }
 
 // A number where an operand is wanted.
-fn at_number(limit: u32, number: &Text) -> Option<Position>
+fn at_number<'t>(limit: u32, digits: &[u8]) -> Option<Position<'t>>
     ensures { (ps : List OpenPartValue) → progress_of result ps
-        ≡ behind_number (parts limit) (stack_of ps) number.now }
+        ≡ behind_number (parts limit) (stack_of ps) digits.now }
 {
-    let digits = number.as_bytes();
     if digits == b"0".as_slice() {
         return Some(Position::Behind(constant(limit, false)));
     }
@@ -47,38 +46,43 @@ fn at_number(limit: u32, number: &Text) -> Option<Position>
 
 // Leaves a part open, behind which an operand is wanted.
 #[tactic(auto, using(crate::proofs::StackLemmas::pushed))]
-fn open(stack: &mut Vec<OpenPart>, part: OpenPart) -> Result<Option<Position>, OutOfMemory>
+fn open<'t>(
+    stack: &mut Vec<OpenPart<'t>>,
+    part: OpenPart<'t>,
+) -> Result<Option<Position<'t>>, OutOfMemory>
     ensures { IfOk result (λ o. progress_of o stack.new.items
-        ≡ part_pushed (stack_of stack.old.items) part) }
+        ≡ part_pushed (stack_of stack.old.items) part.entry) }
 {
     stack.push(part)?;
     Ok(Some(Position::Wanted))
 }
 
 // A word where an operand is wanted.
-fn at_operand(
-    alloc: Global,
+fn at_operand<'t>(
     limit: u32,
-    stack: &mut Vec<OpenPart>,
-    word: &Word,
-) -> Result<Option<Position>, OutOfMemory>
+    stack: &mut Vec<OpenPart<'t>>,
+    lexeme: Lexeme<'t>,
+) -> Result<Option<Position<'t>>, OutOfMemory>
     ensures { IfOk result (λ o. progress_of o stack.new.items
-        ≡ progress (parts limit) (Wanted (stack_of stack.old.items)) word.now) }
+        ≡ progress (parts limit) (Wanted (stack_of stack.old.items)) (word_of lexeme.entry)) }
 {
-    match word {
-        Word::Name(name) => at_name(alloc, limit, name),
-        Word::Number(number) => Ok(at_number(limit, number)),
-        Word::Mark(Mark::Not) => open(stack, OpenPart::Not),
-        Word::Mark(Mark::Open) => open(stack, OpenPart::Bracket),
-        Word::Mark(_) => Ok(None),
+    match lexeme {
+        Lexeme::Name(name) => Ok(at_name(limit, name)),
+        Lexeme::Number(digits) => Ok(at_number(limit, digits)),
+        Lexeme::Mark(Mark::Not) => open(stack, OpenPart::Not),
+        Lexeme::Mark(Mark::Open) => open(stack, OpenPart::Bracket),
+        Lexeme::Mark(_) => Ok(None),
     }
 }
 
 // A comma behind an operand that is joined.
 #[tactic(auto, using(crate::proofs::StackLemmas::comma_none, crate::proofs::StackLemmas::comma_first2, crate::proofs::StackLemmas::comma_first3, crate::proofs::StackLemmas::comma_second3, crate::proofs::StackLemmas::comma_other))]
-fn at_comma(stack: &mut Vec<OpenPart>, operand: Operand) -> Result<Option<Position>, OutOfMemory>
+fn at_comma<'t>(
+    stack: &mut Vec<OpenPart<'t>>,
+    operand: Operand<'t>,
+) -> Result<Option<Position<'t>>, OutOfMemory>
     ensures { (limit : ℕ) → IfOk result (λ o. progress_of o stack.new.items
-        ≡ behind_comma (parts limit) (stack_of stack.old.items) (operand_of operand)) }
+        ≡ behind_comma (parts limit) (stack_of stack.old.items) (operand_of operand.entry)) }
 {
     let Some(top) = stack.pop() else {
         return Ok(None);
@@ -93,14 +97,14 @@ fn at_comma(stack: &mut Vec<OpenPart>, operand: Operand) -> Result<Option<Positi
 
 // A closing bracket behind an operand that is joined.
 #[tactic(auto, using(crate::proofs::StackLemmas::close_none, crate::proofs::StackLemmas::close_bracket, crate::proofs::StackLemmas::close_second2, crate::proofs::StackLemmas::close_third3, crate::proofs::StackLemmas::close_other))]
-fn at_close(
+fn at_close<'t>(
     alloc: Global,
     limit: u32,
-    stack: &mut Vec<OpenPart>,
-    operand: Operand,
-) -> Result<Option<Position>, OutOfMemory>
+    stack: &mut Vec<OpenPart<'t>>,
+    operand: Operand<'t>,
+) -> Result<Option<Position<'t>>, OutOfMemory>
     ensures { IfOk result (λ o. progress_of o stack.new.items
-        ≡ behind_close (parts limit) (stack_of stack.old.items) (operand_of operand)) }
+        ≡ behind_close (parts limit) (stack_of stack.old.items) (operand_of operand.entry)) }
 {
     let Some(top) = stack.pop() else {
         return Ok(None);
@@ -116,31 +120,31 @@ fn at_close(
 
 // An operator behind an operand.
 #[tactic(auto, using(crate::proofs::StackLemmas::operator_joined))]
-fn at_operator(
+fn at_operator<'t>(
     alloc: Global,
     limit: u32,
-    stack: &mut Vec<OpenPart>,
-    operand: Operand,
+    stack: &mut Vec<OpenPart<'t>>,
+    operand: Operand<'t>,
     operator: Operator,
-) -> Result<Option<Position>, OutOfMemory>
+) -> Result<Option<Position<'t>>, OutOfMemory>
     ensures { IfOk result (λ o. progress_of o stack.new.items
-        ≡ after_operator (parts limit) operator (stack_of stack.old.items) (operand_of operand)) }
+        ≡ after_operator (parts limit) operator (stack_of stack.old.items) (operand_of operand.entry)) }
 {
     let joined = join(alloc, limit, stack, operator.least_left(), operand)?;
     open(stack, OpenPart::Operator(operator, joined))
 }
 
 // A mark behind an operand.
-#[tactic(auto, using(crate::proofs::StackLemmas::mark_operator, crate::proofs::StackLemmas::mark_comma, crate::proofs::StackLemmas::mark_close, crate::proofs::StackLemmas::mark_other))]
-fn behind_operand(
+#[tactic(auto, using(crate::proofs::StackLemmas::mark_close, crate::proofs::StackLemmas::mark_other))]
+fn behind_operand<'t>(
     alloc: Global,
     limit: u32,
-    stack: &mut Vec<OpenPart>,
-    operand: Operand,
+    stack: &mut Vec<OpenPart<'t>>,
+    operand: Operand<'t>,
     mark: Mark,
-) -> Result<Option<Position>, OutOfMemory>
+) -> Result<Option<Position<'t>>, OutOfMemory>
     ensures { IfOk result (λ o. progress_of o stack.new.items
-        ≡ behind_mark (parts limit) mark (stack_of stack.old.items) (operand_of operand)) }
+        ≡ behind_mark (parts limit) mark (stack_of stack.old.items) (operand_of operand.entry)) }
 {
     if let Some(operator) = Operator::of(mark) {
         return at_operator(alloc, limit, stack, operand, operator);
@@ -158,50 +162,48 @@ fn behind_operand(
     }
 }
 
-/// One word more of an expression's text. None: with it the text is no expression.
-pub(crate) fn step(
+/// One word more of an expression. None: with it the words are no expression.
+pub(crate) fn step<'t>(
     alloc: Global,
     limit: u32,
-    stack: &mut Vec<OpenPart>,
-    position: Position,
-    word: &Word,
-) -> Result<Option<Position>, OutOfMemory>
+    stack: &mut Vec<OpenPart<'t>>,
+    position: Position<'t>,
+    lexeme: Lexeme<'t>,
+) -> Result<Option<Position<'t>>, OutOfMemory>
     ensures { IfOk result (λ o. progress_of o stack.new.items
-        ≡ progress (parts limit) (position_of position stack.old.items) word.now) }
+        ≡ progress (parts limit) (position_of position.entry stack.old.items) (word_of lexeme.entry)) }
 {
-    match (position, word) {
-        (Position::Wanted, word) => at_operand(alloc, limit, stack, word),
-        (Position::Behind2, Word::Number(digits)) => {
-            let number = table_number(digits.as_bytes(), 15);
-            Ok(Some(Position::Counted2(number)))
+    match (position, lexeme) {
+        (Position::Wanted, lexeme) => at_operand(limit, stack, lexeme),
+        (Position::Behind2, Lexeme::Number(digits)) => {
+            Ok(Some(Position::Counted2(table_number(digits, 15))))
         }
-        (Position::Behind3, Word::Number(digits)) => {
-            let number = table_number(digits.as_bytes(), 255);
-            Ok(Some(Position::Counted3(number)))
+        (Position::Behind3, Lexeme::Number(digits)) => {
+            Ok(Some(Position::Counted3(table_number(digits, 255))))
         }
-        (Position::Counted2(number), Word::Mark(Mark::Open)) => {
+        (Position::Counted2(number), Lexeme::Mark(Mark::Open)) => {
             open(stack, OpenPart::First2(number))
         }
-        (Position::Counted3(number), Word::Mark(Mark::Open)) => {
+        (Position::Counted3(number), Lexeme::Mark(Mark::Open)) => {
             open(stack, OpenPart::First3(number))
         }
-        (Position::Behind(operand), Word::Mark(mark)) => {
-            behind_operand(alloc, limit, stack, operand, *mark)
+        (Position::Behind(operand), Lexeme::Mark(mark)) => {
+            behind_operand(alloc, limit, stack, operand, mark)
         }
         _ => Ok(None),
     }
 }
 
-/// The operand at the text's end, if nothing else is open there.
+/// The operand behind the last word, if nothing else is open there.
 #[tactic(auto, using(crate::proofs::StackLemmas::alone_empty, crate::proofs::StackLemmas::alone_open))]
-pub(crate) fn finish(
+pub(crate) fn finish<'t>(
     alloc: Global,
     limit: u32,
-    mut stack: Vec<OpenPart>,
-    position: Position,
-) -> Result<Option<Operand>, OutOfMemory>
+    mut stack: Vec<OpenPart<'t>>,
+    position: Position<'t>,
+) -> Result<Option<Operand<'t>>, OutOfMemory>
     ensures { IfOk result (λ o. option_map operand_of o
-        ≡ at_last (parts limit) (position_of position stack.items)) }
+        ≡ at_last (parts limit) (position_of position.entry stack.entry.items)) }
 {
     let Position::Behind(operand) = position else {
         return Ok(None);

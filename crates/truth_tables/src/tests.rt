@@ -1,15 +1,17 @@
-use crate::{Expr, ExprRead, RawExpr, eval, instance2, instance3, read_expr, value2, value3};
+use crate::{
+    Expr, ExprRead, RawExpr, eval, instance2, instance3, is_variable, read_expr, value2, value3,
+};
 use std::alloc::Global;
 use std::process::Abort;
 use std::test::Fail;
 use wpds_base::OutOfMemory;
-use wpds_port::tokens;
+use wpds_port::{Lexeme, Mark, Words};
 
 // Each operator by its table, in front of its operands in brackets.
 fn show(expr: &RawExpr, alloc: Global) -> Result<String, OutOfMemory> {
     Ok(match expr {
         RawExpr::Const(value) => String::from_str(alloc, if *value { "1" } else { "0" })?,
-        RawExpr::Var(name) => String::from_utf8_lossy(alloc, name.as_bytes())?,
+        RawExpr::Var(name) => String::from_utf8_lossy(alloc, name)?,
         RawExpr::Not(inner) => {
             let inner = show(inner, alloc)?;
             format!(in alloc; "!{inner}")?
@@ -28,68 +30,68 @@ fn show(expr: &RawExpr, alloc: Global) -> Result<String, OutOfMemory> {
     })
 }
 
-// What reading a text from a token on answers; of an expression also the place of the token behind it.
-fn answer(alloc: Global, text: &[u8], at: usize, depth: u32) -> Result<String, OutOfMemory> {
-    let Some(found) = tokens(alloc, text)? else {
-        return Ok(String::from_str(alloc, "no tokens")?);
-    };
-    if at > found.len() {
-        return Ok(String::from_str(alloc, "no place")?);
+// What reading words answers.
+fn answer_on(alloc: Global, words: &Words, depth: u32) -> Result<String, OutOfMemory> {
+    match read_expr(alloc, words, depth)? {
+        ExprRead::Read(expr) => show(&expr, alloc),
+        ExprRead::Form => Ok(String::from_str(alloc, "form")?),
+        ExprRead::Table => Ok(String::from_str(alloc, "table")?),
+        ExprRead::Deep => Ok(String::from_str(alloc, "deep")?),
     }
-    Ok(match read_expr(alloc, found.as_slice(), at, depth)? {
-        ExprRead::Read { expr, next } => {
-            let shown = show(&expr, alloc)?;
-            format!(in alloc; "{shown} {next}")?
-        }
-        ExprRead::Form => String::from_str(alloc, "form")?,
-        ExprRead::Table => String::from_str(alloc, "table")?,
-        ExprRead::Deep => String::from_str(alloc, "deep")?,
-    })
 }
 
-// How texts group: each operator by its table, and the place of the token behind the text.
-const GROUPS: &str = "\
-a & b ~ 8(a,b) 3
-a ^ b ~ 6(a,b) 3
-a | b ~ 14(a,b) 3
-a = b ~ 9(a,b) 3
-a != b ~ 6(a,b) 3
-a => b ~ 11(a,b) 3
-a & b ^ c ~ 6(8(a,b),c) 5
-a ^ b & c ~ 6(a,8(b,c)) 5
-a ^ b | c ~ 14(6(a,b),c) 5
-a | b ^ c ~ 14(a,6(b,c)) 5
-a | b = c ~ 9(14(a,b),c) 5
-a != b | c ~ 6(a,14(b,c)) 5
-a = b => c ~ 11(9(a,b),c) 5
-a => b != c ~ 11(a,6(b,c)) 5
-a => b => c ~ 11(a,11(b,c)) 5
-a = b != c ~ 6(9(a,b),c) 5
-a & b & c ~ 8(8(a,b),c) 5
-!a & b ~ 8(!a,b) 4
-a & !!b ~ 8(a,!!b) 5
-!(a & b) ~ !8(a,b) 6
-(a => b) => 1 ~ 11(11(a,b),1) 7
-tab2 7 (a, 0 | b) ~ 7(a,14(0,b)) 9
-tab3 202 (a, b, c) ~ 202(a,b,c) 9
-!tab2 15 (0, 1) ~ !15(0,1) 8
-tab3 255 (x, y, (z)) ~ 255(x,y,z) 11
-assume = skip ~ 9(assume,skip) 3";
+// What reading a text answers.
+fn answer(alloc: Global, text: &[u8], depth: u32) -> Result<String, OutOfMemory> {
+    match Words::of(text) {
+        Some(words) => answer_on(alloc, &words, depth),
+        None => Ok(String::from_str(alloc, "no words")?),
+    }
+}
 
-// Where texts end, and which are refused.
-const ENDS: &str = "\
-a, b ~ a 1
-a; b ~ a 1
-a -> b ~ a 1
-a) b ~ a 1
-a return b ~ a 1
-(a)) b ~ a 3
-tab2 6 (a, b), c ~ 6(a,b) 7
+// How texts group: each operator by its table.
+const GROUPS: &str = "\
+a & b ~ 8(a,b)
+a ^ b ~ 6(a,b)
+a | b ~ 14(a,b)
+a = b ~ 9(a,b)
+a != b ~ 6(a,b)
+a => b ~ 11(a,b)
+a & b ^ c ~ 6(8(a,b),c)
+a ^ b & c ~ 6(a,8(b,c))
+a ^ b | c ~ 14(6(a,b),c)
+a | b ^ c ~ 14(a,6(b,c))
+a | b = c ~ 9(14(a,b),c)
+a != b | c ~ 6(a,14(b,c))
+a = b => c ~ 11(9(a,b),c)
+a => b != c ~ 11(a,6(b,c))
+a => b => c ~ 11(a,11(b,c))
+a = b != c ~ 6(9(a,b),c)
+a & b & c ~ 8(8(a,b),c)
+!a & b ~ 8(!a,b)
+a & !!b ~ 8(a,!!b)
+!(a & b) ~ !8(a,b)
+(a => b) => 1 ~ 11(11(a,b),1)
+tab2 7 (a, 0 | b) ~ 7(a,14(0,b))
+tab3 202 (a, b, c) ~ 202(a,b,c)
+!tab2 15 (0, 1) ~ !15(0,1)
+tab3 255 (x, y, (z)) ~ 255(x,y,z)
+assume = skip ~ 9(assume,skip)";
+
+// Texts that are refused.
+const REFUSED: &str = "\
+a, b ~ form
+a; b ~ form
+a -> b ~ form
+a) b ~ form
+a return b ~ form
+return ~ form
+(a)) b ~ form
+tab2 6 (a, b), c ~ form
 (a; b) ~ form
 (a return) ~ form
 , a ~ form
 2 ~ form
-00 ~ form
+00 ~ no words
 a b ~ form
 a & ~ form
 & a ~ form
@@ -99,7 +101,7 @@ a ! b ~ form
 tab2 ~ form
 tab2 & a ~ form
 tab2 x (a, b) ~ form
-tab2 06 (a, b) ~ form
+tab2 06 (a, b) ~ no words
 tab2 6 a, b ~ form
 tab2 6 (a) ~ form
 tab2 6 (a, b, c) ~ form
@@ -111,13 +113,13 @@ tab2 99999999999999999999 (a, b) ~ table";
 
 // Texts that may be three deep.
 const DEPTHS: &str = "\
-!!a ~ !!a 3
+!!a ~ !!a
 !!!a ~ deep
-((a)) ~ a 5
+((a)) ~ a
 (((a))) ~ deep
-a & (b) ~ 8(a,b) 5
+a & (b) ~ 8(a,b)
 (a) & (b & c) ~ deep
-tab2 1 (!a, b) ~ 1(!a,b) 8
+tab2 1 (!a, b) ~ 1(!a,b)
 tab2 1 (a, !!b) ~ deep
 tab3 1 (a, b, !!c) ~ deep
 tab2 16 (!!!a, b) ~ table
@@ -129,7 +131,7 @@ tab2 16 (!!!a, b) ~ table
 fn answers_are(rt: &impl Abort, alloc: Global, table: &str, depth: u32) -> Result<(), OutOfMemory> {
     for line in table.lines() {
         if let Some((text, want)) = line.split_once(" ~ ") {
-            let got = answer(alloc, text.as_bytes(), 0, depth)?;
+            let got = answer(alloc, text.as_bytes(), depth)?;
             assert_eq!(rt; got.as_str(), want, "{text}");
         }
     }
@@ -143,23 +145,90 @@ fn expressions_group_by_their_levels(rt: HostRuntime) -> Result<(), Fail> {
 }
 
 #[test]
-fn texts_end_and_are_refused(rt: HostRuntime) -> Result<(), Fail> {
+fn texts_are_refused(rt: HostRuntime) -> Result<(), Fail> {
     let alloc = rt.alloc();
-    answers_are(&rt, alloc, ENDS, 64)?;
+    answers_are(&rt, alloc, REFUSED, 64)?;
     answers_are(&rt, alloc, DEPTHS, 3)?;
-    for (text, at, depth, want) in [
-        ("", 0, 64, "form"),
-        ("x := a & b", 2, 64, "8(a,b) 5"),
-        ("tab2 6 (a, b), c", 3, 64, "a 4"),
-        ("a", 1, 64, "form"),
-        ("a", 0, 1, "a 1"),
-        ("a", 0, 0, "deep"),
-    ] {
+    for (text, depth, want) in [("", 64, "form"), ("a", 1, "a"), ("a", 0, "deep")] {
         assert_eq!(rt;
-            answer(alloc, text.as_bytes(), at, depth)?.as_str(),
+            answer(alloc, text.as_bytes(), depth)?.as_str(),
             want,
             "{text}"
         );
+    }
+    Ok(())
+}
+
+// What reading the words before a word outside brackets answers, and reading those behind it.
+fn answers_around(alloc: Global, text: &[u8], at: Lexeme) -> Result<String, OutOfMemory> {
+    let Some(words) = Words::of(text) else {
+        return Ok(String::from_str(alloc, "no words")?);
+    };
+    let (before, behind) = words.split_outside(at);
+    let before = answer_on(alloc, &before, 64)?;
+    let Some(behind) = behind else {
+        return Ok(before);
+    };
+    let behind = answer_on(alloc, &behind, 64)?;
+    Ok(format!(in alloc; "{before} and {behind}")?)
+}
+
+#[test]
+fn expressions_are_cut_out(rt: HostRuntime) -> Result<(), Fail> {
+    let alloc = rt.alloc();
+    for (text, at, want) in [
+        ("a, b", Lexeme::Mark(Mark::Comma), "a and b"),
+        ("a; b", Lexeme::Mark(Mark::Semicolon), "a and b"),
+        ("a -> b", Lexeme::Mark(Mark::Arrow), "a and b"),
+        ("a) b", Lexeme::Mark(Mark::Close), "a and b"),
+        ("a return b", Lexeme::Name(b"return"), "a and b"),
+        ("(a)) b", Lexeme::Mark(Mark::Close), "a and b"),
+        (
+            "tab2 6 (a, b), c",
+            Lexeme::Mark(Mark::Comma),
+            "6(a,b) and c",
+        ),
+        ("x := a & b", Lexeme::Mark(Mark::Becomes), "x and 8(a,b)"),
+        ("a,", Lexeme::Mark(Mark::Comma), "a and form"),
+    ] {
+        assert_eq!(rt;
+            answers_around(alloc, text.as_bytes(), at)?.as_str(),
+            want,
+            "{text}"
+        );
+    }
+    Ok(())
+}
+
+// The variables among the words of a text, each behind a blank.
+fn variables(alloc: Global, text: &[u8]) -> Result<String, OutOfMemory> {
+    let mut names = String::new(alloc);
+    let Some(mut left) = Words::of(text) else {
+        return Ok(names);
+    };
+    for _ in 0..text.len() {
+        let Some((lexeme, rest)) = left.split_first() else {
+            return Ok(names);
+        };
+        if is_variable(lexeme) {
+            let name = String::from_utf8_lossy(alloc, lexeme.text())?;
+            names = format!(in alloc; "{names} {name}")?;
+        }
+        left = rest;
+    }
+    Ok(names)
+}
+
+#[test]
+fn variables_stand_among_the_words(rt: HostRuntime) -> Result<(), Fail> {
+    let alloc = rt.alloc();
+    for (text, want) in [
+        ("1", ""),
+        ("x", " x"),
+        ("a & !b | a", " a b a"),
+        ("tab3 202 (c, (b), tab2 6 (tab, tab4))", " c b tab tab4"),
+    ] {
+        assert_eq!(rt; variables(alloc, text.as_bytes())?.as_str(), want, "{text}");
     }
     Ok(())
 }
@@ -175,13 +244,9 @@ fn repeated(alloc: Global, byte: u8, count: usize, text: &[u8]) -> Result<Vec<u8
 fn long_texts(rt: HostRuntime) -> Result<(), Fail> {
     let alloc = rt.alloc();
     let name = repeated(alloc, b'n', 64, b"")?;
-    assert!(rt;
-        answer(alloc, name.as_slice(), 0, 64)?
-            .as_str()
-            .ends_with("n 1")
-    );
+    assert!(rt; answer(alloc, name.as_slice(), 64)?.as_str().ends_with("nn"));
     let long = repeated(alloc, b'n', 65, b"")?;
-    assert_eq!(rt; answer(alloc, long.as_slice(), 0, 64)?.as_str(), "form");
+    assert_eq!(rt; answer(alloc, long.as_slice(), 64)?.as_str(), "no words");
     for (byte, count, text, want) in [
         (b'!', 64, "a", "deep"),
         (b'!', 1_000_000, "a", "deep"),
@@ -189,19 +254,19 @@ fn long_texts(rt: HostRuntime) -> Result<(), Fail> {
     ] {
         let bytes = repeated(alloc, byte, count, text.as_bytes())?;
         assert_eq!(rt;
-            answer(alloc, bytes.as_slice(), 0, 64)?.as_str(),
+            answer(alloc, bytes.as_slice(), 64)?.as_str(),
             want,
             "{count} of {byte}"
         );
     }
     let mut brackets = repeated(alloc, b'(', 100_000, b"a")?;
     brackets.extend_from_slice(repeated(alloc, b')', 100_000, b"")?.as_slice())?;
-    assert_eq!(rt; answer(alloc, brackets.as_slice(), 0, 64)?.as_str(), "deep");
+    assert_eq!(rt; answer(alloc, brackets.as_slice(), 64)?.as_str(), "deep");
     let deepest = repeated(alloc, b'!', 63, b"a")?;
     assert!(rt;
-        answer(alloc, deepest.as_slice(), 0, 64)?
+        answer(alloc, deepest.as_slice(), 64)?
             .as_str()
-            .ends_with("!a 64")
+            .ends_with("!a")
     );
     Ok(())
 }

@@ -144,9 +144,10 @@ impl<'t> Words<'t> {
         }
     }
 
-    /// The same words once more: they borrow the same text.
+    /// The same words once more: they borrow the same text. A form takes each of them.
     pub fn reborrow(&self) -> Words<'t>
-        ensures { result ≡ self.now }
+        ensures same { result ≡ self.now }
+        ensures lawful { IsTrue (list_all is_lawful_word self.now) }
     {
         Words { text: self.text }
     }

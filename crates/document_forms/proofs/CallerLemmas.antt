@@ -1,0 +1,4 @@
+-- What crates above may cite.
+pub use Rattle.document_forms.proofs.NameLemmas.{has_known, known_first, known_next, once_alone, once_is_once, once_joined, once_known, twice_is_once}
+pub use Rattle.document_forms.proofs.CutLemmas.{equal_only, names_written}
+pub use Rattle.document_forms.proofs.FormLemmas.{moves_written, written_moves}
