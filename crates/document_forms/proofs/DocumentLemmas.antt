@@ -15,19 +15,20 @@ use Rattle.document_forms.specs.FormWords.{is_form, has_none, is_back, right_wor
 use Rattle.document_forms.specs.Words.{is_return}
 use Rattle.document_forms.specs.Patterns.{PatternForm}
 use Rattle.wpds_port.specs.declared.Kind.{Kind}
-use Rattle.wpds_port.specs.declared.Kind.TheVariants.{NotText, Form, Count}
+use Rattle.wpds_port.specs.declared.Kind.TheVariants.{NotText, Form, Count, NothingAsked}
 use Rattle.document_forms.specs.Above.{weights_line, item_class, declared, Above, above_of, with_line, is_query}
 use Rattle.document_forms.specs.Kinds.{Conditions, has_unlawful_cap, weights_conditions, conditions}
 use Rattle.document_forms.specs.FirstRefusal.{Counted, counted, counted_lines, forms, all_symbols, by_form, kind_below, missing, AreAccepted}
 use Rattle.document_forms.specs.Documents.{Document, rules_on, queries_on, rule_value, query_value, gathered, body, document_of, reads_as}
 use Rattle.document_forms.specs.Lawful.{IsRuleLine, IsQueryLine, IsDocument}
 use Rattle.document_forms.proofs.NameLemmas.{declared_once}
-use Rattle.document_forms.proofs.FormLemmas.{one_form}
 use Rattle.document_forms.proofs.AboveLemmas.{line_more}
 use Rattle.document_forms.proofs.RuleLemmas.{first_false, rule_lawful}
 use Rattle.document_forms.proofs.PatternLemmas.{query_lawful}
 use Rattle.document_forms.proofs.LimitLemmas.{cap_lawful, Within, within_more, within_none, count_rules, count_queries}
 use Rattle.document_forms.proofs.GrowthLemmas.{rule_with_more, query_with_more}
+use Rattle.document_forms.proofs.WrittenWordLemmas.{OneCutting}
+use Rattle.document_forms.proofs.SaidFormLemmas.{IsSaid, AreSaid, said_form, names_declared, maps_said, sets_said, some_query}
 use Rattle.document_forms.proofs.RefusalLemmas.{AcceptedFrom, first_accepted, further_accepted}
 
 -- ---- more is said with each line
@@ -60,7 +61,11 @@ grows_with a (OfQuery p q) = record { controls = le_refl (length a.controls); sy
 -- each has none of its kinds below those above it
 abbrev AcceptedForms : ℕ → (pre fs : List LineForm) → Type 0
 AcceptedForms all pre [] = Unit {0}
-AcceptedForms all pre (f ∷ fs) = (is_form f ≡ true) × (first_fault (conditions all (above_of pre) f) ≡ None) × AcceptedForms all (pre ++ f ∷ []) fs
+AcceptedForms all pre (f ∷ fs) = IsSaid f × (first_fault (conditions all (above_of pre) f) ≡ None) × AcceptedForms all (pre ++ f ∷ []) fs
+
+accepted_said : (all : ℕ) (pre fs : List LineForm) → AcceptedForms all pre fs → AreSaid fs
+accepted_said all pre [] h = tt
+accepted_said all pre (f ∷ fs) h = (h.0, accepted_said all (pre ++ f ∷ []) fs h.2)
 
 module _ (all : ℕ) (w : WeightsForm) where
   joined : (ls : List LineForm) (f : LineForm) (fs : List LineForm) → (OfWeights w ∷ (ls ++ f ∷ [])) ++ fs ≡ (OfWeights w ∷ ls) ++ f ∷ fs
@@ -107,7 +112,7 @@ module _ (all : ℕ) (w : WeightsForm) where
   rules_all ls (f ∷ fs) h =
       let b = above_of ((OfWeights w ∷ ls) ++ f ∷ fs) in
       All-append (RuleAt b) (rules_on (above_of (OfWeights w ∷ ls)) f) (gathered rules_on (OfWeights w ∷ (ls ++ f ∷ [])) fs)
-      (rules_here ls b f (grows_to ls (f ∷ fs) h) h.0 h.1)
+      (rules_here ls b f (grows_to ls (f ∷ fs) h) h.0.form h.1)
       (subst (λ l. All (RuleAt (above_of l)) (gathered rules_on (OfWeights w ∷ (ls ++ f ∷ [])) fs)) (joined ls f fs) (rules_all (ls ++ f ∷ []) fs h.2))
 
   queries_all : (ls fs : List LineForm) → AcceptedForms all (OfWeights w ∷ ls) fs → All (QueryAt (above_of ((OfWeights w ∷ ls) ++ fs))) (gathered queries_on (OfWeights w ∷ ls) fs)
@@ -124,42 +129,43 @@ module _ (all : ℕ) (w : WeightsForm) where
       let more = subst (Within (weights_line w)) (sym (line_more all w ls f h.1)) (within_more all w ls f h.1 m) in
       subst (λ l. Within (weights_line w) (above_of l)) (joined ls f fs) (within_all (ls ++ f ∷ []) fs h.2 more)
 
-  lawful_body : (fs : List LineForm) → has_unlawful_cap w ≡ false → all ≡ length (declared Symbols fs) → AcceptedForms all (OfWeights w ∷ []) fs → IsDocument (document_of (OfWeights w ∷ fs))
-  lawful_body fs c s h =
+  lawful_body : (fs : List LineForm) → has_unlawful_cap w ≡ false → all ≡ length (declared Symbols fs) → list_any is_query fs ≡ true → AcceptedForms all (OfWeights w ∷ []) fs → IsDocument (document_of (OfWeights w ∷ fs))
+  lawful_body fs c s q h =
       let within = within_all [] fs h (within_none w) in
+      let said = accepted_said all (OfWeights w ∷ []) fs h in
       record {
         weights = cap_lawful w c;
-        controls = record { few = within.controls; once = declared_once Controls (OfWeights w ∷ fs) };
-        symbols = record { few = within.symbols; once = declared_once Symbols (OfWeights w ∷ fs) };
-        items = record { few = within.items; once = declared_once (item_class (weights_line w)) (OfWeights w ∷ fs) };
+        controls = record { few = within.controls; once = declared_once Controls (OfWeights w ∷ fs); lawful = names_declared Controls fs said };
+        symbols = record { few = within.symbols; once = declared_once Symbols (OfWeights w ∷ fs); lawful = names_declared Symbols fs said };
+        items = record { few = within.items; once = declared_once (item_class (weights_line w)) (OfWeights w ∷ fs); lawful = names_declared (item_class (weights_line w)) fs said };
+        has_items = within.has_items;
         rules = rules_all [] fs h;
+        maps = maps_said (OfWeights w ∷ []) fs said;
         few_rules = subst (λ n. n ≤ most_rules) (sym (count_rules [] (OfWeights w ∷ fs))) within.rules;
         queries = subst (λ n. All (IsQueryLine n (length (declared Controls fs)) (length (declared Symbols fs))) (gathered queries_on (OfWeights w ∷ []) fs)) s (queries_all [] fs h);
+        sets = sets_said (OfWeights w ∷ []) fs said;
+        asked = some_query (OfWeights w ∷ []) fs q;
         few_queries = subst (λ n. n ≤ most_queries) (sym (count_queries [] (OfWeights w ∷ fs))) within.queries;
       }
 
 -- ---- accepted lines have accepted forms
 
--- a form of a line is one
+-- a form of a line is one, with names
 abbrev HasForm : Counted → Type 0
-HasForm l = (f : LineForm) → l.form ≡ Some f → is_form f ≡ true
+HasForm l = (f : LineForm) → l.form ≡ Some f → IsSaid f
 
 abbrev HaveForms : List Counted → Type 0
 HaveForms [] = Unit {0}
 HaveForms (l ∷ ls) = HasForm l × HaveForms ls
 
-words_form : (o : Option (List Word)) (f : LineForm) → option_and_then form_of o ≡ Some f → is_form f ≡ true
-words_form None f h = cc
-words_form (Some ws) f h = ((one_form ws f).0 h).1
+counted_forms : OneCutting → (ls : List Line) → HaveForms (map counted ls)
+counted_forms cut [] = tt
+counted_forms cut (l ∷ ls) = ((λ f e. said_form cut l.bytes f e), counted_forms cut ls)
 
-counted_forms : (ls : List Line) → HaveForms (map counted ls)
-counted_forms [] = tt
-counted_forms (l ∷ ls) = ((λ f e. words_form (line_words l.bytes) f e), counted_forms ls)
-
-forms_first : (l : Counted) (f : LineForm) (ls : List Counted) → l.form ≡ Some f → forms (l ∷ ls) ≡ f ∷ forms ls
+pub forms_first : (l : Counted) (f : LineForm) (ls : List Counted) → l.form ≡ Some f → forms (l ∷ ls) ≡ f ∷ forms ls
 forms_first l f ls e = ap (λ o. cons_option o (forms ls)) e
 
-forms_more : (ls : List Counted) (l : Counted) (f : LineForm) → l.form ≡ Some f → forms (ls ++ l ∷ []) ≡ forms ls ++ f ∷ []
+pub forms_more : (ls : List Counted) (l : Counted) (f : LineForm) → l.form ≡ Some f → forms (ls ++ l ∷ []) ≡ forms ls ++ f ∷ []
 forms_more ls l f e = filter_map-append (λ k. k.form) ls (l ∷ []) ∙ ap (λ fs. forms ls ++ fs) (forms_first l f [] e)
 
 -- a line with no kind has a form that has none
@@ -194,9 +200,14 @@ lawful_lines all (h ∷ w ∷ rest) m s a e =
     let form : w.form ≡ Some (OfWeights x.0) = k.1 ∙ ap Some x.1 in
     let more = accepted_forms all h w [] rest m.1.1 (further_accepted all (h ∷ []) rest w behind) in
     let fs = subst (λ pre. AcceptedForms all pre (forms rest)) (forms_first w (OfWeights x.0) [] form) more in
-    subst (λ l. IsDocument (document_of l)) (sym (forms_first w (OfWeights x.0) rest form)) (lawful_body all x.0 (forms rest) x.2 s fs)
+    let asks : list_any is_query (forms rest) ≡ true = subst (λ l. list_any is_query l ≡ true) (forms_first w (OfWeights x.0) rest form) (nothing_missing (list_any is_query (forms (w ∷ rest))) e) in
+    subst (λ l. IsDocument (document_of l)) (sym (forms_first w (OfWeights x.0) rest form)) (lawful_body all x.0 (forms rest) x.2 s asks fs)
+  where
+    nothing_missing : (t : Bool) → (if t then None else Some NothingAsked) ≡ None → t ≡ true
+    nothing_missing true k = refl
+    nothing_missing false k = cc
 
-pub lawful_document : (bytes : List ℕ) (d : Document) → reads_as bytes d → IsDocument d
-lawful_document bytes d m =
+pub lawful_document : OneCutting → (bytes : List ℕ) (d : Document) → reads_as bytes d → IsDocument d
+lawful_document cut bytes d m =
     subst IsDocument (sym m.document)
-    (lawful_lines (all_symbols (counted_lines bytes)) (counted_lines bytes) (counted_forms (filter (λ l. counts l.bytes) (numbered 1 (lines bytes)))) refl m.accepted m.whole)
+    (lawful_lines (all_symbols (counted_lines bytes)) (counted_lines bytes) (counted_forms cut (filter (λ l. counts l.bytes) (numbered 1 (lines bytes)))) refl m.accepted m.whole)

@@ -48,7 +48,7 @@ pattern_written _ p h = cc
 written_pattern : (p : PatternForm) → are_items p.items ≡ true → pattern_of (pattern_words p) ≡ Some p
 written_pattern p h = ap (option_map (λ is. record { control = p.control; items = is })) ((are_items_lem (items_words p.items) p.items).1 (h, refl))
 
-none_append : (test : Word → Bool) (us vs : List Word) → has_none test us ≡ true → has_none test vs ≡ true → has_none test (us ++ vs) ≡ true
+pub none_append : (test : Word → Bool) (us vs : List Word) → has_none test us ≡ true → has_none test vs ≡ true → has_none test (us ++ vs) ≡ true
 none_append test [] vs h k = k
 none_append test (u ∷ us) vs h k =
     let m = and_parts (not (test u)) (has_none test us) h in
@@ -109,10 +109,10 @@ written_query p q h =
 
 module _ {A B : Type 0} (f : A → Option B) where
   -- the first item and the others
-  abbrev Parts : A → List A → List B → Type 0
+  abbrev pub Parts : A → List A → List B → Type 0
   Parts x xs ys = (y : B) × (zs : List B) × (f x ≡ Some y) × (each f xs ≡ Some zs) × (y ∷ zs ≡ ys)
 
-  of_each : (x : A) (xs : List A) (ys : List B) → each f (x ∷ xs) ≡ Some ys → Parts x xs ys
+  pub of_each : (x : A) (xs : List A) (ys : List B) → each f (x ∷ xs) ≡ Some ys → Parts x xs ys
   of_each x xs ys h = first (f x) refl h
     where
       rest : (y : B) → f x ≡ Some y → (o : Option (List B)) → each f xs ≡ o → option_map (λ zs. y ∷ zs) o ≡ Some ys → Parts x xs ys

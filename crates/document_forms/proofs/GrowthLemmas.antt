@@ -21,7 +21,7 @@ use Rattle.document_forms.specs.declared.pattern.PatternText.{PatternText}
 use Rattle.document_forms.specs.declared.document.MapText.{MapText}
 use Rattle.document_forms.specs.declared.document.RuleLine.{RuleLine}
 use Rattle.document_forms.specs.declared.document.QueryLine.{QueryLine}
-use Rattle.document_forms.specs.Lawful.{AreBelow, IsFormText, IsValueText, IsAction, IsWeightText, IsPushMap, IsMapText, IsRuleLine, IsSetText, IsPatternText, IsQueryLine}
+use Rattle.document_forms.specs.Lawful.{AreBelow, AreSome, IsExpressionText, IsFormText, IsValueText, IsAction, IsWeightText, IsPushMap, IsMapText, IsRuleLine, IsSetText, IsPatternText, IsQueryLine}
 
 all_below : (n m : ℕ) → n ≤ m → (ks : List ℕ) → AreBelow n ks → AreBelow m ks
 all_below n m l ks h = All-weaker (λ k. k < n) (λ k. k < m) (λ k b. lt_of_lt_of_le b l) ks h
@@ -47,24 +47,30 @@ over_more n m l (Ternary t f g i) h =
 module _ (n m : ℕ) (l : n ≤ m) where
   form_more : (f : FormText) → IsFormText n f → IsFormText m f
   form_more Varying h = tt
-  form_more (Meet c bits) h = lt_of_lt_of_le h (pow_mono l)
+  form_more (Meet c bits) h = (h.0, lt_of_lt_of_le h.1 (pow_mono l))
+
+  expression_more : (f : Formula ℕ) → IsExpressionText n f → IsExpressionText m f
+  expression_more f h = record { over = over_more n m l f h.over; ternaries = h.ternaries; shallow = h.shallow }
+
+  some_more : (ks : List ℕ) → AreSome n ks → AreSome m ks
+  some_more ks h = record { some = h.some; below = all_below n m l ks h.below; once = h.once }
 
   value_more : (v : ValueText) → IsValueText n v → IsValueText m v
   value_more Free h = tt
-  value_more (Is f) h = over_more n m l f h
+  value_more (Is f) h = expression_more f h
 
   action_more : (a : Action) → IsAction n a → IsAction m a
-  action_more (Assume f) h = over_more n m l f h
-  action_more (Choose ks) h = all_below n m l ks h
-  action_more (Assign ps) h = (all_below n m l (map (λ p. p.variable) ps) h.0, All-weaker (λ p. IsValueText n p.value) (λ p. IsValueText m p.value) (λ p. value_more p.value) ps h.1)
+  action_more (Assume f) h = expression_more f h
+  action_more (Choose ks) h = (h.0, all_below n m l ks h.1)
+  action_more (Assign ps) h = (some_more (map (λ p. p.variable) ps) h.0, All-weaker (λ p. IsValueText n p.value) (λ p. IsValueText m p.value) (λ p. value_more p.value) ps h.1)
 
   weight_more : (u : WeightsLine) (w : WeightText) → IsWeightText u n w → IsWeightText u m w
   weight_more u One h = tt
   weight_more u Zero h = tt
   weight_more (Cost cap) (Number k) h = h
-  weight_more GenKill (Facts ss) h = all_below n m l (map (λ s. s.fact) ss) h
-  weight_more Copy (Forms ps) h = (all_below n m l (map (λ p. p.variable) ps) h.0, All-weaker (λ p. IsFormText n p.form) (λ p. IsFormText m p.form) (λ p. form_more p.form) ps h.1)
-  weight_more Relation (Actions acts) h = All-weaker (IsAction n) (IsAction m) action_more acts h
+  weight_more GenKill (Facts ss) h = some_more (map (λ s. s.fact) ss) h
+  weight_more Copy (Forms ps) h = (some_more (map (λ p. p.variable) ps) h.0, All-weaker (λ p. IsFormText n p.form) (λ p. IsFormText m p.form) (λ p. form_more p.form) ps h.1)
+  weight_more Relation (Actions acts) h = (h.0, All-weaker (IsAction n) (IsAction m) action_more acts h.1)
   weight_more _ _ h = absurd h
 
   map_more : (u : WeightsLine) (right : List ℕ) (o : Option MapText) → IsMapText u n right o → IsMapText u m right o
@@ -76,6 +82,7 @@ module _ (n m : ℕ) (l : n ≤ m) where
     from = all_below n m l (map (λ x. x.from) v.moves) h.from;
     restores = h.restores;
     moves = h.moves;
+    once = h.once;
   }
 
   set_more : (s : SetText) → IsSetText n s → IsSetText m s

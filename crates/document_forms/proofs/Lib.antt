@@ -1,5 +1,18 @@
 pub mod CallerLemmas
 mod LineLemmas
+mod WrittenWordLemmas
+mod WrittenNameLemmas
+mod WrittenMapLemmas
+mod WrittenRuleLemmas
+mod WrittenListLemmas
+mod WrittenFactLemmas
+mod WrittenBitLemmas
+mod WrittenCopyLemmas
+mod WrittenExpressionLemmas
+mod WrittenActionLemmas
+mod WrittenWeightLemmas
+mod WrittenQueryLemmas
+mod WrittenLineLemmas
 mod ItemLemmas
 mod NameLemmas
 mod CutLemmas
@@ -10,7 +23,9 @@ mod RuleLemmas
 mod PatternLemmas
 mod GrowthLemmas
 mod LimitLemmas
+mod SaidFormLemmas
 mod DocumentLemmas
+mod WrittenDocumentLemmas
 mod KindLemmas
 mod RefusalLemmas
 mod RefusalExamples

@@ -1,6 +1,6 @@
 -- The counts of accepted lines are within the limits.
-use Rattle.std.proofs.Common.{◌≡◌, inl, inr, ℕ, ◌+◌, ◌<◌, ◌≤◌, Bool, true, false, not, cond, ◌&&◌, ◌||◌, List, [], ◌∷◌, ◌++◌, map, length, Option, Some, None, refl, sym, ap, ◌∙◌, subst, arith, le_refl, le_trans, append_assoc, append-nil, length-append}
-use Rattle.std.specs.Prelude.{nat_le, nat_lt, count_by, is_some, is_none, unwrap_or, option_map}
+use Rattle.std.proofs.Common.{◌≡◌, ◌⊎◌, inl, inr, ℕ, ◌+◌, ◌<◌, ◌≤◌, Bool, true, false, not, cond, ◌&&◌, ◌||◌, List, [], ◌∷◌, ◌++◌, map, length, Option, Some, None, refl, sym, ap, ◌∙◌, subst, arith, le_refl, le_trans, append_assoc, append-nil, length-append}
+use Rattle.std.specs.Prelude.{IsTrue, nat_le, nat_lt, count_by, is_some, is_none, unwrap_or, option_map}
 use Rattle.std.specs.List.{list_any}
 use Rattle.std.proofs.lemmas.Bool.{and_parts, or_parts, or_right, leb-true, leb-false, ltb-false}
 use Rattle.std.proofs.lemmas.List.Sums.{sum_by-append}
@@ -44,6 +44,7 @@ pub record Within (u : WeightsLine) (a : Above) : Type 0 where
   pub controls : length a.controls ≤ most_controls
   pub symbols : length a.symbols ≤ most_symbols
   pub items : length a.items ≤ most_names u (item_class u)
+  pub has_items : IsTrue (has_class u (item_class u)) ⊎ (a.items ≡ [])
   pub rules : a.rules ≤ most_rules
   pub queries : a.queries ≤ most_queries
 
@@ -81,6 +82,20 @@ variables_limit GenKill h = cc
 variables_limit Copy h = refl
 variables_limit Relation h = refl
 
+facts_are_items : (u : WeightsLine) → has_class u Facts ≡ true → has_class u (item_class u) ≡ true
+facts_are_items Reach h = cc
+facts_are_items (Cost cap) h = cc
+facts_are_items GenKill h = refl
+facts_are_items Copy h = cc
+facts_are_items Relation h = cc
+
+variables_are_items : (u : WeightsLine) → has_class u Variables ≡ true → has_class u (item_class u) ≡ true
+variables_are_items Reach h = cc
+variables_are_items (Cost cap) h = cc
+variables_are_items GenKill h = cc
+variables_are_items Copy h = refl
+variables_are_items Relation h = refl
+
 rules_few : (a : Above) (r : RuleForm) → first_fault (rule_conditions a r) ≡ None → a.rules + 1 ≤ most_rules
 rules_few a r h = go (nat_le most_rules a.rules) refl
   where
@@ -104,25 +119,25 @@ pub within_more : (all : ℕ) (w : WeightsForm) (ls : List LineForm) (f : LineFo
 within_more all w ls (OfWeights v) h m = m
 within_more all w ls (OfNames Controls xs) h m =
     let k = names_few (above_of (OfWeights w ∷ ls)) Controls xs (declared_once Controls (OfWeights w ∷ ls)) h in
-    record { controls = k.1; symbols = m.symbols; items = m.items; rules = m.rules; queries = m.queries }
+    record { controls = k.1; symbols = m.symbols; items = m.items; has_items = m.has_items; rules = m.rules; queries = m.queries }
 within_more all w ls (OfNames Symbols xs) h m =
     let k = names_few (above_of (OfWeights w ∷ ls)) Symbols xs (declared_once Symbols (OfWeights w ∷ ls)) h in
-    record { controls = m.controls; symbols = k.1; items = m.items; rules = m.rules; queries = m.queries }
+    record { controls = m.controls; symbols = k.1; items = m.items; has_items = m.has_items; rules = m.rules; queries = m.queries }
 within_more all w ls (OfNames Facts xs) h m =
     let a = above_of (OfWeights w ∷ ls) in
     let k = names_few a Facts xs (declared_once (item_class (weights_line w)) (OfWeights w ∷ ls)) h in
-    record { controls = m.controls; symbols = m.symbols; items = subst (λ n. length (a.items ++ xs) ≤ n) (facts_limit (weights_line w) k.0) k.1; rules = m.rules; queries = m.queries }
+    record { controls = m.controls; symbols = m.symbols; items = subst (λ n. length (a.items ++ xs) ≤ n) (facts_limit (weights_line w) k.0) k.1; has_items = inl (facts_are_items (weights_line w) k.0); rules = m.rules; queries = m.queries }
 within_more all w ls (OfNames Variables xs) h m =
     let a = above_of (OfWeights w ∷ ls) in
     let k = names_few a Variables xs (declared_once (item_class (weights_line w)) (OfWeights w ∷ ls)) h in
-    record { controls = m.controls; symbols = m.symbols; items = subst (λ n. length (a.items ++ xs) ≤ n) (variables_limit (weights_line w) k.0) k.1; rules = m.rules; queries = m.queries }
+    record { controls = m.controls; symbols = m.symbols; items = subst (λ n. length (a.items ++ xs) ≤ n) (variables_limit (weights_line w) k.0) k.1; has_items = inl (variables_are_items (weights_line w) k.0); rules = m.rules; queries = m.queries }
 within_more all w ls (OfRule r) h m =
-    record { controls = m.controls; symbols = m.symbols; items = m.items; rules = rules_few (above_of (OfWeights w ∷ ls)) r h; queries = m.queries }
+    record { controls = m.controls; symbols = m.symbols; items = m.items; has_items = m.has_items; rules = rules_few (above_of (OfWeights w ∷ ls)) r h; queries = m.queries }
 within_more all w ls (OfQuery p q) h m =
-    record { controls = m.controls; symbols = m.symbols; items = m.items; rules = m.rules; queries = queries_few all (above_of (OfWeights w ∷ ls)) p q h }
+    record { controls = m.controls; symbols = m.symbols; items = m.items; has_items = m.has_items; rules = m.rules; queries = queries_few all (above_of (OfWeights w ∷ ls)) p q h }
 
 pub within_none : (w : WeightsForm) → Within (weights_line w) (above_of (OfWeights w ∷ []))
-within_none w = record { controls = omega arith; symbols = omega arith; items = omega arith; rules = omega arith; queries = omega arith }
+within_none w = record { controls = omega arith; symbols = omega arith; items = omega arith; has_items = inr refl; rules = omega arith; queries = omega arith }
 
 -- ---- the rules and queries of lines are as many as they count
 

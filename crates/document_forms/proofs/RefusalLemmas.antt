@@ -17,7 +17,7 @@ AcceptedFrom all pre ls =
     (above : List Counted) (l : Counted) (below : List Counted) → ls ≡ above ++ l ∷ below
     → (k : Kind) → HasKind all (pre ++ above) l k → ⊥
 
-none_split : (above : List Counted) (l : Counted) (below : List Counted) → [] ≡ above ++ l ∷ below → ⊥
+pub none_split : (above : List Counted) (l : Counted) (below : List Counted) → [] ≡ above ++ l ∷ below → ⊥
 none_split [] l below e = cc
 none_split (x ∷ above) l below e = cc
 
@@ -35,7 +35,7 @@ further_accepted all pre ls x h above l below e k has =
     h (x ∷ above) l below (ap (λ ys. x ∷ ys) e) k
     (subst (λ p. HasKind all p l k) (append_assoc pre (x ∷ []) above) has)
 
-accepted_more :
+pub accepted_more :
     (all : ℕ) (pre ls : List Counted) (x : Counted)
     → kind_below all pre x ≡ None → AcceptedFrom all (pre ++ x ∷ []) ls → AcceptedFrom all pre (x ∷ ls)
 accepted_more all pre ls x n h [] l below e k has =

@@ -3,7 +3,7 @@
 ghost use Rattle.std.specs.Prelude.{◌≡◌, ◌↔◌, ◌⊎◌, ℕ, Bool, true, false, List, [], ◌∷◌, ◌++◌, ◌≤◌, length, Option, Some, None, Ok, Err};
 ghost use Rattle.std.specs.List.{list_any};
 ghost use Rattle.wpds_base.specs.Faults.{first_fault};
-ghost use Rattle.wpds_base.specs.Limits.{most_pushed};
+ghost use Rattle.wpds_base.specs.Limits.{most_bytes, most_pushed};
 ghost use Rattle.wpds_base.specs.Lists.{IsIn, IsOnce};
 ghost use Rattle.wpds_port.specs.declared.Word.{Word};
 ghost use Rattle.document_forms.specs.Above.{declared, names_on, Above, above_of, with_line};
@@ -16,8 +16,12 @@ ghost use Rattle.document_forms.specs.Lawful.{IsDocument, IsRuleLine, IsQueryLin
 ghost use Rattle.document_forms.specs.Lines.{pieces, IsCut};
 ghost use Rattle.document_forms.specs.Names.{is_among, has_twice};
 ghost use Rattle.document_forms.specs.Patterns.{ItemForm, PatternForm, items_of, AreItems};
+ghost use Rattle.document_forms.specs.Writing.{written};
 ghost use Rattle.wpds_port.specs.declared.Kind.{Kind};
 ghost use Rattle.wpds_port.specs.declared.Refusal.{Refusal};
+
+use truth_tables::one_tree;
+use wpds_port::one_list_of_tokens;
 
 /// Bytes have a document or a first refusal, never both, and one at most of each.
 pub fn one_document_or_one_refusal()
@@ -66,7 +70,21 @@ pub fn one_form_a_line()
 /// A document that is read is over its own names and within the limits.
 pub fn documents_are_lawful()
     ensures { (bytes : List ℕ) (d : Document) → reads_as bytes d → IsDocument d }
-{}
+{
+    one_list_of_tokens();
+}
+
+/// A document that is read is read again as it is written.
+pub fn written_documents_read_back()
+    ensures read { (bytes : List ℕ) (d : Document)
+        → reads_as bytes d → length (written d) ≤ most_bytes → reads_as (written d) d }
+    ensures lawful { (d : Document)
+        → IsDocument d → length (written d) ≤ most_bytes → reads_as (written d) d }
+{
+    documents_are_lawful();
+    one_list_of_tokens();
+    one_tree();
+}
 
 /// An accepted rule or query is over the names above it.
 pub fn accepted_lines_are_lawful()

@@ -15,7 +15,7 @@ pub use language::Language;
 pub use laws::{
     above_with_a_line, accepted_lines_are_lawful, documents_are_lawful, found_line_by_line,
     lowest_kind_counts, names_of_a_class, one_cutting_into_lines, one_document_or_one_refusal,
-    one_form_a_line, one_list_of_items, tests_of_names,
+    one_form_a_line, one_list_of_items, tests_of_names, written_documents_read_back,
 };
 pub use pattern::{ItemText, ItemTexts, PatternText, SetText, Symbols};
 pub use weight::{
