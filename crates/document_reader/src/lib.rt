@@ -25,4 +25,6 @@ pub use system::read_system;
 #[cfg(test)]
 mod query_tests;
 #[cfg(test)]
+mod system_tests;
+#[cfg(test)]
 mod tests;
