@@ -1,18 +1,16 @@
 -- Worked documents that are accepted, each computed: what they are, and how they are written.
-use Rattle.std.proofs.Common.{◌≡◌, ℕ, List, [], ◌∷◌, ◌++◌, refl, Option, Some, None, true, false}
-use Rattle.std.specs.Prelude.{codes, flat_map, Result, Ok, Err, pos}
+use Rattle.std.proofs.Common.{◌≡◌, ℕ, List, [], ◌∷◌, ◌++◌, refl, Some, None, true, false}
+use Rattle.std.specs.Prelude.{codes, flat_map, Ok, Err}
 use Rattle.std.specs.Fmt.{digits}
-use Rattle.truth_tables.specs.Formulas.{Formula, Constant, Variable, Opposite}
-use Rattle.document_forms.specs.declared.weight.WeightsLine.TheVariants.{Reach, Cost, GenKill, Copy, Relation}
-use Rattle.document_forms.specs.declared.weight.FormText.TheVariants.{Varying, Meet}
+use Rattle.truth_tables.specs.Formulas.{Constant, Variable, Opposite}
+use Rattle.document_forms.specs.declared.weight.WeightsLine.TheVariants.{Cost, Relation}
 use Rattle.document_forms.specs.declared.weight.ValueText.TheVariants.{Is}
 use Rattle.document_forms.specs.declared.weight.Action.TheVariants.{Assign}
-use Rattle.document_forms.specs.declared.weight.WeightText.TheVariants.{One, Number, Facts, Forms, Actions}
-use Rattle.document_forms.specs.declared.pattern.SetText.TheVariants.{All, Listed}
+use Rattle.document_forms.specs.declared.weight.WeightText.TheVariants.{One, Number, Actions}
+use Rattle.document_forms.specs.declared.pattern.SetText.TheVariants.{Listed}
 use Rattle.document_forms.specs.declared.pattern.ItemText.{ItemText}
 use Rattle.document_forms.specs.declared.language.Language.TheVariants.{System, Program}
-use Rattle.wpds_port.specs.declared.Refusal.{Refusal}
-use Rattle.document_forms.specs.Documents.{Document, read_as}
+use Rattle.document_forms.specs.Documents.{read_as}
 use Rattle.document_forms.specs.Languages.{language_of}
 use Rattle.document_forms.specs.Writing.{written}
 

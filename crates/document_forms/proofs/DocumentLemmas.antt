@@ -1,24 +1,21 @@
 -- A document that is read keeps to what every document keeps to.
-use Rattle.std.proofs.Common.{◌≡◌, ◌≢◌, inl, inr, ℕ, ◌+◌, ◌<◌, ◌≤◌, Bool, true, false, not, cond, ◌&&◌, List, [], ◌∷◌, ◌++◌, map, length, Option, Some, None, refl, sym, ap, ◌∙◌, subst, arith, le_refl, le_trans, append_assoc, append-nil, length-append}
-use Rattle.std.specs.Prelude.{All, filter_map, option_map, option_and_then, nat_le, IsTrue, if◌then◌else◌, filter}
-use Rattle.std.specs.List.{list_any, list_all, cons_option}
+use Rattle.std.proofs.Common.{◌≡◌, ℕ, ◌≤◌, Bool, true, false, not, ◌&&◌, List, [], ◌∷◌, ◌++◌, map, length, Option, Some, None, refl, sym, ap, ◌∙◌, subst, arith, le_refl, le_trans, append_assoc, append-nil, length-append}
+use Rattle.std.specs.Prelude.{All, nat_le, if◌then◌else◌, filter}
+use Rattle.std.specs.List.{list_any, cons_option}
 use Rattle.std.proofs.lemmas.Bool.{and_parts, leb-true}
 use Rattle.std.proofs.lemmas.List.Elements.{All-nil, All-cons, All-append, filter_map-append}
 use Rattle.wpds_base.specs.Faults.{first_fault}
 use Rattle.wpds_base.specs.Limits.{most_pushed, most_rules, most_queries}
-use Rattle.wpds_port.specs.declared.Word.{Word}
 use Rattle.document_forms.specs.declared.document.RuleLine.{RuleLine}
 use Rattle.document_forms.specs.declared.document.QueryLine.{QueryLine}
 use Rattle.document_forms.specs.Lines.{Line, numbered, counts, lines}
-use Rattle.document_forms.specs.Forms.{WeightsForm, Class, Controls, Symbols, Facts, Variables, RuleForm, LineForm, OfWeights, OfNames, OfRule, OfQuery, form_of, line_words}
+use Rattle.document_forms.specs.Forms.{WeightsForm, Controls, Symbols, Facts, Variables, LineForm, OfWeights, OfNames, OfRule, OfQuery}
 use Rattle.document_forms.specs.FormWords.{is_form, has_none, is_back, right_words}
 use Rattle.document_forms.specs.Words.{is_return}
-use Rattle.document_forms.specs.Patterns.{PatternForm}
-use Rattle.wpds_port.specs.declared.Kind.{Kind}
 use Rattle.wpds_port.specs.declared.Kind.TheVariants.{NotText, Form, Count, NothingAsked}
 use Rattle.document_forms.specs.Above.{weights_line, item_class, declared, Above, above_of, with_line, is_query}
 use Rattle.document_forms.specs.Kinds.{Conditions, has_unlawful_cap, weights_conditions, conditions}
-use Rattle.document_forms.specs.FirstRefusal.{Counted, counted, counted_lines, forms, all_symbols, by_form, kind_below, missing, AreAccepted}
+use Rattle.document_forms.specs.FirstRefusal.{Counted, counted, counted_lines, forms, all_symbols, by_form, missing, AreAccepted}
 use Rattle.document_forms.specs.Documents.{Document, rules_on, queries_on, rule_value, query_value, gathered, body, document_of, reads_as}
 use Rattle.document_forms.specs.Lawful.{IsRuleLine, IsQueryLine, IsDocument}
 use Rattle.document_forms.proofs.NameLemmas.{declared_once}

@@ -1,10 +1,9 @@
 -- A line's words are its form exactly where the form writes them.
-use Rattle.std.proofs.Common.{◌≡◌, ◌↔◌, ℕ, Bool, true, false, not, cond, ◌&&◌, ◌||◌, List, [], ◌∷◌, ◌++◌, Option, Some, None, map, refl, sym, ap, ap₂, ◌∙◌, subst, append_assoc, append-nil, length}
-use Rattle.std.specs.Prelude.{bytes_eq, codes, flat_map, option_map, is_some, nat_le, if◌then◌else◌}
+use Rattle.std.proofs.Common.{◌≡◌, ◌↔◌, ℕ, Bool, true, false, not, cond, ◌&&◌, ◌||◌, List, [], ◌∷◌, ◌++◌, Option, Some, None, map, refl, sym, ap, ap₂, ◌∙◌, subst, append-nil, length}
+use Rattle.std.specs.Prelude.{codes, flat_map, option_map, is_some, nat_le, if◌then◌else◌}
 use Rattle.std.specs.List.{list_all, list_any}
-use Rattle.std.proofs.lemmas.Bool.{and_parts, and_from, not-true}
-use Rattle.wpds_port.specs.declared.Mark.{Mark}
-use Rattle.wpds_port.specs.declared.Mark.TheVariants.{Arrow, Implies, Becomes, Differs, Colon, Semicolon, Comma, Dot, Star, Plus, Minus, Equal, Question, Not, And, Or, Xor, Open, Close, OpenBrace, CloseBrace}
+use Rattle.std.proofs.lemmas.Bool.{and_parts, and_from}
+use Rattle.wpds_port.specs.declared.Mark.TheVariants.{Arrow, Implies, Colon, Equal, CloseBrace}
 use Rattle.wpds_port.specs.declared.Word.{Word}
 use Rattle.wpds_port.specs.declared.Word.TheVariants.{Name, Number, Mark as Sign}
 use Rattle.wpds_port.specs.Tokens.{is_lawful_word}
@@ -12,13 +11,13 @@ use Rattle.truth_tables.specs.Texts.{is_name}
 use Rattle.wpds_base.specs.Limits.{most_pushed}
 use Rattle.document_forms.specs.Lines.{in_front}
 use Rattle.document_forms.specs.Names.{is_reserved}
-use Rattle.document_forms.specs.Words.{is_return, is_implies, is_colon, is_equal, is_move, before, behind, begins_pair, pairs, name_of, each, each_of_some, guarded, ◌>>=◌}
-use Rattle.document_forms.specs.Patterns.{SetForm, Dotted, Bare, Braced, ItemForm, PatternForm, set_words, star_words, items_words, items_of, are_items, AreItems, pattern_of}
-use Rattle.document_forms.specs.Returns.{MoveForm, MapForm, ReturnForm, PlainReturn, GivenMap, move_of, moves_in, moves_of, moves_behind, restore_of, plain_of, only_moves, return_of}
+use Rattle.document_forms.specs.Words.{is_return, is_implies, is_colon, is_move, before, behind, begins_pair, pairs, name_of, each, each_of_some, guarded, ◌>>=◌}
+use Rattle.document_forms.specs.Patterns.{SetForm, Dotted, Bare, Braced, ItemForm, PatternForm, set_words, star_words, items_words, items_of, are_items, pattern_of}
+use Rattle.document_forms.specs.Returns.{MoveForm, ReturnForm, PlainReturn, GivenMap, move_of, moves_in, moves_of, moves_behind, restore_of, plain_of, only_moves, return_of}
 use Rattle.document_forms.specs.Forms.{WeightsForm, ReachWeights, CostWeights, GenKillWeights, CopyWeights, RelationWeights, Class, Controls, Symbols, Facts, Variables, RuleForm, LineForm, OfWeights, OfNames, OfRule, OfQuery, weights_named, weights_of, names_of, return_behind, rule_with, rule_of, query_of, form_behind, form_of}
 use Rattle.document_forms.specs.FormWords.{weights_words, class_word, pattern_words, move_words, moves_words, restore_words, return_words, back_words, weight_words, right_words, rule_words, form_words, is_some_list, has_none, is_restore, are_moves, is_return_form, is_back, is_rule_form, is_form, IsForm}
 use Rattle.document_forms.proofs.ItemLemmas.{are_items_lem}
-use Rattle.document_forms.proofs.CutLemmas.{colon_only, implies_only, name_only, name_itself, all_before, cut_at, none_before, before_joined, behind_joined, before_all, behind_none, none_joined, names_written, written_names, some_names_written, written_some_names, names_have_no_colon, all_pieces, pairs_joined}
+use Rattle.document_forms.proofs.CutLemmas.{colon_only, implies_only, name_only, all_before, cut_at, none_before, before_joined, behind_joined, before_all, behind_none, names_written, written_names, some_names_written, written_some_names, names_have_no_colon, all_pieces, pairs_joined}
 
 -- ---- options
 

@@ -1,12 +1,12 @@
 -- What keeps to fewer names keeps to more.
-use Rattle.std.proofs.Common.{◌≡◌, ◌⊎◌, inl, inr, ℕ, ◌+◌, ◌^◌, ◌<◌, ◌≤◌, Bool, true, false, ◌&&◌, List, [], ◌∷◌, ◌++◌, map, length, Option, Some, None, refl, sym, ap, ◌∙◌, subst, arith, lt_of_lt_of_le, le_refl, le_trans, length-append}
-use Rattle.std.specs.Prelude.{All, IsTrue, nat_lt}
-use Rattle.std.proofs.lemmas.Bool.{and_parts, and_from, ltb-true, lt-ltb}
-use Rattle.std.proofs.lemmas.List.Elements.{All-nil, All-cons, All-append, All-weaker}
+use Rattle.std.proofs.Common.{◌≡◌, ℕ, ◌<◌, ◌≤◌, Bool, true, ◌&&◌, List, map, Option, Some, None, refl, lt_of_lt_of_le}
+use Rattle.std.specs.Prelude.{nat_lt}
+use Rattle.std.proofs.lemmas.Bool.{ltb-true, lt-ltb}
+use Rattle.std.proofs.lemmas.List.Elements.{All-weaker}
 use Rattle.std.proofs.Common.{pow_mono}
 use Rattle.truth_tables.specs.Formulas.{Formula, Constant, Variable, Opposite, Binary, Ternary, is_over}
 use Rattle.document_forms.specs.declared.weight.WeightsLine.{WeightsLine}
-use Rattle.document_forms.specs.declared.weight.WeightsLine.TheVariants.{Reach, Cost, GenKill, Copy, Relation}
+use Rattle.document_forms.specs.declared.weight.WeightsLine.TheVariants.{Cost, GenKill, Copy, Relation}
 use Rattle.document_forms.specs.declared.weight.FormText.{FormText}
 use Rattle.document_forms.specs.declared.weight.FormText.TheVariants.{Varying, Meet}
 use Rattle.document_forms.specs.declared.weight.ValueText.{ValueText}
@@ -21,12 +21,12 @@ use Rattle.document_forms.specs.declared.pattern.PatternText.{PatternText}
 use Rattle.document_forms.specs.declared.document.MapText.{MapText}
 use Rattle.document_forms.specs.declared.document.RuleLine.{RuleLine}
 use Rattle.document_forms.specs.declared.document.QueryLine.{QueryLine}
-use Rattle.document_forms.specs.Lawful.{AreBelow, AreSome, IsExpressionText, IsFormText, IsValueText, IsAction, IsWeightText, IsPushMap, IsMapText, IsRuleLine, IsSetText, IsPatternText, IsQueryLine}
+use Rattle.document_forms.specs.Lawful.{AreBelow, AreSome, IsExpressionText, IsFormText, IsValueText, IsAction, IsWeightText, IsMapText, IsRuleLine, IsSetText, IsPatternText, IsQueryLine}
 
 all_below : (n m : ℕ) → n ≤ m → (ks : List ℕ) → AreBelow n ks → AreBelow m ks
 all_below n m l ks h = All-weaker (λ k. k < n) (λ k. k < m) (λ k b. lt_of_lt_of_le b l) ks h
 
-three : (x y z : Bool) → (x && y && z) ≡ true → (x ≡ true) × (y ≡ true) × (z ≡ true)
+pub three : (x y z : Bool) → (x && y && z) ≡ true → (x ≡ true) × (y ≡ true) × (z ≡ true)
 three true true true h = (refl, refl, refl)
 three _ _ _ h = cc
 

@@ -4,7 +4,7 @@ use Rattle.std.specs.Prelude.{nat_lt, slice_index_or}
 use Rattle.std.proofs.lemmas.Bool.{and_parts, ltb-true}
 use Rattle.wpds_base.specs.Faults.{first_fault}
 use Rattle.wpds_base.specs.Lists.{IsIn}
-use Rattle.document_forms.specs.Forms.{WeightsForm, Class, RuleForm, LineForm, OfWeights, OfNames, OfRule, OfQuery}
+use Rattle.document_forms.specs.Forms.{LineForm, OfWeights, OfNames, OfRule, OfQuery}
 use Rattle.wpds_port.specs.declared.Kind.{Kind}
 use Rattle.wpds_port.specs.declared.Kind.TheVariants.{TooLong, NotText, Header, Form, Twice, Unknown, WeightText, Return, Count, NothingAsked, Arity, TooWide, Label, NotBuilt}
 use Rattle.wpds_port.specs.Refusals.{kind_number}

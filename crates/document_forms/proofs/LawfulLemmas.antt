@@ -1,18 +1,17 @@
 -- The numbers of names are below their count.
-use Rattle.std.proofs.Common.{◌≡◌, ◌≢◌, inl, inr, ℕ, suc, ◌+◌, ◌^◌, ◌<◌, ◌≤◌, Bool, true, false, not, cond, ◌&&◌, ◌||◌, List, [], ◌∷◌, ◌++◌, map, length, Option, Some, None, refl, sym, ap, ◌∙◌, subst, arith, lt_of_lt_of_le, le_trans}
-use Rattle.std.specs.Prelude.{All, max, bytes_eq, flat_map, nat_lt, nat_le, unwrap_or, option_map, fold, bit_or}
-use Rattle.std.specs.List.{list_any}
-use Rattle.std.proofs.lemmas.Bool.{or_parts, or_from, and_parts, and_from, ltb-true, lt-ltb, ltb-false, leb-true, le-leb}
-use Rattle.std.proofs.lemmas.List.Elements.{All-nil, All-cons, All-head, All-tail, All-append, All-weaker}
+use Rattle.std.proofs.Common.{◌≡◌, ◌≢◌, inl, inr, ℕ, suc, ◌+◌, ◌<◌, ◌≤◌, Bool, true, false, not, cond, ◌&&◌, ◌||◌, List, [], ◌∷◌, ◌++◌, map, length, refl, sym, ap, ◌∙◌, arith, le_trans}
+use Rattle.std.specs.Prelude.{max, bytes_eq, nat_lt, nat_le}
+use Rattle.std.proofs.lemmas.Bool.{or_parts, or_from, and_from, lt-ltb, ltb-false, le-leb}
+use Rattle.std.proofs.lemmas.List.Elements.{All-nil, All-cons}
 use Rattle.std.proofs.lemmas.Slice.Eq.{bytes_eq-Decides}
 use Rattle.wpds_base.specs.Limits.{most_depth}
 use Rattle.wpds_base.specs.Lists.{IsIn, IsOnce}
-use Rattle.truth_tables.specs.Formulas.{Formula, Constant as Const, Variable as Var, Opposite, Binary, Ternary, is_over}
-use Rattle.truth_tables.specs.Grammar.{Tree, Constant, Variable, Bracket, Inverse, Two, Table2, Table3, tree_variables, table_of, number_of, has_large_table, depth, formula_of}
+use Rattle.truth_tables.specs.Formulas.{is_over}
+use Rattle.truth_tables.specs.Grammar.{Tree, Constant, Variable, Bracket, Inverse, Two, Table2, Table3, tree_variables, table_of, number_of, has_large_table, depth}
 use Rattle.truth_tables.specs.declared.Operator.{Operator}
 use Rattle.truth_tables.specs.declared.Operator.TheVariants.{Then as ThenOperator, Same as SameOperator, Other as OtherOperator, Or as OrOperator, Xor as XorOperator, And as AndOperator}
 use Rattle.document_forms.specs.Names.{is_among, has_twice, has_unknown, number_in, name}
-use Rattle.document_forms.specs.Documents.{over_numbers, expression_value}
+use Rattle.document_forms.specs.Documents.{expression_value}
 use Rattle.document_forms.specs.Lawful.{AreBelow, AreSome, nesting, has_small_ternaries, IsExpressionText}
 use Rattle.document_forms.proofs.NameLemmas.{twice_is_once}
 
@@ -40,6 +39,12 @@ known_parts names (x ∷ xs) ys h =
     let k = or_parts (not (is_among names x)) (has_unknown names (xs ++ ys)) h in
     let m = known_parts names xs ys k.1 in
     (or_from (not (is_among names x)) (has_unknown names xs) k.0 m.0, m.1)
+
+pub known_both : (names xs ys : List (List ℕ)) → has_unknown names xs ≡ false → has_unknown names ys ≡ false → has_unknown names (xs ++ ys) ≡ false
+known_both names [] ys h k = k
+known_both names (x ∷ xs) ys h k =
+    let p = or_parts (not (is_among names x)) (has_unknown names xs) h in
+    or_from (not (is_among names x)) (has_unknown names (xs ++ ys)) p.0 (known_both names xs ys p.1 k)
 
 -- ---- expressions
 
@@ -164,6 +169,10 @@ numbers_once names (x ∷ xs) h t =
 pub mapped_some : {A B : Type 0} (f : A → B) (xs : List A) → xs ≢ [] → map f xs ≢ []
 mapped_some f [] h e = h refl
 mapped_some f (x ∷ xs) h e = cc
+
+pub unmapped_some : {A B : Type 0} (f : A → B) (xs : List A) → map f xs ≢ [] → xs ≢ []
+unmapped_some f [] h e = h refl
+unmapped_some f (x ∷ xs) h e = cc
 
 pub numbers_some : (names xs : List (List ℕ)) → xs ≢ [] → has_unknown names xs ≡ false → has_twice xs ≡ false → AreSome (length names) (map (number_in names) xs)
 numbers_some names xs s h t = record {

@@ -1,6 +1,6 @@
 -- The counts of accepted lines are within the limits.
-use Rattle.std.proofs.Common.{◌≡◌, ◌⊎◌, inl, inr, ℕ, ◌+◌, ◌<◌, ◌≤◌, Bool, true, false, not, cond, ◌&&◌, ◌||◌, List, [], ◌∷◌, ◌++◌, map, length, Option, Some, None, refl, sym, ap, ◌∙◌, subst, arith, le_refl, le_trans, append_assoc, append-nil, length-append}
-use Rattle.std.specs.Prelude.{IsTrue, nat_le, nat_lt, count_by, is_some, is_none, unwrap_or, option_map}
+use Rattle.std.proofs.Common.{◌≡◌, ◌⊎◌, inl, inr, ℕ, ◌+◌, ◌≤◌, Bool, true, false, not, cond, ◌&&◌, ◌||◌, List, [], ◌∷◌, ◌++◌, length, None, refl, sym, ap, ◌∙◌, subst, arith, length-append}
+use Rattle.std.specs.Prelude.{IsTrue, nat_le, nat_lt, count_by, unwrap_or, option_map}
 use Rattle.std.specs.List.{list_any}
 use Rattle.std.proofs.lemmas.Bool.{and_parts, or_parts, or_right, leb-true, leb-false, ltb-false}
 use Rattle.std.proofs.lemmas.List.Sums.{sum_by-append}
@@ -14,9 +14,9 @@ use Rattle.document_forms.specs.Names.{is_among, has_twice, once}
 use Rattle.document_forms.specs.Patterns.{PatternForm}
 use Rattle.document_forms.specs.Forms.{WeightsForm, ReachWeights, CostWeights, GenKillWeights, CopyWeights, RelationWeights, Class, Controls, Symbols, Facts, Variables, RuleForm, LineForm, OfWeights, OfNames, OfRule, OfQuery}
 use Rattle.wpds_port.specs.declared.Kind.{Kind}
-use Rattle.wpds_port.specs.declared.Kind.TheVariants.{Form, Twice, Unknown, WeightText, Return, Count}
+use Rattle.wpds_port.specs.declared.Kind.TheVariants.{Form, Twice, Count}
 use Rattle.document_forms.specs.Above.{weights_line, item_class, has_class, most_names, is_rule, is_query, Above, above_of, class_names, with_line}
-use Rattle.document_forms.specs.Kinds.{Conditions, has_unlawful_cap, is_deep, rule_weight, is_large, names_conditions, rule_conditions, query_conditions, conditions}
+use Rattle.document_forms.specs.Kinds.{has_unlawful_cap, is_deep, rule_weight, is_large, names_conditions, rule_conditions, query_conditions, conditions}
 use Rattle.document_forms.specs.Documents.{rules_on, queries_on, gathered}
 use Rattle.document_forms.specs.Lawful.{IsWeightsLine}
 use Rattle.document_forms.proofs.NameLemmas.{declared_once, once_joined}

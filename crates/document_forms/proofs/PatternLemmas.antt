@@ -1,5 +1,5 @@
 -- The patterns of an accepted query keep to what every pattern of a document keeps to.
-use Rattle.std.proofs.Common.{◌≡◌, ◌≢◌, inl, inr, ℕ, ◌+◌, ◌<◌, ◌≤◌, Bool, true, false, not, cond, ◌||◌, List, [], ◌∷◌, ◌++◌, map, length, Option, Some, None, refl, sym, ap, ◌∙◌, subst, arith}
+use Rattle.std.proofs.Common.{◌≡◌, inl, inr, ℕ, ◌+◌, ◌<◌, ◌≤◌, Bool, true, false, not, cond, ◌||◌, List, [], ◌∷◌, ◌++◌, map, length, None, refl, sym, ap, ◌∙◌, subst, arith}
 use Rattle.std.specs.Prelude.{All, bytes_eq, flat_map, nat_lt, nat_le}
 use Rattle.std.specs.List.{list_any}
 use Rattle.std.proofs.lemmas.Bool.{or_parts, ltb-false}
@@ -8,17 +8,15 @@ use Rattle.std.proofs.lemmas.Slice.Eq.{bytes_eq-Decides}
 use Rattle.wpds_base.specs.Faults.{first_fault}
 use Rattle.wpds_base.specs.Lists.{IsIn, IsOnce}
 use Rattle.wpds_base.specs.Limits.{most_items, most_edges, most_queries}
-use Rattle.document_forms.specs.declared.pattern.SetText.TheVariants.{All as AllSymbols, Listed}
 use Rattle.document_forms.specs.Names.{is_among, has_unknown, has_twice, number_in}
 use Rattle.document_forms.specs.Patterns.{SetForm, Dotted, Bare, Braced, ItemForm, PatternForm}
-use Rattle.wpds_port.specs.declared.Kind.{Kind}
 use Rattle.wpds_port.specs.declared.Kind.TheVariants.{Twice, Unknown, Count}
 use Rattle.document_forms.specs.Above.{Above}
-use Rattle.document_forms.specs.Kinds.{Conditions, set_names, pattern_symbols, has_symbol_twice, set_size, item_size, edges, is_large, query_conditions}
+use Rattle.document_forms.specs.Kinds.{set_names, pattern_symbols, has_symbol_twice, set_size, item_size, edges, is_large, query_conditions}
 use Rattle.document_forms.specs.Documents.{set_value, item_value, pattern_value, query_value}
-use Rattle.document_forms.specs.Lawful.{AreBelow, IsSetText, set_count, item_count, IsPatternText, IsQueryLine}
+use Rattle.document_forms.specs.Lawful.{IsSetText, set_count, item_count, IsPatternText, IsQueryLine}
 use Rattle.document_forms.proofs.NameLemmas.{among_is_in}
-use Rattle.document_forms.proofs.LawfulLemmas.{number_below, numbers_below, known_parts, is_known}
+use Rattle.document_forms.proofs.LawfulLemmas.{numbers_below, known_parts, is_known}
 use Rattle.document_forms.proofs.RuleLemmas.{first_false, first_known, length_numbers}
 
 -- ---- two names have two numbers

@@ -1,7 +1,6 @@
 -- Worked documents and their first refusals, each computed.
 use Rattle.std.proofs.Common.{◌≡◌, ℕ, List, [], ◌∷◌, ◌++◌, refl, Option, Some, None}
 use Rattle.std.specs.Prelude.{codes, flat_map}
-use Rattle.wpds_port.specs.declared.Kind.{Kind}
 use Rattle.wpds_port.specs.declared.Kind.TheVariants.{NotText, Header, Form, Twice, Unknown, WeightText, Return, Count, NothingAsked}
 use Rattle.wpds_port.specs.declared.Refusal.{Refusal}
 use Rattle.wpds_port.specs.Refusals.{refusal}

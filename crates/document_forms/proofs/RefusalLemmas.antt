@@ -1,6 +1,6 @@
 -- The first refusal, found line by line, is what it is said to be.
 use Rattle.std.proofs.Common.{◌≡◌, ◌↔◌, ◌⊎◌, inl, inr, ℕ, Bool, true, false, List, [], ◌∷◌, ◌++◌, Option, Some, None, refl, sym, ap, ◌∙◌, subst, append_assoc, append-nil}
-use Rattle.std.specs.Prelude.{IsTrue, IsFalse, length, option_map, ◌+◌, Result, Ok, Err}
+use Rattle.std.specs.Prelude.{IsTrue, length, option_map, ◌+◌, Result, Ok, Err}
 use Rattle.document_forms.specs.Lines.{lines}
 use Rattle.wpds_port.specs.declared.Kind.{Kind}
 use Rattle.wpds_port.specs.declared.Kind.TheVariants.{TooLong}

@@ -1,17 +1,17 @@
 -- An accepted rule keeps to what every rule of a document keeps to.
-use Rattle.std.proofs.Common.{◌≡◌, ◌≢◌, ◌⊎◌, inl, inr, ℕ, zero, suc, ◌+◌, ◌^◌, ◌<◌, ◌≤◌, Bool, true, false, not, cond, ◌&&◌, ◌||◌, ◌==◌, List, [], ◌∷◌, ◌++◌, map, length, Option, Some, None, refl, sym, ap, ◌∙◌, subst, arith, lt_of_lt_of_le, pow_pos, ℤ, pos, neg_ℤ}
-use Rattle.std.specs.Prelude.{All, bytes_eq, codes, flat_map, nat_lt, nat_le, unwrap_or, option_map, is_some, is_none, fold, bit_or, zip, IsTrue, IfSome, if◌then◌else◌}
+use Rattle.std.proofs.Common.{◌≡◌, ◌≢◌, ◌⊎◌, inl, inr, ℕ, zero, suc, ◌^◌, ◌<◌, ◌≤◌, Bool, true, false, not, cond, ◌&&◌, ◌||◌, ◌==◌, List, [], ◌∷◌, ◌++◌, map, length, Option, Some, None, refl, sym, ap, ◌∙◌, subst, arith, pow_pos, ℤ, pos, neg_ℤ}
+use Rattle.std.specs.Prelude.{All, codes, flat_map, nat_lt, nat_le, unwrap_or, option_map, is_some, is_none, fold, bit_or, zip, IsTrue, IfSome, if◌then◌else◌}
 use Rattle.std.specs.List.{list_any}
-use Rattle.std.proofs.lemmas.Bool.{or_parts, or_from, and_parts, ltb-true, lt-ltb, ltb-false, leb-true, leb-false, eqb-true}
+use Rattle.std.proofs.lemmas.Bool.{or_parts, or_from, ltb-false, leb-false, eqb-true}
 use Rattle.std.proofs.lemmas.List.{map-append}
 use Rattle.std.proofs.lemmas.Nat.{or_lt}
 use Rattle.std.proofs.Math.Pow.{pow-lt}
-use Rattle.std.proofs.lemmas.List.Elements.{All-nil, All-cons, All-head, All-tail, All-append, All-weaker}
+use Rattle.std.proofs.lemmas.List.Elements.{All-nil, All-cons, All-head, All-tail, All-append}
 use Rattle.wpds_base.specs.Faults.{first_fault}
 use Rattle.wpds_base.specs.Limits.{most_pushed, most_rules, most_depth}
 use Rattle.wpds_base.specs.Lists.{IsOnce}
 use Rattle.wpds_port.specs.declared.Word.{Word}
-use Rattle.wpds_port.specs.declared.Word.TheVariants.{Name, Number, Mark as Sign}
+use Rattle.wpds_port.specs.declared.Word.TheVariants.{Number}
 use Rattle.truth_tables.specs.Grammar.{Tree, number_of, has_large_table, depth}
 use Rattle.truth_tables.specs.Stacks.{tree_of}
 use Rattle.truth_tables.specs.Texts.{is_name}
@@ -21,17 +21,17 @@ use Rattle.document_forms.specs.declared.weight.WeightText.TheVariants.{One}
 use Rattle.document_forms.specs.Lines.{in_front}
 use Rattle.document_forms.specs.Names.{is_among, has_twice, has_unknown, number_in}
 use Rattle.document_forms.specs.Words.{parted, parted_outside, pairs, before, behind, name_of, each, each_of_some, is_comma, is_becomes, is_semicolon, ◌>>=◌}
-use Rattle.document_forms.specs.Returns.{MoveForm, MapForm, ReturnForm, PlainReturn, GivenMap}
-use Rattle.document_forms.specs.Weights.{SignForm, PartForm, OfVariable, OfNumber, PartsForm, VaryingParts, Undefined, Parts, PairForm, ValueForm, FreeValue, TreeValue, ActionForm, AssumeForm, ChooseForm, AssignForm, WeightForm, OneForm, NoneForm, NumberForm, SignsForm, PairsForm, ActionsForm, cost_of, sign_of, signs, genkill_of, pair_of, pairs_in, copy_of, value_of as value_form_of, target_of, assign_of, action_of, relation_of, own_weight, is_only, weight_of}
+use Rattle.document_forms.specs.Returns.{MoveForm, ReturnForm, PlainReturn, GivenMap}
+use Rattle.document_forms.specs.Weights.{SignForm, PartForm, OfVariable, OfNumber, PartsForm, VaryingParts, Undefined, Parts, PairForm, ValueForm, FreeValue, TreeValue, ActionForm, AssumeForm, ChooseForm, AssignForm, WeightForm, OneForm, NoneForm, NumberForm, SignsForm, PairsForm, ActionsForm, cost_of, sign_of, signs, genkill_of, pair_of, pairs_in, value_of as value_form_of, target_of, assign_of, action_of, relation_of, own_weight, is_only, weight_of}
 use Rattle.document_forms.specs.Forms.{RuleForm}
 use Rattle.wpds_port.specs.declared.Kind.{Kind}
 use Rattle.wpds_port.specs.declared.Kind.TheVariants.{Twice, Unknown, WeightText, Return, Count}
 use Rattle.document_forms.specs.Above.{Above}
-use Rattle.document_forms.specs.Kinds.{Conditions, part_names, parts_names, value_names, action_names, weight_names, value_trees, action_trees, is_wide_part, has_wide_part, is_uneven, is_unlawful, is_deep, rule_weight, allows_restore, allows_moves, restored, moved, has_map_twice, map_names, is_foreign_map, has_unknown_name, rule_conditions}
+use Rattle.document_forms.specs.Kinds.{Conditions, part_names, parts_names, value_names, action_names, weight_names, value_trees, action_trees, is_wide_part, has_wide_part, is_uneven, is_unlawful, is_deep, rule_weight, allows_restore, allows_moves, restored, moved, has_map_twice, map_names, is_foreign_map, rule_conditions}
 use Rattle.document_forms.specs.Documents.{bits_at, variables_in, constants_in, same_integer, one_constant, meet_of, parts_value, pair_value, sign_value, value_of, assignment_of, action_value, weight_value, map_value, move_value, rule_value}
-use Rattle.document_forms.specs.Lawful.{AreBelow, AreSome, IsConstant, IsFormText, IsValueText, IsAction, IsWeightText, IsPushMap, IsMapText, IsRuleLine}
+use Rattle.document_forms.specs.Lawful.{AreBelow, AreSome, IsConstant, IsFormText, IsValueText, IsAction, IsWeightText, IsMapText, IsRuleLine}
 use Rattle.document_forms.proofs.FormLemmas.{of_bind, of_map, of_each}
-use Rattle.document_forms.proofs.LawfulLemmas.{number_below, numbers_below, known_parts, is_known, expression_lawful, numbers_once, mapped_some, numbers_some}
+use Rattle.document_forms.proofs.LawfulLemmas.{number_below, numbers_below, known_parts, known_both, is_known, expression_lawful, numbers_once, mapped_some, numbers_some}
 
 -- ---- a weight is one of its own weights
 
@@ -338,12 +338,6 @@ module _ (names : List (List ℕ)) where
   moved_known false None f h = refl
   moved_known false (Some ms) f h = cc
 
-  known_both : (xs ys : List (List ℕ)) → has_unknown names xs ≡ false → has_unknown names ys ≡ false → has_unknown names (xs ++ ys) ≡ false
-  known_both [] ys h k = k
-  known_both (x ∷ xs) ys h k =
-      let p = or_parts (not (is_among names x)) (has_unknown names xs) h in
-      or_from (not (is_among names x)) (has_unknown names (xs ++ ys)) p.0 (known_both xs ys p.1 k)
-
   moves_are : (ms : List MoveForm) → map (λ v. v.to) (map (move_value names) ms) ≡ map (number_in names) (map (λ p. p.to) ms)
   moves_are [] = refl
   moves_are (m ∷ ms) = ap (λ ks. number_in names m.to ∷ ks) (moves_are ms)
@@ -351,7 +345,7 @@ module _ (names : List (List ℕ)) where
   map_once : (xs : List (List ℕ)) (ms : List MoveForm) → has_unknown names xs ≡ false → has_unknown names (map (λ p. p.to) ms) ≡ false → has_twice (xs ++ map (λ p. p.to) ms) ≡ false → IsOnce (map (number_in names) xs ++ map (λ v. v.to) (map (move_value names) ms))
   map_once xs ms h k t =
       subst IsOnce (map-append (number_in names) xs (map (λ p. p.to) ms) ∙ ap (λ ks. map (number_in names) xs ++ ks) (sym (moves_are ms)))
-      (numbers_once names (xs ++ map (λ p. p.to) ms) (known_both xs (map (λ p. p.to) ms) h k) t)
+      (numbers_once names (xs ++ map (λ p. p.to) ms) (known_both names xs (map (λ p. p.to) ms) h k) t)
 
   map_lawful : (u : WeightsLine) (right : List ℕ) (back : ReturnForm) → (PlainReturn ≢ back → length right ≡ 2) → is_foreign_map u back ≡ false → has_unknown names (map_names u back) ≡ false → has_map_twice back ≡ false → IsMapText u (length names) right (map_value names back)
   map_lawful u right PlainReturn p f h w = tt

@@ -1,6 +1,6 @@
 -- The forms of lines: their names are words, and what stands in a row has one at least.
-use Rattle.std.proofs.Common.{◌≡◌, ◌≢◌, ◌↔◌, ◌⊎◌, inl, inr, ℕ, ◌≤◌, Bool, true, false, not, cond, ◌&&◌, ◌||◌, List, [], ◌∷◌, ◌++◌, map, length, Option, Some, None, refl, sym, ap, ◌∙◌, subst}
-use Rattle.std.specs.Prelude.{All, IsTrue, bytes_eq, filter, flat_map, option_map, option_and_then, unwrap_or, is_some, nat_le}
+use Rattle.std.proofs.Common.{◌≡◌, ◌≢◌, ◌⊎◌, inl, inr, ℕ, Bool, true, false, not, cond, ◌&&◌, ◌||◌, List, [], ◌∷◌, ◌++◌, map, length, Option, Some, None, refl, sym, subst}
+use Rattle.std.specs.Prelude.{All, bytes_eq, filter, flat_map, option_map, option_and_then, unwrap_or, is_some, nat_le}
 use Rattle.std.specs.List.{list_all, list_any}
 use Rattle.std.proofs.lemmas.Bool.{and_parts, and_from, or_cases, or_parts, not-true, leb-true}
 use Rattle.std.proofs.lemmas.List.Elements.{All-nil, All-cons, All-head, All-tail, All-append}
@@ -11,20 +11,17 @@ use Rattle.wpds_port.specs.declared.Word.TheVariants.{Name}
 use Rattle.wpds_port.specs.declared.Token.{Token}
 use Rattle.wpds_port.specs.Tokens.{is_name_text, is_word, is_lawful_word, tokens, AreTokens}
 use Rattle.wpds_port.specs.Words.{words_of, text_words}
-use Rattle.document_forms.specs.declared.document.MapText.{MapText}
 use Rattle.document_forms.specs.declared.document.RuleLine.{RuleLine}
-use Rattle.document_forms.specs.declared.document.QueryLine.{QueryLine}
 use Rattle.document_forms.specs.Names.{is_reserved, once, number_in}
 use Rattle.document_forms.specs.Words.{is_return}
-use Rattle.document_forms.specs.Patterns.{SetForm, Dotted, Bare, Braced, ItemForm, PatternForm, is_set, are_items}
-use Rattle.document_forms.specs.Returns.{MoveForm, MapForm, ReturnForm, PlainReturn, GivenMap}
-use Rattle.document_forms.specs.Forms.{Class, RuleForm, LineForm, OfWeights, OfNames, OfRule, OfQuery, form_of, line_form}
+use Rattle.document_forms.specs.Patterns.{SetForm, Dotted, Bare, Braced, ItemForm, is_set, are_items}
+use Rattle.document_forms.specs.Returns.{MapForm, ReturnForm, PlainReturn, GivenMap}
+use Rattle.document_forms.specs.Forms.{Class, LineForm, OfWeights, OfNames, OfRule, OfQuery, form_of, line_form}
 use Rattle.document_forms.specs.FormWords.{class_word, form_words, is_some_list, has_none, right_words, is_restore, are_moves, is_return_form, is_back, is_form}
 use Rattle.document_forms.specs.Above.{names_on, same_class, declared, is_query, Above, above_of}
 use Rattle.document_forms.specs.Documents.{set_value, item_value, pattern_value, map_value, move_value, rules_on, queries_on, gathered}
-use Rattle.document_forms.specs.Lawful.{IsName, HasSymbol, HasSymbols, HasSets, HasMap}
+use Rattle.document_forms.specs.Lawful.{IsName, HasSymbol, HasSets, HasMap}
 use Rattle.document_forms.proofs.FormLemmas.{one_form}
-use Rattle.document_forms.proofs.LawfulLemmas.{mapped_some}
 use Rattle.document_forms.proofs.WrittenWordLemmas.{OneCutting}
 
 -- ---- the words of a line are words
@@ -152,10 +149,10 @@ sets_said pre fs h = gathered_all queries_on HasSets sets_here pre fs h
 
 -- return maps
 
-some_listed : {A B : Type 0} (f : A → B) (o : Option (List A)) → (t : Bool) → is_some o ≡ true → ((xs : List A) → o ≡ Some xs → is_some_list xs ≡ true) → map f (unwrap_or o []) ≢ []
-some_listed f None t s k e = cc
-some_listed f (Some []) t s k e = let no : false ≡ true = k [] refl in cc
-some_listed f (Some (x ∷ xs)) t s k e = cc
+some_listed : {A B : Type 0} (f : A → B) (o : Option (List A)) → is_some o ≡ true → ((xs : List A) → o ≡ Some xs → is_some_list xs ≡ true) → map f (unwrap_or o []) ≢ []
+some_listed f None s k e = cc
+some_listed f (Some []) s k e = let no : false ≡ true = k [] refl in cc
+some_listed f (Some (x ∷ xs)) s k e = cc
 
 given_has : (names : List (List ℕ)) (m : MapForm) → is_return_form (GivenMap m) ≡ true → HasMap (map_value names (GivenMap m))
 given_has names m h =
@@ -164,16 +161,13 @@ given_has names m h =
     go (or_cases (is_some m.restore) (is_some m.moves) k.0) l.0 l.1
   where
     go : (is_some m.restore ≡ true) ⊎ (is_some m.moves ≡ true) → is_restore m.restore ≡ true → are_moves m.moves ≡ true → HasMap (map_value names (GivenMap m))
-    go (inl s) r v = inl (some_listed (number_in names) m.restore true s (λ xs e. (and_parts (is_some_list xs) _ (subst (λ o. is_restore o ≡ true) e r)).0))
-    go (inr s) r v = inr (some_listed (move_value names) m.moves true s (λ ms e. subst (λ o. are_moves o ≡ true) e v))
+    go (inl s) r v = inl (some_listed (number_in names) m.restore s (λ xs e. (and_parts (is_some_list xs) _ (subst (λ o. is_restore o ≡ true) e r)).0))
+    go (inr s) r v = inr (some_listed (move_value names) m.moves s (λ ms e. subst (λ o. are_moves o ≡ true) e v))
 
 back_has : (names : List (List ℕ)) (o : Option ReturnForm) → is_back o ≡ true → HasMap (map_value names (unwrap_or o PlainReturn))
 back_has names None h = tt
 back_has names (Some PlainReturn) h = tt
 back_has names (Some (GivenMap m)) h = given_has names m h
-
-abbrev HasMapOf : RuleLine → Type 0
-HasMapOf r = HasMap r.map
 
 maps_here : (a : Above) (f : LineForm) → is_form f ≡ true → All HasMap (map (λ r. r.map) (rules_on a f))
 maps_here a (OfWeights w) h = All-nil HasMap

@@ -1,15 +1,15 @@
 -- Weights that are relations are read as they are written.
-use Rattle.std.proofs.Common.{◌≡◌, ◌≢◌, ℕ, zero, suc, ◌+◌, ◌<◌, ◌≤◌, Bool, true, false, not, cond, ◌&&◌, ◌||◌, ◌==◌, List, [], ◌∷◌, ◌++◌, map, length, Option, Some, None, refl, sym, ap, ap₂, ◌∙◌, subst, append_assoc, append-nil, arith}
-use Rattle.std.specs.Prelude.{All, bytes_eq, codes, flat_map, nat_lt, if◌then◌else◌, option_map, zip}
+use Rattle.std.proofs.Common.{◌≡◌, ◌≢◌, ℕ, ◌<◌, Bool, true, false, not, ◌||◌, ◌==◌, List, [], ◌∷◌, ◌++◌, map, length, Option, Some, None, refl, sym, ap, ap₂, ◌∙◌, subst, append_assoc}
+use Rattle.std.specs.Prelude.{All, codes, flat_map, nat_lt, if◌then◌else◌, option_map, zip}
 use Rattle.std.specs.List.{list_any}
 use Rattle.std.proofs.lemmas.Bool.{and_from, or_from, eq-eqb}
-use Rattle.std.proofs.lemmas.List.Elements.{All-nil, All-cons, All-head, All-tail}
+use Rattle.std.proofs.lemmas.List.Elements.{All-head, All-tail}
 use Rattle.std.proofs.lemmas.List.{length-map}
 use Rattle.wpds_base.specs.Limits.{most_depth}
 use Rattle.wpds_base.specs.Lists.{IsOnce}
 use Rattle.wpds_port.specs.declared.Mark.TheVariants.{Becomes, Colon, Semicolon, Comma, Star}
 use Rattle.wpds_port.specs.declared.Word.{Word}
-use Rattle.wpds_port.specs.declared.Word.TheVariants.{Name, Number, Mark as Sign}
+use Rattle.wpds_port.specs.declared.Word.TheVariants.{Name, Mark as Sign}
 use Rattle.truth_tables.specs.Formulas.{Formula, Constant as Const, Variable as Var, Opposite, Binary, Ternary}
 use Rattle.truth_tables.specs.Grammar.{Tree, tree_words, depth, has_large_table}
 use Rattle.truth_tables.specs.Stacks.{tree_of}
@@ -21,22 +21,23 @@ use Rattle.document_forms.specs.declared.weight.Assignment.{Assignment}
 use Rattle.document_forms.specs.declared.weight.Action.{Action}
 use Rattle.document_forms.specs.declared.weight.Action.TheVariants.{Assume, Choose, Assign}
 use Rattle.document_forms.specs.declared.weight.WeightText.TheVariants.{Actions}
-use Rattle.document_forms.specs.Names.{is_reserved, has_twice, has_unknown, number_in, name}
-use Rattle.document_forms.specs.Words.{is_comma, is_semicolon, is_becomes, is_return, before, behind, parted, parted_outside, name_of, each, each_of_some, ◌>>=◌}
-use Rattle.document_forms.specs.Weights.{ValueForm, FreeValue, TreeValue, ActionForm, AssumeForm, ChooseForm, AssignForm, WeightForm, OneForm, NoneForm, ActionsForm, value_of, target_of, assign_of, action_of, relation_of, own_weight, is_only, weight_of}
+use Rattle.document_forms.specs.Names.{is_reserved, has_twice, has_unknown, name}
+use Rattle.document_forms.specs.Words.{is_comma, is_semicolon, is_becomes, is_return, behind, parted, parted_outside, name_of, each, each_of_some, ◌>>=◌}
+use Rattle.document_forms.specs.Weights.{ValueForm, FreeValue, TreeValue, ActionForm, AssumeForm, ChooseForm, AssignForm, OneForm, NoneForm, ActionsForm, value_of, target_of, assign_of, action_of, relation_of, own_weight, is_only, weight_of}
 use Rattle.document_forms.specs.FormWords.{is_some_list, has_none}
-use Rattle.document_forms.specs.Kinds.{value_names, action_names, weight_names, value_trees, action_trees, is_uneven, is_unlawful, is_deep, rule_weight}
-use Rattle.document_forms.specs.Documents.{expression_value, assignment_of, action_value, value_of as value_said}
-use Rattle.document_forms.specs.Writing.{spaced, listed, in_turn, expression_text, value_text, action_text}
+use Rattle.document_forms.specs.Kinds.{value_names, action_names, value_trees, action_trees, is_uneven}
+use Rattle.document_forms.specs.Documents.{assignment_of, action_value, value_of as value_said}
+use Rattle.document_forms.specs.Writing.{listed, in_turn, expression_text, value_text, action_text}
 use Rattle.document_forms.specs.Lawful.{AreBelow, AreSome, IsName, IsExpressionText, IsValueText, IsAction}
 use Rattle.document_forms.proofs.CutLemmas.{before_joined, behind_joined, written_some_names}
 use Rattle.document_forms.proofs.FormLemmas.{none_append}
 use Rattle.document_forms.proofs.WrittenWordLemmas.{Says, says_word, says_apart, says_spaced, say_more, say_one}
-use Rattle.document_forms.proofs.WrittenNameLemmas.{number_named, numbers_named, known_both, names_known, none_named_twice, name_at, says_named, say_named}
-use Rattle.document_forms.proofs.WrittenMapLemmas.{no_word, no_words}
+use Rattle.document_forms.proofs.LawfulLemmas.{known_both, unmapped_some}
+use Rattle.document_forms.proofs.WrittenNameLemmas.{number_named, numbers_named, names_known, none_named_twice, name_at, says_named, say_named}
+use Rattle.document_forms.proofs.WrittenMapLemmas.{no_word}
 use Rattle.document_forms.proofs.WrittenRuleLemmas.{WeightIs}
-use Rattle.document_forms.proofs.WrittenListLemmas.{SayEach, between, says_listed, says_in_turn, NoneHas, parted_between, none_between, each_again}
-use Rattle.document_forms.proofs.WrittenExpressionLemmas.{OneTree, says_behind, KeptFrom, AreKept, parted_kept, kept_star, Passes, no_return, no_semicolon, tree_at, expression_fits, says_expression, tree_again, value_tree, tree_shallow, tree_small, tree_known, none_in_tree, kept_tree}
+use Rattle.document_forms.proofs.WrittenListLemmas.{SayEach, between, says_listed, says_in_turn, NoneHas, parted_between, none_between}
+use Rattle.document_forms.proofs.WrittenExpressionLemmas.{OneTree, says_behind, KeptFrom, AreKept, parted_kept, kept_word, Passes, no_return, no_semicolon, tree_at, expression_fits, says_expression, tree_again, value_tree, tree_shallow, tree_small, tree_known, none_in_tree, kept_tree}
 
 -- ---- the first word
 
@@ -133,7 +134,7 @@ module _ (names : List (List ℕ)) (named : All IsName names) (once : IsOnce nam
   value_passes test p s (Is f) h = none_in_tree names named once test p f (expression_fits names named once f h)
 
   value_kept : (v : ValueText) → KeptFrom 0 (value_words v)
-  value_kept Free = kept_star (Sign Star) refl (λ d. refl)
+  value_kept Free = kept_word (Sign Star) refl (λ d. refl)
   value_kept (Is f) = kept_tree names named once f
 
   value_known : (v : ValueText) → IsValue v → has_unknown names (value_names (value_form v)) ≡ false
@@ -212,10 +213,6 @@ module _ (names : List (List ℕ)) (named : All IsName names) (once : IsOnce nam
       ap (λ o. elim o as (λ _. Option (List ValueForm)) [ None ↦ None | Some z ↦ option_map (λ zs. z ∷ zs) (each value_of (values_words ps)) ]) (value_again p.value (All-head (λ q. IsValue q.value) p ps h))
       ∙ ap (option_map (λ zs. value_form p.value ∷ zs)) (values_again ps (All-tail (λ q. IsValue q.value) p ps h))
 
-  some_variables : (ps : List Assignment) → variables ps ≢ [] → ps ≢ []
-  some_variables [] h e = h refl
-  some_variables (p ∷ ps) h e = cc
-
   parted_targets : (ks : List ℕ) → ks ≢ [] → AreBelow (length names) ks → parted is_comma (between (Sign Comma) (target_words ks)) ≡ target_words ks
   parted_targets [] s b = absurd (s refl)
   parted_targets (k ∷ ks) s b = parted_between is_comma (Sign Comma) refl (Name (name names k) ∷ []) (target_words ks) (targets_none is_comma (λ x h. refl) (k ∷ ks) b)
@@ -236,7 +233,7 @@ module _ (names : List (List ℕ)) (named : All IsName names) (once : IsOnce nam
       ∙ ap (λ o. o >>= λ text. each value_of (parted_outside 0 is_comma text) >>= λ values. Some (AssignForm (map (name names) (variables ps)) values))
       (behind_joined is_becomes us (Sign Becomes) vs none refl)
       ∙ ap (λ o. o >>= λ values. Some (AssignForm (map (name names) (variables ps)) values))
-      (ap (each value_of) (parted_values ps (some_variables ps b.some)) ∙ values_again ps h)
+      (ap (each value_of) (parted_values ps (unmapped_some (λ p. p.variable) ps b.some)) ∙ values_again ps h)
 
   -- a target is no word of another action, and no weight by itself
   first_assign : (word : List ℕ) → is_reserved word ≡ true → (ps : List Assignment) → AreBelow (length names) (variables ps) → is_first word (assign_words ps) ≡ false

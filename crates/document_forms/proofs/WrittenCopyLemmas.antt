@@ -1,27 +1,23 @@
 -- Weights that copy variables are read as they are written.
-use Rattle.std.proofs.Common.{◌≡◌, ◌≢◌, ℕ, zero, suc, ◌+◌, ◌^◌, ◌/◌, ◌%◌, ◌<◌, ◌≤◌, Bool, true, false, not, cond, ◌&&◌, ◌||◌, ◌==◌, List, [], ◌∷◌, ◌++◌, map, length, Option, Some, None, refl, sym, ap, ap₂, ◌∙◌, subst, append_assoc, append-nil, arith, decimal, ℤ, pos, negsuc, neg_ℤ}
-use Rattle.std.specs.Prelude.{All, IfSome, bytes_eq, codes, flat_map, nat_le, nat_lt, if◌then◌else◌, option_map}
+use Rattle.std.proofs.Common.{◌≡◌, ◌≢◌, ℕ, suc, ◌^◌, ◌<◌, Bool, true, false, not, cond, ◌==◌, List, [], ◌∷◌, ◌++◌, map, length, Option, Some, None, refl, sym, ap, ap₂, ◌∙◌, subst, append_assoc, append-nil, arith, decimal, ℤ, pos, negsuc, neg_ℤ}
+use Rattle.std.specs.Prelude.{All, IfSome, bytes_eq, codes, flat_map, nat_le, nat_lt, option_map}
 use Rattle.std.specs.Fmt.{signed_decimal}
 use Rattle.std.specs.List.{list_all, list_any}
-use Rattle.std.proofs.lemmas.Bool.{and_parts, and_from, or_from, not-true, false_from_ne_true, ltb-true, eqb-true}
-use Rattle.std.proofs.lemmas.List.Elements.{All-nil, All-cons, All-head, All-tail, All-append}
-use Rattle.std.proofs.lemmas.Grind.{flat_map-append}
-use Rattle.std.proofs.lemmas.List.{map-append}
-use Rattle.std.proofs.lemmas.Slice.Eq.{bytes_eq-Decides}
+use Rattle.std.proofs.lemmas.Bool.{and_parts, and_from, or_from, not-true, false_from_ne_true, eqb-true}
+use Rattle.std.proofs.lemmas.List.Elements.{All-nil, All-cons, All-head, All-tail}
 use Rattle.wpds_base.specs.Lists.{IsOnce}
 use Rattle.wpds_port.specs.declared.Mark.TheVariants.{Colon, Minus, Equal, Question, Comma}
 use Rattle.wpds_port.specs.declared.Word.{Word}
 use Rattle.wpds_port.specs.declared.Word.TheVariants.{Name, Number, Mark as Sign}
-use Rattle.wpds_port.specs.Tokens.{begins_name, goes_on_name, is_name_text, is_digit, is_number_text, is_lawful_word, stops}
-use Rattle.truth_tables.specs.Grammar.{number_of}
+use Rattle.wpds_port.specs.Tokens.{is_digit, is_number_text, is_lawful_word, stops}
 use Rattle.document_forms.specs.declared.weight.WeightsLine.TheVariants.{Copy}
 use Rattle.document_forms.specs.declared.weight.FormText.{FormText}
 use Rattle.document_forms.specs.declared.weight.FormText.TheVariants.{Varying, Meet}
 use Rattle.document_forms.specs.declared.weight.VariableForm.{VariableForm}
 use Rattle.document_forms.specs.declared.weight.WeightText.TheVariants.{Forms}
 use Rattle.document_forms.specs.Lines.{in_front}
-use Rattle.document_forms.specs.Names.{is_among, is_reserved, has_twice, has_unknown, number_in, name}
-use Rattle.document_forms.specs.Words.{is_comma, is_equal, is_return, begins_pair, pairs, parted, each, each_of_some}
+use Rattle.document_forms.specs.Names.{has_twice, has_unknown, name}
+use Rattle.document_forms.specs.Words.{is_comma, is_equal, is_return, begins_pair, pairs, parted, each}
 use Rattle.document_forms.specs.Weights.{PartForm, OfVariable, OfNumber, PartsForm, VaryingParts, Undefined, Parts, PairForm, PairsForm, part_of, named_part, parts_of, pair_of, pairs_in, copy_of}
 use Rattle.document_forms.specs.FormWords.{has_none}
 use Rattle.document_forms.specs.Kinds.{part_names, parts_names, weight_names, is_wide_part, has_wide_part, rule_weight}
@@ -30,8 +26,9 @@ use Rattle.document_forms.specs.Writing.{listed, members, constant_texts, or_und
 use Rattle.document_forms.specs.Lawful.{AreBelow, AreSome, IsName, IsConstant, IsFormText}
 use Rattle.document_forms.proofs.FormLemmas.{none_append}
 use Rattle.document_forms.proofs.WrittenWordLemmas.{Says, says_word, says_glued, SayAll, say_more}
-use Rattle.document_forms.proofs.WrittenNameLemmas.{number_named, numbers_named, name_among, known_both, known_more, names_known, none_named_twice, name_at, says_named, says_number, number_written, decimal_text}
-use Rattle.document_forms.proofs.WrittenMapLemmas.{no_word, begins_other}
+use Rattle.document_forms.proofs.LawfulLemmas.{known_both, unmapped_some}
+use Rattle.document_forms.proofs.WrittenNameLemmas.{number_named, name_among, known_more, names_known, none_named_twice, name_at, says_named, says_number, number_written, decimal_text}
+use Rattle.document_forms.proofs.WrittenMapLemmas.{no_word, other_word, equal_stops}
 use Rattle.document_forms.proofs.WrittenQueryLemmas.{not_full, not_more}
 use Rattle.document_forms.proofs.WrittenRuleLemmas.{WeightIs}
 use Rattle.document_forms.proofs.WrittenListLemmas.{SayEach, between, says_listed, NoneHas, parted_between, none_between, each_again, fronted, fronted_first}
@@ -52,10 +49,6 @@ minus_digits (b ∷ x) rest h = digit_other b 62 refl (and_parts (is_digit b) (l
 equal_digits : (x rest : List ℕ) → is_number_text x ≡ true → stops (Sign Equal) (x ++ rest) ≡ true
 equal_digits [] rest h = cc
 equal_digits (b ∷ x) rest h = digit_other b 62 refl (and_parts (is_digit b) (list_all is_digit x) h).0
-
-equal_name : (x rest : List ℕ) → is_name_text x ≡ true → stops (Sign Equal) (x ++ rest) ≡ true
-equal_name [] rest h = cc
-equal_name (b ∷ x) rest h = begins_other b 62 refl (and_parts (begins_name b) (list_all goes_on_name x) h).0
 
 -- behind `=` a text that does not begin with `>`
 abbrev AfterEqual : List ℕ → Type 0
@@ -185,7 +178,7 @@ module _ (names : List (List ℕ)) (named : All IsName names) (once : IsOnce nam
   variables_after : (ks : List ℕ) → AreBelow (length names) ks → AfterEqual (or_undef names (map (name names) ks))
   variables_after [] b = λ rest. refl
   variables_after (k ∷ ks) b =
-      listed_after (name names k) (map (name names) ks) (λ rest. equal_name (name names k) rest (name_at names k named (All-head (λ n. n < length names) k ks b)).text)
+      listed_after (name names k) (map (name names) ks) (λ rest. equal_stops (name names k) rest (name_at names k named (All-head (λ n. n < length names) k ks b)).text)
 
   form_after : (f : FormText) → IsFormText (length names) f → AfterEqual (form_text names f)
   form_after Varying h = λ rest. refl
@@ -210,11 +203,7 @@ module _ (names : List (List ℕ)) (named : All IsName names) (once : IsOnce nam
 
   own_name : (x : List ℕ) → IsName x → named_part x ≡ Parts (OfVariable x ∷ [])
   own_name x h =
-      let other : bytes_eq x (codes "undef") ≡ false = false_from_ne_true (bytes_eq x (codes "undef")) (λ e. differ (sym (ap is_reserved ((bytes_eq-Decides x (codes "undef")).0 e)) ∙ h.free)) in
-      ap (λ t. cond t Undefined (Parts (OfVariable x ∷ []))) other
-    where
-      differ : true ≡ false → ⊥
-      differ e = cc
+      ap (λ t. cond t Undefined (Parts (OfVariable x ∷ []))) (other_word x (codes "undef") refl h)
 
   many_again : (p q : PartForm) (ps : List PartForm) → parts_of (between (Sign Comma) (map part_words (p ∷ q ∷ ps))) ≡ option_map Parts (each part_of (parted is_comma (between (Sign Comma) (map part_words (p ∷ q ∷ ps)))))
   many_again (OfVariable x) q ps = refl
@@ -446,17 +435,13 @@ module _ (names : List (List ℕ)) (named : All IsName names) (once : IsOnce nam
       (ap₂ (λ k f. record { variable = k; form = f }) (number_named names p.variable once (All-head (λ n. n < length names) p.variable (targets ps) b)) (value_form p.form (All-head (λ q. IsFormText (length names) q.form) p ps h)))
       (value_pairs ps (All-tail (λ n. n < length names) p.variable (targets ps) b) (All-tail (λ q. IsFormText (length names) q.form) p ps h))
 
-  some_unmapped : (ps : List VariableForm) → targets ps ≢ [] → ps ≢ []
-  some_unmapped [] h e = h refl
-  some_unmapped (p ∷ ps) h e = cc
-
   pub forms_are : (ps : List VariableForm) → AreSome (length names) (targets ps) → AreForms ps → WeightIs Copy names (Forms ps)
   forms_are ps h f = record {
     words = Some (flat_map pair_words ps);
     form = PairsForm (map pair_form ps);
     says = say_more (codes ":") (map (pair_text names) ps) (Sign Colon ∷ []) (flat_map pair_words ps) (says_word (Sign Colon) refl refl) (say_pairs ps h.below f);
     stays = pairs_stay ps h.below;
-    reads = more_than_one ps (some_unmapped ps h.some) ∙ copy_again ps (some_unmapped ps h.some);
+    reads = more_than_one ps (unmapped_some (λ p. p.variable) ps h.some) ∙ copy_again ps (unmapped_some (λ p. p.variable) ps h.some);
     known = pairs_known ps h.below;
     lawful =
         or_from (has_twice (map (λ p. p.variable) (map pair_form ps))) (list_any (λ p. has_wide_part p.parts) (map pair_form ps))

@@ -1,18 +1,16 @@
 -- A document is read as it is written, where its weights are.
-use Rattle.std.proofs.Common.{◌≡◌, ◌≢◌, ◌⊎◌, inl, inr, ℕ, zero, suc, ◌+◌, ◌^◌, ◌<◌, ◌≤◌, Bool, true, false, not, cond, ◌&&◌, ◌||◌, List, [], ◌∷◌, ◌++◌, map, length, Option, Some, None, refl, sym, ap, ap₂, ◌∙◌, subst, append_assoc, append-nil, arith, decimal}
-use Rattle.std.specs.Prelude.{All, IsTrue, codes, filter_map, flat_map, nat_le, nat_lt, if◌then◌else◌, drop}
-use Rattle.std.specs.List.{list_all, list_any, cons_option}
-use Rattle.std.proofs.lemmas.Bool.{and_from, or_from, or_left, or_right, le-leb, ltb-true, false_from_ne_true}
+use Rattle.std.proofs.Common.{◌≡◌, ◌≢◌, ◌⊎◌, inl, inr, ℕ, ◌+◌, ◌^◌, ◌<◌, ◌≤◌, Bool, true, false, not, ◌&&◌, ◌||◌, List, [], ◌∷◌, ◌++◌, map, length, Some, None, refl, sym, ap, ap₂, ◌∙◌, subst, append_assoc, append-nil, arith, decimal}
+use Rattle.std.specs.Prelude.{All, codes, nat_le, nat_lt, if◌then◌else◌}
+use Rattle.std.specs.List.{list_any}
+use Rattle.std.proofs.lemmas.Bool.{and_from, or_from, or_right, le-leb, ltb-true, false_from_ne_true}
 use Rattle.std.proofs.lemmas.List.Elements.{All-head, All-tail}
 use Rattle.wpds_base.specs.Faults.{first_fault}
 use Rattle.wpds_base.specs.Limits.{most_bytes, most_cost, most_rules, most_queries}
 use Rattle.wpds_base.specs.Lists.{IsOnce}
-use Rattle.wpds_port.specs.declared.Kind.{Kind}
 use Rattle.wpds_port.specs.declared.Kind.TheVariants.{Form, Twice, Count, NothingAsked}
 use Rattle.wpds_port.specs.declared.Word.{Word}
 use Rattle.wpds_port.specs.declared.Word.TheVariants.{Name, Number}
 use Rattle.wpds_port.specs.Tokens.{is_word, is_lawful_word}
-use Rattle.truth_tables.specs.Grammar.{number_of}
 use Rattle.document_forms.specs.declared.weight.WeightsLine.{WeightsLine}
 use Rattle.document_forms.specs.declared.weight.WeightsLine.TheVariants.{Reach, Cost, GenKill, Copy, Relation}
 use Rattle.document_forms.specs.declared.weight.WeightText.{WeightText}
@@ -20,12 +18,12 @@ use Rattle.document_forms.specs.declared.document.RuleLine.{RuleLine}
 use Rattle.document_forms.specs.declared.document.QueryLine.{QueryLine}
 use Rattle.document_forms.specs.Names.{is_reserved, is_among, has_twice, once}
 use Rattle.document_forms.specs.Forms.{WeightsForm, ReachWeights, CostWeights, GenKillWeights, CopyWeights, RelationWeights, Class, Controls, Symbols, Facts, Variables, LineForm, OfWeights, OfNames, OfRule, OfQuery, form_of}
-use Rattle.document_forms.specs.FormWords.{weights_words, class_word, form_words, is_some_list, is_form}
+use Rattle.document_forms.specs.FormWords.{class_word, form_words, is_some_list, is_form}
 use Rattle.document_forms.specs.Above.{weights_line, item_class, has_class, most_names, is_query, Above, above_of, class_names, with_line, declared}
-use Rattle.document_forms.specs.Kinds.{has_unlawful_cap, weights_conditions, names_conditions, conditions}
-use Rattle.document_forms.specs.FirstRefusal.{Counted, counted_lines, forms, all_symbols, by_form, kind_below, missing, is_short, AreAccepted}
+use Rattle.document_forms.specs.Kinds.{weights_conditions, names_conditions, conditions}
+use Rattle.document_forms.specs.FirstRefusal.{Counted, counted_lines, forms, all_symbols, by_form, missing, AreAccepted}
 use Rattle.document_forms.specs.Documents.{Document, rules_on, queries_on, gathered, body, document_of, reads_as}
-use Rattle.document_forms.specs.Writing.{spaced, weights_text, names_lines, item_word, rule_text, query_text, written_lines, written}
+use Rattle.document_forms.specs.Writing.{spaced, weights_text, names_lines, item_word, rule_text, query_text, written}
 use Rattle.document_forms.specs.Lawful.{IsName, IsWeightText, IsWeightsLine, HasSets, HasMap, AreNames, IsRuleOf, IsQueryOf, IsDocument}
 use Rattle.document_forms.proofs.NameLemmas.{twice_is_once, once_joined}
 use Rattle.document_forms.proofs.FormLemmas.{one_form}

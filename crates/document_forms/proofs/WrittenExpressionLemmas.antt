@@ -1,11 +1,10 @@
 -- Expressions are read as they are written.
-use Rattle.std.proofs.Common.{◌≡◌, ◌↔◌, ℕ, zero, suc, ◌+◌, ◌-◌, ◌^◌, ◌<◌, ◌≤◌, Bool, true, false, not, ◌&&◌, ◌||◌, ◌==◌, List, [], ◌∷◌, ◌++◌, map, length, Option, Some, None, refl, sym, ap, ap₂, ◌∙◌, subst, append_assoc, append-nil, arith, decimal}
+use Rattle.std.proofs.Common.{◌≡◌, ◌↔◌, ℕ, ◌+◌, ◌-◌, ◌<◌, ◌≤◌, Bool, true, false, not, ◌&&◌, ◌||◌, ◌==◌, List, [], ◌∷◌, ◌++◌, length, Some, refl, sym, ap, ap₂, ◌∙◌, subst, append_assoc, append-nil, arith, decimal}
 use Rattle.std.specs.Prelude.{All, max, bytes_eq, codes, nat_le, nat_lt}
 use Rattle.std.proofs.lemmas.Bool.{and_parts, and_from, or_from, and_right, false_from_ne_true, ltb-true, leb-true, eqb-true}
-use Rattle.std.proofs.lemmas.Slice.Eq.{bytes_eq-Decides}
 use Rattle.wpds_base.specs.Limits.{most_table2, most_table3, most_depth}
 use Rattle.wpds_base.specs.Lists.{IsOnce}
-use Rattle.wpds_port.specs.declared.Mark.TheVariants.{Becomes, Semicolon, Comma, Not, Open, Close}
+use Rattle.wpds_port.specs.declared.Mark.TheVariants.{Comma, Not, Open, Close}
 use Rattle.wpds_port.specs.declared.Word.{Word}
 use Rattle.wpds_port.specs.declared.Word.TheVariants.{Name, Number, Mark as Sign}
 use Rattle.truth_tables.specs.Formulas.{Formula, Constant as Const, Variable as Var, Opposite, Binary, Ternary, is_over}
@@ -13,16 +12,18 @@ use Rattle.truth_tables.specs.Grammar.{Tree, Constant, Variable, Inverse, Table2
 use Rattle.truth_tables.specs.Stacks.{tree_of}
 use Rattle.wpds_port.specs.Words.{brackets_after}
 use Rattle.document_forms.specs.Lines.{in_front}
-use Rattle.document_forms.specs.Names.{is_reserved, has_unknown, name}
-use Rattle.document_forms.specs.Words.{is_comma, is_semicolon, is_becomes, is_return, parted_outside}
+use Rattle.document_forms.specs.Names.{has_unknown, name}
+use Rattle.document_forms.specs.Words.{is_comma, is_semicolon, is_return, parted_outside}
 use Rattle.document_forms.specs.FormWords.{has_none}
 use Rattle.document_forms.specs.Documents.{expression_value}
 use Rattle.document_forms.specs.Writing.{expression_text}
 use Rattle.document_forms.specs.Lawful.{IsName, nesting, has_small_ternaries, IsExpressionText}
 use Rattle.document_forms.proofs.FormLemmas.{none_append}
+use Rattle.document_forms.proofs.GrowthLemmas.{three}
 use Rattle.document_forms.proofs.WrittenWordLemmas.{Says, says_word, says_apart, says_joined}
-use Rattle.document_forms.proofs.WrittenNameLemmas.{number_named, name_among, known_both, known_more, name_at, says_named, says_number, number_written}
-use Rattle.document_forms.proofs.WrittenMapLemmas.{no_word}
+use Rattle.document_forms.proofs.LawfulLemmas.{known_both}
+use Rattle.document_forms.proofs.WrittenNameLemmas.{number_named, name_among, known_more, name_at, says_named, says_number, number_written}
+use Rattle.document_forms.proofs.WrittenMapLemmas.{no_word, other_word}
 use Rattle.document_forms.proofs.WrittenQueryLemmas.{not_more}
 use Rattle.document_forms.proofs.WrittenListLemmas.{between, fronted, fronted_first, fronted_both}
 
@@ -55,7 +56,7 @@ says_close x ws s = says_apart x (codes ")") ws (Sign Close ∷ []) s (says_word
 abbrev pub KeptFrom : ℕ → List Word → Type 0
 KeptFrom k ws = (d : ℕ) → k ≤ d → (rest : List Word) → parted_outside d is_comma (ws ++ rest) ≡ fronted ws (parted_outside d is_comma rest)
 
-kept_word : (w : Word) → is_comma w ≡ false → ((d : ℕ) → brackets_after d w ≡ d) → KeptFrom 0 (w ∷ [])
+pub kept_word : (w : Word) → is_comma w ≡ false → ((d : ℕ) → brackets_after d w ≡ d) → KeptFrom 0 (w ∷ [])
 kept_word w c b d l rest =
     ap (λ t. elim t as (λ _. List (List Word)) [ true ↦ [] ∷ parted_outside d is_comma rest | false ↦ in_front w (parted_outside (brackets_after d w) is_comma rest) ]) (and_right (d == 0) (is_comma w) c)
     ∙ ap (λ e. in_front w (parted_outside e is_comma rest)) (b d)
@@ -106,9 +107,6 @@ parted_kept ws (vs ∷ wss) k =
     ∙ fronted_first ws [] (parted_outside 0 is_comma (between (Sign Comma) (vs ∷ wss)))
     ∙ ap₂ (λ v ps. v ∷ ps) (append-nil ws) (parted_kept vs wss k.1)
 
-pub kept_star : (w : Word) → is_comma w ≡ false → ((d : ℕ) → brackets_after d w ≡ d) → KeptFrom 0 (w ∷ [])
-kept_star = kept_word
-
 -- A word that is none of those at which a test holds stands in no expression.
 pub record Passes (test : Word → Bool) : Type 0 where
   pub name : (x : List ℕ) → IsName x → test (Name x) ≡ false
@@ -143,16 +141,6 @@ no_semicolon = record {
   close = refl;
   comma = refl;
 }
-
-pub other_word : (x word : List ℕ) → is_reserved word ≡ true → IsName x → bytes_eq x word ≡ false
-other_word x word r h = false_from_ne_true (bytes_eq x word) (λ e. differ (sym (ap is_reserved ((bytes_eq-Decides x word).0 e) ∙ r) ∙ h.free))
-  where
-    differ : true ≡ false → ⊥
-    differ e = cc
-
-three : (x y z : Bool) → (x && y && z) ≡ true → (x ≡ true) × (y ≡ true) × (z ≡ true)
-three true true true h = (refl, refl, refl)
-three _ _ _ h = cc
 
 module _ (names : List (List ℕ)) (named : All IsName names) (once : IsOnce names) where
   -- the tree as which a formula is written

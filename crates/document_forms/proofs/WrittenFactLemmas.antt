@@ -1,5 +1,5 @@
 -- Weights over facts are read as they are written.
-use Rattle.std.proofs.Common.{◌≡◌, ◌≢◌, ℕ, ◌<◌, Bool, true, false, not, ◌&&◌, ◌==◌, List, [], ◌∷◌, ◌++◌, map, length, Option, Some, None, refl, sym, ap, ap₂, ◌∙◌, subst}
+use Rattle.std.proofs.Common.{◌≡◌, ◌≢◌, ℕ, ◌<◌, Bool, true, false, not, List, [], ◌∷◌, ◌++◌, map, length, Some, refl, sym, ap, ap₂, ◌∙◌, subst}
 use Rattle.std.specs.Prelude.{All, bytes_eq, codes, flat_map, if◌then◌else◌, option_map}
 use Rattle.std.specs.List.{list_all}
 use Rattle.std.proofs.lemmas.Bool.{and_parts, and_from}
@@ -12,14 +12,15 @@ use Rattle.wpds_port.specs.Tokens.{begins_name, goes_on_name, is_name_text, stop
 use Rattle.document_forms.specs.declared.weight.WeightsLine.TheVariants.{GenKill}
 use Rattle.document_forms.specs.declared.weight.FactSign.{FactSign}
 use Rattle.document_forms.specs.declared.weight.WeightText.TheVariants.{Facts}
-use Rattle.document_forms.specs.Names.{has_twice, has_unknown, number_in, name}
+use Rattle.document_forms.specs.Names.{has_twice, has_unknown, name}
 use Rattle.document_forms.specs.Words.{is_return, ◌>>=◌}
-use Rattle.document_forms.specs.Weights.{SignForm, SignsForm, sign_of, signs, genkill_of}
+use Rattle.document_forms.specs.Weights.{SignForm, SignsForm, sign_of, signs}
 use Rattle.document_forms.specs.FormWords.{has_none}
 use Rattle.document_forms.specs.Kinds.{rule_weight}
 use Rattle.document_forms.specs.Documents.{sign_value}
 use Rattle.document_forms.specs.Writing.{sign_text}
 use Rattle.document_forms.specs.Lawful.{AreBelow, AreSome, IsName}
+use Rattle.document_forms.proofs.LawfulLemmas.{unmapped_some}
 use Rattle.document_forms.proofs.WrittenWordLemmas.{Says, says_word, says_glued, SayAll, say_more}
 use Rattle.document_forms.proofs.WrittenNameLemmas.{number_named, names_known, none_named_twice, name_at, says_named}
 use Rattle.document_forms.proofs.WrittenMapLemmas.{no_word, begins_other}
@@ -87,17 +88,13 @@ module _ (names : List (List ℕ)) (named : All IsName names) (once : IsOnce nam
       ap₂ (λ k xs. record { fact = k; plus = s.plus } ∷ xs) (number_named names s.fact once (All-head (λ n. n < length names) s.fact (facts ss) b))
       (value_signs ss (All-tail (λ n. n < length names) s.fact (facts ss) b))
 
-  some_unmapped : (ss : List FactSign) → facts ss ≢ [] → ss ≢ []
-  some_unmapped [] h e = h refl
-  some_unmapped (s ∷ ss) h e = cc
-
   pub facts_are : (ss : List FactSign) → AreSome (length names) (facts ss) → WeightIs GenKill names (Facts ss)
   facts_are ss h = record {
     words = Some (flat_map sign_words ss);
     form = SignsForm (map sign_form ss);
     says = say_more (codes ":") (map (sign_text names) ss) (Sign Colon ∷ []) (flat_map sign_words ss) (says_word (Sign Colon) refl refl) (say_signs ss h.below);
     stays = signs_stay ss h.below;
-    reads = facts_read ss (some_unmapped ss h.some);
+    reads = facts_read ss (unmapped_some (λ s. s.fact) ss h.some);
     known = subst (λ xs. has_unknown names xs ≡ false) (sym (facts_named ss)) (names_known names (facts ss) h.below);
     lawful = subst (λ xs. has_twice xs ≡ false) (sym (facts_named ss)) (none_named_twice names (facts ss) once h.below h.once);
     shallow = refl;

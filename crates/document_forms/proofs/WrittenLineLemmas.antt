@@ -1,16 +1,16 @@
 -- Lines with words are cut out of the bytes that they make, and each counts.
-use Rattle.std.proofs.Common.{◌≡◌, ◌⊎◌, inl, inr, ℕ, ◌+◌, ◌≤◌, Bool, true, false, not, cond, ◌&&◌, ◌||◌, ◌==◌, List, [], ◌∷◌, ◌++◌, map, Option, Some, None, refl, sym, ap, ap₂, ◌∙◌, subst, append_assoc, arith}
-use Rattle.std.specs.Prelude.{IsTrue, filter, flat_map, option_and_then, if◌then◌else◌, nat_le}
+use Rattle.std.proofs.Common.{◌≡◌, ◌⊎◌, inl, inr, ℕ, ◌+◌, ◌≤◌, Bool, true, false, not, cond, ◌&&◌, ◌||◌, ◌==◌, List, [], ◌∷◌, ◌++◌, map, Some, refl, sym, ap, ap₂, ◌∙◌, subst, append_assoc, arith}
+use Rattle.std.specs.Prelude.{filter, flat_map, option_and_then, nat_le}
 use Rattle.std.specs.List.{list_all}
-use Rattle.std.proofs.lemmas.Bool.{and_parts, and_from, or_cases, or_left, or_right, eqb-true, leb-true, le-leb, false_from_ne_true}
+use Rattle.std.proofs.lemmas.Bool.{and_parts, and_from, or_cases, or_right, eqb-true, leb-true, le-leb, false_from_ne_true}
 use Rattle.wpds_port.specs.declared.Mark.TheVariants.{Arrow, Implies, Becomes, Differs, Colon, Semicolon, Comma, Dot, Star, Plus, Minus, Equal, Question, Not, And, Or, Xor, Open, Close, OpenBrace, CloseBrace}
 use Rattle.wpds_port.specs.declared.Word.{Word}
 use Rattle.wpds_port.specs.declared.Word.TheVariants.{Name, Number, Mark as Sign}
 use Rattle.wpds_port.specs.Tokens.{is_blank, word_text, is_word, is_digit, begins_name, goes_on_name}
-use Rattle.document_forms.specs.Lines.{pieces, has_no_feed, IsCut, without_return, lines, past_blanks, is_said, counts, is_allowed, is_text, Line, numbered}
-use Rattle.document_forms.specs.Forms.{form_of, line_words}
+use Rattle.document_forms.specs.Lines.{has_no_feed, IsCut, without_return, lines, past_blanks, is_said, counts, is_allowed, is_text, Line, numbered}
+use Rattle.document_forms.specs.Forms.{form_of}
 use Rattle.document_forms.specs.FormWords.{is_some_list}
-use Rattle.document_forms.specs.FirstRefusal.{Counted, counted, counted_with, counted_lines}
+use Rattle.document_forms.specs.FirstRefusal.{Counted, counted, counted_lines}
 use Rattle.document_forms.proofs.LineLemmas.{is_cut}
 use Rattle.document_forms.proofs.WrittenWordLemmas.{HasWords, OneCutting, words_said}
 

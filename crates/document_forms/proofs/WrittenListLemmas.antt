@@ -1,15 +1,14 @@
 -- Texts with a mark between are read as a list.
-use Rattle.std.proofs.Common.{◌≡◌, ◌≢◌, ℕ, Bool, true, false, not, cond, ◌&&◌, List, [], ◌∷◌, ◌++◌, map, Option, Some, None, refl, sym, ap, ap₂, ◌∙◌, subst, append_assoc, append-nil}
+use Rattle.std.proofs.Common.{◌≡◌, ℕ, Bool, true, false, not, cond, List, [], ◌∷◌, ◌++◌, map, Option, Some, None, refl, sym, ap, ◌∙◌, subst, append_assoc}
 use Rattle.std.specs.Prelude.{All, codes, option_map}
-use Rattle.std.specs.List.{list_all}
 use Rattle.std.proofs.lemmas.Bool.{and_parts, and_from, not-true}
 use Rattle.std.proofs.lemmas.List.Elements.{All-head, All-tail}
 use Rattle.wpds_port.specs.declared.Mark.TheVariants.{Semicolon, Comma}
 use Rattle.wpds_port.specs.declared.Word.{Word}
 use Rattle.wpds_port.specs.declared.Word.TheVariants.{Mark as Sign}
 use Rattle.document_forms.specs.Lines.{in_front}
-use Rattle.document_forms.specs.Words.{is_semicolon, parted, each}
-use Rattle.document_forms.specs.FormWords.{is_some_list, has_none}
+use Rattle.document_forms.specs.Words.{parted, each}
+use Rattle.document_forms.specs.FormWords.{has_none}
 use Rattle.document_forms.specs.Writing.{spaced, ended_but_last, listed, in_turn}
 use Rattle.document_forms.proofs.FormLemmas.{none_append}
 use Rattle.document_forms.proofs.WrittenWordLemmas.{Says, says_nothing, says_word, says_apart, says_joined}

@@ -1,5 +1,5 @@
 -- A return map is read as it is written.
-use Rattle.std.proofs.Common.{◌≡◌, ◌≢◌, ◌⊎◌, inl, inr, ℕ, ◌+◌, ◌<◌, ◌≤◌, Bool, true, false, not, cond, ◌&&◌, ◌||◌, ◌==◌, List, [], ◌∷◌, ◌++◌, map, length, Option, Some, None, refl, sym, ap, ap₂, ◌∙◌, subst, append_assoc, append-nil, arith}
+use Rattle.std.proofs.Common.{◌≡◌, ◌≢◌, ◌⊎◌, inl, inr, ℕ, ◌<◌, Bool, true, false, not, ◌&&◌, ◌||◌, ◌==◌, List, [], ◌∷◌, ◌++◌, map, length, Option, Some, None, refl, sym, ap, ap₂, ◌∙◌, subst, append_assoc}
 use Rattle.std.specs.Prelude.{All, IsTrue, bytes_eq, codes, flat_map, unwrap_or, is_some, if◌then◌else◌}
 use Rattle.std.specs.List.{list_all}
 use Rattle.std.proofs.lemmas.Bool.{and_parts, and_from, or_from, or_left, or_right, false_from_ne_true, eqb-true, le-leb}
@@ -7,8 +7,7 @@ use Rattle.std.proofs.lemmas.List.Elements.{All-head, All-tail, All-append}
 use Rattle.std.proofs.lemmas.Slice.Eq.{bytes_eq-Decides}
 use Rattle.wpds_base.specs.Limits.{longest_name}
 use Rattle.wpds_base.specs.Lists.{IsOnce}
-use Rattle.wpds_port.specs.declared.Mark.TheVariants.{Minus, Equal}
-use Rattle.wpds_port.specs.declared.Word.{Word}
+use Rattle.wpds_port.specs.declared.Mark.TheVariants.{Equal}
 use Rattle.wpds_port.specs.declared.Word.TheVariants.{Name, Mark as Sign}
 use Rattle.wpds_port.specs.Tokens.{begins_name, goes_on_name, is_name_text, is_lawful_word, stops}
 use Rattle.truth_tables.specs.Texts.{is_name}
@@ -16,21 +15,27 @@ use Rattle.document_forms.specs.declared.weight.WeightsLine.{WeightsLine}
 use Rattle.document_forms.specs.declared.document.Move.{Move}
 use Rattle.document_forms.specs.declared.document.MapText.{MapText}
 use Rattle.document_forms.specs.Names.{is_reserved, has_twice, has_unknown, number_in, name}
-use Rattle.document_forms.specs.Words.{is_move, is_return}
 use Rattle.document_forms.specs.Returns.{MoveForm, MapForm, ReturnForm, PlainReturn, GivenMap}
-use Rattle.document_forms.specs.FormWords.{move_words, moves_words, restore_words, return_words, back_words, is_some_list, has_none, is_restore, are_moves, is_return_form, is_back}
+use Rattle.document_forms.specs.FormWords.{move_words, moves_words, restore_words, return_words, back_words, has_none, is_restore, are_moves, is_back}
 use Rattle.document_forms.specs.Kinds.{allows_restore, allows_moves, restored, moved, has_map_twice, map_names, is_foreign_map}
 use Rattle.document_forms.specs.Documents.{move_value, map_value}
 use Rattle.document_forms.specs.Writing.{headed, move_text, map_texts}
-use Rattle.document_forms.specs.Lawful.{AreBelow, IsName, IsPushMap, IsMapText, HasMap}
+use Rattle.document_forms.specs.Lawful.{AreBelow, IsName, IsMapText, HasMap}
 use Rattle.document_forms.proofs.WrittenWordLemmas.{Says, says_word, says_glued, SayAll, say_more, say_both}
-use Rattle.document_forms.proofs.WrittenNameLemmas.{name_among, number_named, numbers_named, known_more, known_both, names_known, none_named_twice, name_at, says_named, say_named}
+use Rattle.document_forms.proofs.LawfulLemmas.{known_both}
+use Rattle.document_forms.proofs.WrittenNameLemmas.{name_among, number_named, numbers_named, known_more, names_known, none_named_twice, name_at, says_named, say_named}
 
 -- ---- words that are no name
 
 pub no_word : (word x : List ℕ) → is_reserved word ≡ true → IsName x → bytes_eq word x ≡ false
 no_word word x r h =
     false_from_ne_true (bytes_eq word x) (λ e. differ (sym (subst (λ y. is_reserved y ≡ true) ((bytes_eq-Decides word x).0 e) r) ∙ h.free))
+  where
+    differ : true ≡ false → ⊥
+    differ e = cc
+
+pub other_word : (x word : List ℕ) → is_reserved word ≡ true → IsName x → bytes_eq x word ≡ false
+other_word x word r h = false_from_ne_true (bytes_eq x word) (λ e. differ (sym (ap is_reserved ((bytes_eq-Decides x word).0 e) ∙ r) ∙ h.free))
   where
     differ : true ≡ false → ⊥
     differ e = cc
@@ -168,9 +173,9 @@ module _ (names : List (List ℕ)) (named : All IsName names) (once : IsOnce nam
   map_once u right None h = refl
   map_once u right (Some m) h =
       let same : restored (given_form names m) ++ map (λ p. p.to) (moved (given_form names m)) ≡ map (name names) (m.restore ++ tos m.moves) =
-          ap₂ (λ xs ps. xs ++ map (λ p. p.to) ps) (listed_again (map (name names) m.restore)) (listed_again (map (move_form names) m.moves))
-          ∙ ap (λ xs. map (name names) m.restore ++ xs) (tos_named m.moves)
-          ∙ named_both m.restore (tos m.moves) in
+      ap₂ (λ xs ps. xs ++ map (λ p. p.to) ps) (listed_again (map (name names) m.restore)) (listed_again (map (move_form names) m.moves))
+      ∙ ap (λ xs. map (name names) m.restore ++ xs) (tos_named m.moves)
+      ∙ named_both m.restore (tos m.moves) in
       subst (λ xs. has_twice xs ≡ false) (sym same) (none_named_twice names (m.restore ++ tos m.moves) once (below_both m.restore (tos m.moves) h.restore h.to) h.once)
 
   moves_known : (ms : List Move) → AreBelow (length names) (tos ms) → AreBelow (length names) (froms ms) → has_unknown names (flat_map (λ p. p.to ∷ p.from ∷ []) (map (move_form names) ms)) ≡ false

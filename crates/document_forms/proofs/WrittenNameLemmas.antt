@@ -1,7 +1,7 @@
 -- Names and numbers are read as they are written.
-use Rattle.std.proofs.Common.{◌≡◌, ◌↔◌, ◌⊎◌, inl, inr, ℕ, zero, suc, ◌+◌, ◌-◌, ◌*◌, ◌/◌, ◌%◌, ◌^◌, ◌<◌, ◌≤◌, Bool, true, false, not, cond, ◌&&◌, ◌||◌, ◌==◌, List, [], ◌∷◌, ◌++◌, map, length, get_or, refl, sym, ap, ap₂, ◌∙◌, subst, arith, decimal, length-append}
-use Rattle.std.specs.Prelude.{All, IsTrue, bytes_eq, nat_le}
-use Rattle.std.specs.List.{list_all, list_any}
+use Rattle.std.proofs.Common.{◌≡◌, ◌⊎◌, inl, inr, ℕ, zero, suc, ◌+◌, ◌-◌, ◌*◌, ◌/◌, ◌%◌, ◌^◌, ◌<◌, ◌≤◌, true, false, not, cond, ◌==◌, List, [], ◌∷◌, ◌++◌, map, length, get_or, refl, sym, ap, ap₂, ◌∙◌, subst, arith, decimal}
+use Rattle.std.specs.Prelude.{All, bytes_eq, nat_le}
+use Rattle.std.specs.List.{list_all}
 use Rattle.std.proofs.lemmas.Bool.{and_parts, and_from, or_from, or_left, or_right, le-leb, false_from_ne_true, eqb-true}
 use Rattle.std.proofs.lemmas.List.Elements.{All-head, All-tail, All-get_or}
 use Rattle.std.proofs.lemmas.Slice.Eq.{bytes_eq-Decides}
@@ -9,9 +9,8 @@ use Rattle.std.proofs.lemmas.Fmt.{decimal_by_steps}
 use Rattle.std.proofs.Math.ListN.{get_or-append}
 use Rattle.wpds_base.specs.Limits.{longest_name}
 use Rattle.wpds_base.specs.Lists.{IsIn, IsOnce}
-use Rattle.wpds_port.specs.declared.Word.{Word}
-use Rattle.wpds_port.specs.declared.Word.TheVariants.{Name, Number, Mark as Sign}
-use Rattle.wpds_port.specs.Tokens.{is_digit, is_name_text, is_number_text, has_leading_zero, word_text, is_word}
+use Rattle.wpds_port.specs.declared.Word.TheVariants.{Name, Number}
+use Rattle.wpds_port.specs.Tokens.{is_digit, is_number_text, has_leading_zero}
 use Rattle.truth_tables.specs.Grammar.{number_onto, number_of}
 use Rattle.document_forms.specs.Names.{is_among, has_twice, has_unknown, number_in, name}
 use Rattle.document_forms.specs.Lawful.{AreBelow, IsName}
@@ -48,14 +47,6 @@ numbers_named names (k ∷ ks) o b =
 
 pub known_more : (names : List (List ℕ)) (x : List ℕ) (xs : List (List ℕ)) → is_among names x ≡ true → has_unknown names xs ≡ false → has_unknown names (x ∷ xs) ≡ false
 known_more names x xs h k = or_from (not (is_among names x)) (has_unknown names xs) (ap not h) k
-
-pub known_both : (names xs ys : List (List ℕ)) → has_unknown names xs ≡ false → has_unknown names ys ≡ false → has_unknown names (xs ++ ys) ≡ false
-known_both names [] ys h k = k
-known_both names (x ∷ xs) ys h k = go (is_among names x) h (known_both names xs ys)
-  where
-    go : (t : Bool) → (not t || has_unknown names xs) ≡ false → (has_unknown names xs ≡ false → has_unknown names ys ≡ false → has_unknown names (xs ++ ys) ≡ false) → (not t || has_unknown names (xs ++ ys)) ≡ false
-    go true e more = more e k
-    go false e more = cc
 
 pub names_known : (names : List (List ℕ)) (ks : List ℕ) → AreBelow (length names) ks → has_unknown names (map (name names) ks) ≡ false
 names_known names [] b = refl

@@ -1,7 +1,7 @@
 -- A query is read as it is written.
-use Rattle.std.proofs.Common.{◌≡◌, ◌≢◌, ℕ, ◌+◌, ◌<◌, ◌≤◌, Bool, true, false, not, cond, ◌&&◌, ◌||◌, List, [], ◌∷◌, ◌++◌, map, length, Option, None, refl, sym, ap, ap₂, ◌∙◌, subst, append_assoc, append-nil, arith}
+use Rattle.std.proofs.Common.{◌≡◌, ℕ, ◌<◌, ◌≤◌, Bool, true, false, ◌||◌, List, [], ◌∷◌, ◌++◌, map, length, None, refl, sym, ap, ap₂, ◌∙◌, subst, append-nil, arith}
 use Rattle.std.specs.Prelude.{All, codes, flat_map, nat_le, nat_lt, if◌then◌else◌}
-use Rattle.std.specs.List.{list_any, list_all}
+use Rattle.std.specs.List.{list_any}
 use Rattle.std.proofs.lemmas.Bool.{and_from, or_from, false_from_ne_true, leb-true, ltb-true}
 use Rattle.std.proofs.lemmas.List.Elements.{All-head, All-tail}
 use Rattle.std.proofs.lemmas.List.{length-map}
@@ -10,7 +10,6 @@ use Rattle.wpds_base.specs.Limits.{most_queries, most_items, most_edges}
 use Rattle.wpds_base.specs.Lists.{IsOnce}
 use Rattle.wpds_port.specs.declared.Kind.TheVariants.{Twice, Unknown, Count}
 use Rattle.wpds_port.specs.declared.Mark.TheVariants.{Implies, Colon, Dot, Star, OpenBrace, CloseBrace}
-use Rattle.wpds_port.specs.declared.Word.{Word}
 use Rattle.wpds_port.specs.declared.Word.TheVariants.{Name, Mark as Sign}
 use Rattle.wpds_port.specs.Tokens.{stops}
 use Rattle.document_forms.specs.declared.pattern.SetText.{SetText}
@@ -18,7 +17,7 @@ use Rattle.document_forms.specs.declared.pattern.SetText.TheVariants.{All as All
 use Rattle.document_forms.specs.declared.pattern.ItemText.{ItemText}
 use Rattle.document_forms.specs.declared.pattern.PatternText.{PatternText}
 use Rattle.document_forms.specs.declared.document.QueryLine.{QueryLine}
-use Rattle.document_forms.specs.Names.{has_twice, has_unknown, number_in, name}
+use Rattle.document_forms.specs.Names.{has_twice, has_unknown, name}
 use Rattle.document_forms.specs.Patterns.{SetForm, Dotted, Bare, Braced, ItemForm, PatternForm, item, set_words, star_words, items_words, is_set, are_items}
 use Rattle.document_forms.specs.Forms.{LineForm, OfQuery}
 use Rattle.document_forms.specs.FormWords.{pattern_words, form_words, is_form}
@@ -26,9 +25,10 @@ use Rattle.document_forms.specs.Above.{Above}
 use Rattle.document_forms.specs.Kinds.{set_names, pattern_symbols, has_symbol_twice, set_size, item_size, edges, is_large, query_conditions}
 use Rattle.document_forms.specs.Documents.{Document, set_value, item_value, pattern_value, query_value}
 use Rattle.document_forms.specs.Writing.{spaced, set_text, item_text, pattern_text, query_text}
-use Rattle.document_forms.specs.Lawful.{AreBelow, IsName, IsSetText, set_count, item_count, IsPatternText, IsQueryOf, HasSymbol, HasSymbols, HasSets}
+use Rattle.document_forms.specs.Lawful.{AreBelow, IsName, IsSetText, set_count, item_count, IsPatternText, IsQueryOf, HasSymbol, HasSets}
 use Rattle.document_forms.proofs.WrittenWordLemmas.{Says, says_word, says_joined, says_glued, says_spaced, SayAll, say_more, say_one}
-use Rattle.document_forms.proofs.WrittenNameLemmas.{name_among, number_named, numbers_named, known_more, known_both, names_known, none_named_twice, says_named, say_named}
+use Rattle.document_forms.proofs.LawfulLemmas.{known_both}
+use Rattle.document_forms.proofs.WrittenNameLemmas.{name_among, number_named, numbers_named, known_more, names_known, none_named_twice, says_named, say_named}
 
 -- ---- the forms
 
@@ -230,15 +230,15 @@ module _ (d : Document) (controls_named : All IsName d.controls) (symbols_named 
         let r = form_at q.to in
         let all = length d.symbols in
         let twice : (has_symbol_twice p || has_symbol_twice r) ≡ false =
-            or_from (has_symbol_twice p) (has_symbol_twice r) (once_items 0 d.symbols symbols_once q.from.items h.from.items) (once_items 0 d.symbols symbols_once q.to.items h.to.items) in
+        or_from (has_symbol_twice p) (has_symbol_twice r) (once_items 0 d.symbols symbols_once q.from.items h.from.items) (once_items 0 d.symbols symbols_once q.to.items h.to.items) in
         let known_controls : has_unknown a.controls (p.control ∷ r.control ∷ []) ≡ false =
-            subst (λ c. has_unknown c (p.control ∷ r.control ∷ []) ≡ false) (sym controls)
-            (known_more d.controls p.control (r.control ∷ []) (name_among d.controls q.from.control h.from.control) (known_more d.controls r.control [] (name_among d.controls q.to.control h.to.control) refl)) in
+        subst (λ c. has_unknown c (p.control ∷ r.control ∷ []) ≡ false) (sym controls)
+        (known_more d.controls p.control (r.control ∷ []) (name_among d.controls q.from.control h.from.control) (known_more d.controls r.control [] (name_among d.controls q.to.control h.to.control) refl)) in
         let known_symbols : has_unknown a.symbols (pattern_symbols p ++ pattern_symbols r) ≡ false =
-            subst (λ c. has_unknown c (pattern_symbols p ++ pattern_symbols r) ≡ false) (sym symbols)
-            (known_both d.symbols (pattern_symbols p) (pattern_symbols r) (known_items 0 d.symbols symbols_once q.from.items h.from.items) (known_items 0 d.symbols symbols_once q.to.items h.to.items)) in
+        subst (λ c. has_unknown c (pattern_symbols p ++ pattern_symbols r) ≡ false) (sym symbols)
+        (known_both d.symbols (pattern_symbols p) (pattern_symbols r) (known_items 0 d.symbols symbols_once q.from.items h.from.items) (known_items 0 d.symbols symbols_once q.to.items h.to.items)) in
         let large : (is_large all p || is_large all r || nat_le most_queries a.queries) ≡ false =
-            none3 (is_large all p) (is_large all r) (nat_le most_queries a.queries) (small_pattern q.from h.from) (small_pattern q.to h.to) (not_full most_queries a.queries few) in
+        none3 (is_large all p) (is_large all r) (nat_le most_queries a.queries) (small_pattern q.from h.from) (small_pattern q.to h.to) (not_full most_queries a.queries few) in
         none (has_symbol_twice p || has_symbol_twice r) (has_unknown a.controls (p.control ∷ r.control ∷ []) || has_unknown a.symbols (pattern_symbols p ++ pattern_symbols r)) (is_large all p || is_large all r || nat_le most_queries a.queries)
         twice (or_from (has_unknown a.controls (p.control ∷ r.control ∷ [])) (has_unknown a.symbols (pattern_symbols p ++ pattern_symbols r)) known_controls known_symbols) large
       where

@@ -1,7 +1,7 @@
 -- A rule is read as it is written, where its weight is.
-use Rattle.std.proofs.Common.{◌≡◌, ◌≢◌, ℕ, ◌<◌, ◌≤◌, Bool, true, false, not, cond, ◌&&◌, ◌||◌, ◌==◌, List, [], ◌∷◌, ◌++◌, map, length, Option, Some, None, refl, sym, ap, ap₂, ◌∙◌, subst, arith}
+use Rattle.std.proofs.Common.{◌≡◌, ℕ, ◌<◌, ◌≤◌, Bool, true, false, not, ◌&&◌, ◌||◌, ◌==◌, List, [], ◌∷◌, ◌++◌, map, length, Option, Some, None, refl, sym, ap, ap₂, ◌∙◌, subst}
 use Rattle.std.specs.Prelude.{All, codes, nat_le, unwrap_or, option_map, is_some, is_none}
-use Rattle.std.proofs.lemmas.Bool.{and_parts, and_from, or_from, le-leb}
+use Rattle.std.proofs.lemmas.Bool.{and_from, or_from, le-leb}
 use Rattle.std.proofs.lemmas.List.{length-map}
 use Rattle.wpds_base.specs.Faults.{first_fault}
 use Rattle.wpds_base.specs.Limits.{most_pushed, most_rules}
@@ -16,15 +16,16 @@ use Rattle.document_forms.specs.declared.weight.WeightText.TheVariants.{One}
 use Rattle.document_forms.specs.declared.document.RuleLine.{RuleLine}
 use Rattle.document_forms.specs.Names.{has_unknown, number_in, name}
 use Rattle.document_forms.specs.Words.{is_return}
-use Rattle.document_forms.specs.Returns.{ReturnForm, PlainReturn}
+use Rattle.document_forms.specs.Returns.{PlainReturn}
 use Rattle.document_forms.specs.Weights.{WeightForm}
-use Rattle.document_forms.specs.Forms.{RuleForm, LineForm, OfRule}
+use Rattle.document_forms.specs.Forms.{RuleForm, OfRule}
 use Rattle.document_forms.specs.FormWords.{weight_words, back_words, right_words, rule_words, form_words, has_none, is_back, is_rule_form}
 use Rattle.document_forms.specs.Above.{Above}
 use Rattle.document_forms.specs.Kinds.{weight_names, is_unlawful, is_deep, rule_weight, has_map_twice, map_names, is_foreign_map, has_unknown_name, rule_conditions}
 use Rattle.document_forms.specs.Documents.{Document, weight_value, map_value, rule_value}
 use Rattle.document_forms.specs.Writing.{weight_texts, map_texts, rule_text}
 use Rattle.document_forms.specs.Lawful.{IsName, IsRuleOf, HasMap}
+use Rattle.document_forms.proofs.FormLemmas.{none_append}
 use Rattle.document_forms.proofs.WrittenWordLemmas.{Says, says_word, says_spaced, SayAll, say_more, say_both}
 use Rattle.document_forms.proofs.WrittenNameLemmas.{name_among, number_named, numbers_named, known_more, names_known, says_named, say_named}
 use Rattle.document_forms.proofs.WrittenMapLemmas.{no_words, map_form, say_map, map_is_back, map_once, map_known, map_allowed, value_map}
@@ -63,12 +64,6 @@ rule_form d r w = record {
   back = map_form d.items r.map;
 }
 
-none_both : (us vs : List Word) → has_none is_return us ≡ true → has_none is_return vs ≡ true → has_none is_return (us ++ vs) ≡ true
-none_both [] vs h k = k
-none_both (u ∷ us) vs h k =
-    let p = and_parts (not (is_return u)) (has_none is_return us) h in
-    and_from (not (is_return u)) (has_none is_return (us ++ vs)) p.0 (none_both us vs p.1 k)
-
 module _
     (d : Document) (controls_named : All IsName d.controls) (symbols_named : All IsName d.symbols) (items_named : All IsName d.items)
     (controls_once : IsOnce d.controls) (symbols_once : IsOnce d.symbols) (items_once : IsOnce d.items)
@@ -101,7 +96,7 @@ module _
       and_from (nat_le (length form.right) most_pushed) (has_none is_return (right_words form) && is_back form.back)
       (le-leb (length form.right) most_pushed (subst (λ n. n ≤ most_pushed) (sym (length-map r.right (name d.symbols))) h.short))
       (and_from (has_none is_return (right_words form)) (is_back form.back)
-      (none_both (map Name form.right) (weight_words w.words) (no_words (codes "return") d.symbols r.right refl symbols_named h.right) w.stays)
+      (none_append is_return (map Name form.right) (weight_words w.words) (no_words (codes "return") d.symbols r.right refl symbols_named h.right) w.stays)
       (map_is_back d.items items_named items_once d.weights r.right r.map h.map m))
 
   pub rule_accepted : (m n : ℕ) → m < most_rules → first_fault (rule_conditions (above_at d m n) form) ≡ None

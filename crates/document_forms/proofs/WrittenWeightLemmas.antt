@@ -1,23 +1,19 @@
 -- Weights are read as they are written.
-use Rattle.std.proofs.Common.{◌≡◌, ◌≢◌, ℕ, zero, suc, ◌+◌, ◌^◌, ◌<◌, ◌≤◌, Bool, true, false, not, cond, ◌&&◌, ◌||◌, ◌==◌, List, [], ◌∷◌, ◌++◌, map, length, Option, Some, None, refl, sym, ap, ap₂, ◌∙◌, subst, append_assoc, append-nil, arith, decimal}
-use Rattle.std.specs.Prelude.{All, IsTrue, bytes_eq, codes, flat_map, nat_le, nat_lt, if◌then◌else◌, option_map}
-use Rattle.std.specs.List.{list_all, list_any}
-use Rattle.std.proofs.lemmas.Bool.{and_parts, and_from, or_from}
-use Rattle.std.proofs.lemmas.List.Elements.{All-head, All-tail}
+use Rattle.std.proofs.Common.{ℕ, ◌^◌, ◌<◌, ◌≤◌, List, [], ◌∷◌, length, Some, None, refl, ap, ◌∙◌, decimal}
+use Rattle.std.specs.Prelude.{All, codes, nat_le}
 use Rattle.wpds_base.specs.Limits.{most_bytes}
 use Rattle.wpds_base.specs.Lists.{IsOnce}
-use Rattle.wpds_port.specs.declared.Mark.TheVariants.{Colon, Plus, Minus}
-use Rattle.wpds_port.specs.declared.Word.{Word}
+use Rattle.wpds_port.specs.declared.Mark.TheVariants.{Colon}
 use Rattle.wpds_port.specs.declared.Word.TheVariants.{Name, Number, Mark as Sign}
 use Rattle.document_forms.specs.declared.weight.WeightsLine.{WeightsLine}
-use Rattle.document_forms.specs.declared.weight.WeightsLine.TheVariants.{Reach, Cost, GenKill, Copy, Relation}
+use Rattle.document_forms.specs.declared.weight.WeightsLine.TheVariants.{Cost, GenKill, Copy, Relation}
 use Rattle.document_forms.specs.declared.weight.WeightText.{WeightText}
 use Rattle.document_forms.specs.declared.weight.WeightText.TheVariants.{One, Zero, Number as Cost_, Facts, Forms, Actions}
-use Rattle.document_forms.specs.Weights.{WeightForm, OneForm, NoneForm, NumberForm}
+use Rattle.document_forms.specs.Weights.{OneForm, NoneForm, NumberForm}
 use Rattle.document_forms.specs.Documents.{Document, reads_as}
 use Rattle.document_forms.specs.Writing.{written}
 use Rattle.document_forms.specs.Lawful.{IsName, IsWeightText, IsDocument}
-use Rattle.document_forms.proofs.WrittenWordLemmas.{OneCutting, Says, says_word, SayAll, say_more, say_one}
+use Rattle.document_forms.proofs.WrittenWordLemmas.{OneCutting, says_word, say_more, say_one}
 use Rattle.document_forms.proofs.WrittenNameLemmas.{number_written, says_number}
 use Rattle.document_forms.proofs.WrittenQueryLemmas.{not_full}
 use Rattle.document_forms.proofs.WrittenRuleLemmas.{WeightIs}

@@ -1,5 +1,5 @@
 -- The words of a text that is put together of texts with words.
-use Rattle.std.proofs.Common.{◌≡◌, ◌↔◌, ◌⊎◌, inl, inr, ℕ, ◌+◌, Bool, true, false, not, ◌&&◌, ◌||◌, ◌==◌, List, [], ◌∷◌, ◌++◌, length, map, Option, Some, None, refl, sym, ap, ap₂, ◌∙◌, subst, append_assoc, append-nil, arith}
+use Rattle.std.proofs.Common.{◌≡◌, ◌↔◌, ◌⊎◌, inl, inr, ℕ, ◌+◌, Bool, true, not, ◌||◌, ◌==◌, List, [], ◌∷◌, ◌++◌, length, Some, refl, sym, ap, ◌∙◌, subst, append_assoc, append-nil}
 use Rattle.std.specs.Prelude.{IsTrue, option_map}
 use Rattle.std.specs.List.{list_all}
 use Rattle.std.proofs.lemmas.Bool.{and_parts, and_from, or_cases, eqb-true}
@@ -165,9 +165,9 @@ blank_before text (w ∷ ws) h =
 says_before : (t u : List ℕ) (ws vs : List Word) → Says t ws → ((rest : List ℕ) → is_end (u ++ rest) ≡ true) → Says u vs → Says (t ++ u) (ws ++ vs)
 says_before t u ws vs s e k = record {
   here = λ rest xs f h.
-    subst (λ x. HasWords x ((ws ++ vs) ++ xs)) (sym (append_assoc t u rest))
-    (subst (λ ys. HasWords (t ++ (u ++ rest)) ys) (sym (append_assoc ws vs xs))
-    (s.here (u ++ rest) (vs ++ xs) (e rest) (k.here rest xs f h)));
+      subst (λ x. HasWords x ((ws ++ vs) ++ xs)) (sym (append_assoc t u rest))
+      (subst (λ ys. HasWords (t ++ (u ++ rest)) ys) (sym (append_assoc ws vs xs))
+      (s.here (u ++ rest) (vs ++ xs) (e rest) (k.here rest xs f h)));
   lawful = lawful_joined ws vs s.lawful k.lawful;
 }
 
@@ -213,7 +213,7 @@ say_one t ws s = (ws, [], s, refl, sym (append-nil ws))
 pub says_glued : (w : Word) (u : List ℕ) (vs : List Word) → is_word w ≡ true → is_lawful_word w ≡ true → ((rest : List ℕ) → stops w (u ++ rest) ≡ true) → Says u vs → Says (word_text w ++ u) (w ∷ vs)
 says_glued w u vs h l e s = record {
   here = λ rest xs f k.
-    subst (λ x. HasWords x (w ∷ (vs ++ xs))) (sym (append_assoc (word_text w) u rest))
-    (word_before w (u ++ rest) (vs ++ xs) h (e rest) (s.here rest xs f k));
+      subst (λ x. HasWords x (w ∷ (vs ++ xs))) (sym (append_assoc (word_text w) u rest))
+      (word_before w (u ++ rest) (vs ++ xs) h (e rest) (s.here rest xs f k));
   lawful = and_from (is_lawful_word w) (list_all is_lawful_word vs) l s.lawful;
 }

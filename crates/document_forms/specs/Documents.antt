@@ -1,5 +1,5 @@
 -- Documents: what accepted bytes are.
-use Rattle.std.specs.Prelude.{◌≡◌, IsTrue, ℕ, ◌^◌, Bool, true, false, ◌&&◌, if◌then◌else◌, List, [], ◌∷◌, ◌++◌, zip, fold, flat_map, map, Option, Some, None, option_map, unwrap_or, Result, Ok, Err, ℤ, pos, neg_ℤ, int_le, bit_or}
+use Rattle.std.specs.Prelude.{◌≡◌, IsTrue, ℕ, ◌^◌, Bool, ◌&&◌, if◌then◌else◌, List, [], ◌∷◌, ◌++◌, zip, fold, flat_map, map, Option, Some, None, option_map, unwrap_or, Result, Ok, Err, ℤ, pos, neg_ℤ, int_le, bit_or}
 use Rattle.truth_tables.specs.Formulas.{Formula, Constant, Variable, Opposite, Binary, Ternary}
 use Rattle.truth_tables.specs.Grammar.{Tree, number_of, formula_of}
 use Rattle.document_forms.specs.declared.weight.FactSign.{FactSign}

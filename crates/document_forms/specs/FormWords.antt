@@ -9,7 +9,7 @@ use Rattle.wpds_port.specs.Tokens.{is_lawful_word}
 use Rattle.document_forms.specs.Names.{is_reserved}
 use Rattle.document_forms.specs.Words.{is_return, is_move}
 use Rattle.document_forms.specs.Patterns.{PatternForm, items_words, are_items}
-use Rattle.document_forms.specs.Returns.{MoveForm, MapForm, ReturnForm, PlainReturn, GivenMap}
+use Rattle.document_forms.specs.Returns.{MoveForm, ReturnForm, PlainReturn, GivenMap}
 use Rattle.document_forms.specs.Forms.{WeightsForm, ReachWeights, CostWeights, GenKillWeights, CopyWeights, RelationWeights, Class, Controls, Symbols, Facts, Variables, RuleForm, LineForm, OfWeights, OfNames, OfRule, OfQuery}
 
 -- ---- the words of a form

@@ -1,11 +1,11 @@
 -- The forms of lines, as syntax with names. A line's form depends on its words alone.
-use Rattle.std.specs.Prelude.{◌≡◌, ℕ, Bool, false, not, ◌&&◌, nat_le, if◌then◌else◌, List, [], ◌∷◌, length, Option, Some, None, option_map, option_and_then, bytes_eq, codes, map}
+use Rattle.std.specs.Prelude.{ℕ, Bool, false, not, ◌&&◌, nat_le, if◌then◌else◌, List, [], ◌∷◌, length, Option, Some, None, option_map, option_and_then, bytes_eq, codes}
 use Rattle.std.specs.List.{list_any, list_all}
 use Rattle.wpds_base.specs.Limits.{most_pushed}
 use Rattle.wpds_port.specs.declared.Mark.TheVariants.{Arrow}
 use Rattle.wpds_port.specs.declared.Word.{Word}
 use Rattle.wpds_port.specs.declared.Word.TheVariants.{Name, Number, Mark as Sign}
-use Rattle.wpds_port.specs.Tokens.{is_lawful_word, tokens}
+use Rattle.wpds_port.specs.Tokens.{is_lawful_word}
 use Rattle.wpds_port.specs.Words.{text_words}
 use Rattle.truth_tables.specs.Texts.{is_name}
 use Rattle.document_forms.specs.Names.{is_reserved}

@@ -11,7 +11,6 @@ use Rattle.document_forms.specs.declared.weight.FormText.{FormText}
 use Rattle.document_forms.specs.declared.weight.FormText.TheVariants.{Varying, Meet}
 use Rattle.document_forms.specs.declared.weight.ValueText.{ValueText}
 use Rattle.document_forms.specs.declared.weight.ValueText.TheVariants.{Free, Is}
-use Rattle.document_forms.specs.declared.weight.Assignment.{Assignment}
 use Rattle.document_forms.specs.declared.weight.Action.{Action}
 use Rattle.document_forms.specs.declared.weight.Action.TheVariants.{Assume, Choose, Assign}
 use Rattle.document_forms.specs.declared.weight.WeightText.{WeightText}
@@ -47,7 +46,7 @@ nesting (Opposite f) = nesting f + 1
 nesting (Binary t f g) = max (nesting f) (nesting g) + 1
 nesting (Ternary t f g h) = max (nesting f) (max (nesting g) (nesting h)) + 1
 
--- each table of three places is one
+-- each table of three places has a number that one may have
 abbrev pub has_small_ternaries : Formula ℕ → Bool
 has_small_ternaries (Constant b) = true
 has_small_ternaries (Variable k) = true
@@ -64,7 +63,7 @@ pub record IsExpressionText (items : ℕ) (f : Formula ℕ) : Type 0 where
 
 -- ---- weights over so many facts or variables
 
--- a whole number that 64 bits with a sign hold
+-- a whole number that 64 bits with a sign hold; `negsuc n` is -n - 1
 abbrev pub IsConstant : ℤ → Type 0
 IsConstant (pos n) = n < 2 ^ 63
 IsConstant (negsuc n) = n < 2 ^ 63

@@ -1,5 +1,5 @@
 -- Return maps as they are written, behind the word `return`.
-use Rattle.std.specs.Prelude.{ℕ, ◌&&◌, is_none, if◌then◌else◌, List, [], ◌∷◌, Option, Some, None, option_map, codes}
+use Rattle.std.specs.Prelude.{ℕ, if◌then◌else◌, List, [], ◌∷◌, Option, Some, None, option_map, codes}
 use Rattle.wpds_port.specs.declared.Mark.TheVariants.{Equal}
 use Rattle.wpds_port.specs.declared.Word.{Word}
 use Rattle.wpds_port.specs.declared.Word.TheVariants.{Name, Mark as Sign}

@@ -11,7 +11,6 @@ use Rattle.document_forms.specs.declared.weight.FormText.TheVariants.{Varying, M
 use Rattle.document_forms.specs.declared.weight.VariableForm.{VariableForm}
 use Rattle.document_forms.specs.declared.weight.ValueText.{ValueText}
 use Rattle.document_forms.specs.declared.weight.ValueText.TheVariants.{Free, Is}
-use Rattle.document_forms.specs.declared.weight.Assignment.{Assignment}
 use Rattle.document_forms.specs.declared.weight.Action.{Action}
 use Rattle.document_forms.specs.declared.weight.Action.TheVariants.{Assume, Choose, Assign}
 use Rattle.document_forms.specs.declared.weight.WeightText.{WeightText}
