@@ -16,9 +16,9 @@ use Rattle.document_forms.specs.Weights.{ValueForm, ActionForm, AssignForm, targ
 use Rattle.document_forms.specs.Kinds.{value_names, value_trees}
 use Rattle.document_forms.specs.Documents.{value_of, assignment_of}
 use Rattle.document_reader.specs.declared.weights.WeightFaults.{WeightFaults}
-use Rattle.document_reader.specs.WeightReads.{is_sound, either}
-use Rattle.document_reader.specs.TreeReads.{HasFaults, is_too_deep}
-use Rattle.document_reader.specs.ActionReads.{sides_of, assigned}
+use Rattle.document_reader.specs.private.WeightReads.{is_sound, either}
+use Rattle.document_reader.specs.private.TreeReads.{HasFaults, is_too_deep}
+use Rattle.document_reader.specs.private.ActionReads.{sides_of, assigned}
 use Rattle.document_reader.proofs.NamesOnceLemmas.{any_append}
 use Rattle.document_reader.proofs.EachLemmas.{read_more}
 use Rattle.document_reader.proofs.FormLemmas.{flat_map_push}

@@ -14,8 +14,8 @@ use Rattle.document_forms.specs.declared.document.RuleLine.{RuleLine}
 use Rattle.document_forms.proofs.CallerLemmas.{names_few, facts_limit, variables_limit}
 use Rattle.document_reader.specs.declared.reading.Reading.{Reading}
 use Rattle.document_reader.specs.declared.rules.RuleRead.{RuleRead}
-use Rattle.document_reader.specs.Readings.{above_now, TakesForm}
-use Rattle.document_reader.specs.RuleReads.{HasFewItems, IsReadRule}
+use Rattle.document_reader.specs.private.Readings.{above_now, TakesForm}
+use Rattle.document_reader.specs.private.RuleReads.{HasFewItems, IsReadRule}
 use Rattle.document_reader.specs.private.LineReads.{IsAnswered, AreAnswered}
 use Rattle.document_reader.specs.private.NameLines.{kind_of_names, Declares}
 

@@ -3,7 +3,7 @@ use Rattle.std.proofs.Common.{◌≡◌, List, [], ◌∷◌, ◌++◌, Option, 
 use Rattle.std.specs.Prelude.{option_map}
 use Rattle.wpds_port.specs.declared.Word.{Word}
 use Rattle.document_forms.specs.Weights.{SignForm, SignsForm, genkill_of, signs}
-use Rattle.document_reader.specs.FactReads.{some_signs}
+use Rattle.document_reader.specs.private.FactReads.{some_signs}
 
 pub all_signs : (ws : List Word) → genkill_of ws ≡ option_map (λ more. SignsForm ([] ++ more)) (some_signs ws)
 all_signs [] = refl

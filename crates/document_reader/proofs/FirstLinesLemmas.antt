@@ -13,8 +13,8 @@ use Rattle.document_forms.specs.Above.{above_of, is_query}
 use Rattle.document_forms.specs.FirstRefusal.{Counted, counted, forms, missing, first_refused}
 use Rattle.document_forms.specs.Documents.{rules_on, queries_on, gathered, body}
 use Rattle.document_reader.specs.declared.reading.Reading.{Reading}
-use Rattle.document_reader.specs.Readings.{header_kind_on, weights_kind_on, SaysWeights, above_now, only_weights, HasRead}
-use Rattle.document_reader.specs.Found.{found_first}
+use Rattle.document_reader.specs.private.Readings.{header_kind_on, weights_kind_on, SaysWeights, above_now, only_weights, HasRead}
+use Rattle.document_reader.specs.private.Found.{found_first}
 use Rattle.document_reader.proofs.ReadingLemmas.{found_none}
 
 -- ---- the first two lines

@@ -8,7 +8,7 @@ use Rattle.document_forms.specs.Names.{is_among, number_in, has_unknown}
 use Rattle.document_forms.specs.Weights.{PartForm, OfVariable, OfNumber, Parts}
 use Rattle.document_forms.specs.Kinds.{part_names, is_wide_part}
 use Rattle.document_forms.specs.Documents.{constants_in, variables_in, same_integer, one_constant, bits_at, meet_of, parts_value}
-use Rattle.document_reader.specs.FormReads.{constant_more}
+use Rattle.document_reader.specs.private.FormReads.{constant_more}
 use Rattle.document_reader.proofs.NamesOnceLemmas.{any_append, any_push}
 
 pub flat_map_push : {X A : Type 0} (f : X → List A) (xs : List X) (y : X) → flat_map f (xs ++ y ∷ []) ≡ flat_map f xs ++ f y

@@ -17,7 +17,7 @@ use Rattle.document_forms.specs.Patterns.{PatternForm, pattern_of}
 use Rattle.document_forms.specs.Forms.{WeightsForm, RuleForm, LineForm, OfWeights, OfQuery, form_of, form_behind, line_form, names_of, rule_of, query_of, weights_of, OfNames, OfRule, Controls, Symbols, Facts, Variables, Class}
 use Rattle.document_forms.specs.Kinds.{weights_conditions}
 use Rattle.document_forms.specs.Above.{names_on}
-use Rattle.document_reader.specs.Readings.{declared_on}
+use Rattle.document_reader.specs.private.Readings.{declared_on}
 use Rattle.document_reader.specs.private.NameLines.{names_in}
 use Rattle.document_reader.specs.private.LineForms.{form_in}
 

@@ -9,7 +9,7 @@ use Rattle.std.proofs.lemmas.List.{length_push}
 use Rattle.std.proofs.lemmas.Slice.Eq.{bytes_eq-Decides}
 use Rattle.document_forms.specs.Names.{is_among, number_in}
 use Rattle.wpds_base.specs.Lists.{IsIn, IsOnce}
-use Rattle.document_reader.specs.NameTables.{IsNumbered, at_name, number_among}
+use Rattle.document_reader.specs.private.NameTables.{IsNumbered, at_name, number_among}
 
 differ : false ≡ true → ⊥
 differ e = cc

@@ -7,7 +7,7 @@ use Rattle.wpds_port.specs.declared.Word.TheVariants.{Name, Number, Mark as Sign
 use Rattle.document_forms.specs.Lines.{in_front}
 use Rattle.document_forms.specs.Words.{is_comma, before, behind, begins_pair, pairs, parted, each}
 use Rattle.document_forms.specs.Weights.{PartForm, OfVariable, OfNumber, PartsForm, PairForm, PairsForm, part_of, parts_of, pair_of, pairs_in, copy_of}
-use Rattle.document_reader.specs.PairTexts.{begins_number, up_to_pair, from_pair, pair_texts, some_pairs, parts_in, parts_behind}
+use Rattle.document_reader.specs.private.PairTexts.{begins_number, up_to_pair, from_pair, pair_texts, some_pairs, parts_in, parts_behind}
 use Rattle.document_reader.proofs.EachLemmas.{each_some, each_none, read_more, others, parted_cut}
 
 -- ---- the parts up to the next pair, behind words that are one part

@@ -14,7 +14,7 @@ use Rattle.document_forms.specs.Kinds.{Conditions, conditions}
 use Rattle.document_forms.specs.FirstRefusal.{Counted, counted, forms, by_form, kind_below, first_refused}
 use Rattle.document_forms.specs.Documents.{rules_on, queries_on, gathered, body}
 use Rattle.document_reader.specs.declared.reading.Reading.{Reading}
-use Rattle.document_reader.specs.Readings.{kind_on, above_now, Takes, HasRead}
+use Rattle.document_reader.specs.private.Readings.{kind_on, above_now, Takes, HasRead}
 
 -- ---- lists of lines and forms, with one more
 

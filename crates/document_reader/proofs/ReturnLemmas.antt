@@ -22,7 +22,7 @@ use Rattle.document_forms.specs.Returns.{MoveForm, GivenMap, moves_of, moves_beh
 use Rattle.document_forms.specs.FormWords.{move_words, is_some_list}
 use Rattle.document_forms.proofs.CallerLemmas.{moves_written, written_moves, equal_only}
 use Rattle.document_reader.specs.declared.weights.once.NamesOnce.{NamesOnce}
-use Rattle.document_reader.specs.NamesOnce.{HasNames}
+use Rattle.document_reader.specs.private.NamesOnce.{HasNames}
 use Rattle.document_reader.specs.private.NameLines.{names_in}
 use Rattle.document_reader.specs.private.Returns.{is_any_name, moves_if_said, map_said, restored_in, moved_in, ends_of, ArePairs, AreNumbersRead, AreMovesRead, IsReadReturn, begins_move, are_pairs, moves_said}
 

@@ -18,7 +18,7 @@ use Rattle.document_reader.specs.declared.items.ItemRead.{ItemRead}
 use Rattle.document_reader.specs.private.ItemReading.{begins_with_name, begins_with_close, begins_with_star, AreSymbolsRead, HasSymbols, IsSetRead, HasSet, HasItem}
 use Rattle.document_reader.proofs.NumberedLemmas.{is_among-push}
 use Rattle.document_reader.proofs.ItemsLeftLemmas.{braces_left_open, item_in_front, item_is_longer}
-use Rattle.document_reader.specs.NameTables.{number_among}
+use Rattle.document_reader.specs.private.NameTables.{number_among}
 
 bytes_eq-sym : (x y : List ℕ) → bytes_eq x y ≡ bytes_eq y x
 bytes_eq-sym x y = same_from_decides (bytes_eq x y) (bytes_eq y x) (bytes_eq-Decides x y) (Decides-like (bytes_eq y x) sym sym (bytes_eq-Decides y x))

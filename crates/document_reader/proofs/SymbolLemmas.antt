@@ -9,7 +9,7 @@ use Rattle.document_forms.specs.Names.{once}
 use Rattle.document_forms.specs.Forms.{Class, LineForm}
 use Rattle.document_forms.specs.Above.{names_on}
 use Rattle.document_forms.specs.FirstRefusal.{counted, forms}
-use Rattle.document_reader.specs.Readings.{declared_on, names_in}
+use Rattle.document_reader.specs.private.Readings.{declared_on, names_in}
 
 -- ---- each name once, again
 

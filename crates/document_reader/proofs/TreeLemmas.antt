@@ -13,8 +13,8 @@ use Rattle.truth_tables.specs.Stacks.{tree_of}
 use Rattle.document_forms.specs.Weights.{TreeValue, value_of}
 use Rattle.document_forms.specs.Names.{is_among, has_unknown}
 use Rattle.document_reader.specs.declared.weights.WeightFaults.{WeightFaults}
-use Rattle.document_reader.specs.WeightReads.{is_sound}
-use Rattle.document_reader.specs.TreeReads.{AreKnown, is_too_deep, is_star, HasFaults}
+use Rattle.document_reader.specs.private.WeightReads.{is_sound}
+use Rattle.document_reader.specs.private.TreeReads.{AreKnown, is_too_deep, is_star, HasFaults}
 use Rattle.document_reader.proofs.NamesOnceLemmas.{any_append}
 
 both_known : (items xs ys : List (List ℕ)) → has_unknown items (xs ++ ys) ≡ false → (has_unknown items xs ≡ false) × (has_unknown items ys ≡ false)

@@ -1,15 +1,1 @@
-pub mod ActionReads
-pub mod FactReads
-pub mod FormReads
-pub mod Found
-pub mod LinesLeft
-pub mod NameTables
-pub mod NamesOnce
-pub mod PairTexts
-pub mod Pieces
-pub mod QueryReading
-pub mod Readings
-pub mod RuleReads
-pub mod TreeReads
-pub mod WeightReads
 pub mod private

@@ -7,8 +7,8 @@ ghost use Rattle.document_forms.specs.Above.{Above};
 ghost use Rattle.document_forms.specs.FirstRefusal.{by_form};
 ghost use Rattle.document_forms.specs.Forms.{Controls, Symbols, Facts, Variables, OfWeights, OfRule, weights_of, rule_of, query_of, form_behind};
 ghost use Rattle.document_forms.specs.Kinds.{conditions};
-ghost use Rattle.document_reader.specs.Readings.{kind_on, above_now, Takes};
-ghost use Rattle.document_reader.specs.RuleReads.{HasFewItems};
+ghost use Rattle.document_reader.specs.private.Readings.{kind_on, above_now, Takes};
+ghost use Rattle.document_reader.specs.private.RuleReads.{HasFewItems};
 ghost use Rattle.document_reader.specs.private.LineReads.{IsAnswered, AreAnswered};
 
 use crate::lexemes::{is_name, line_front};

@@ -4,7 +4,7 @@ ghost use Rattle.std.specs.Prelude.{◌≡◌, IfOk, option_and_then};
 ghost use Rattle.std.specs.Result.{result_err};
 ghost use Rattle.document_forms.specs.Forms.{line_words, is_first_version as is_first_version_of};
 ghost use Rattle.document_forms.specs.Languages.{language_named, language_of};
-ghost use Rattle.document_reader.specs.Readings.{header_kind_on, weights_kind_on, SaysWeights};
+ghost use Rattle.document_reader.specs.private.Readings.{header_kind_on, weights_kind_on, SaysWeights};
 
 use crate::lexemes::is_name;
 use crate::lines::{Lines, is_text};

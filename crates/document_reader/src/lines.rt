@@ -3,7 +3,7 @@
 ghost use Rattle.std.specs.Prelude.{◌≡◌, ◌<◌, [], ◌∷◌, length, position, MatchOption};
 ghost use Rattle.wpds_port.specs.Tokens.{is_blank};
 ghost use Rattle.document_forms.specs.Lines.{lines, counts as counts_as, is_text as is_text_as, is_allowed, without_return as return_off};
-ghost use Rattle.document_reader.specs.LinesLeft.{left, is_feed};
+ghost use Rattle.document_reader.specs.private.LinesLeft.{left, is_feed};
 
 use document_forms::one_cutting_into_lines;
 use std::marker::Model;
@@ -26,7 +26,7 @@ pub(crate) struct Lines<'t> {
 
 impl<'t> Model for Lines<'t> {
     ghost use Rattle.std.specs.Prelude.{◌≤◌, ◌+◌, ◌^◌, length};
-    ghost use Rattle.document_reader.specs.LinesLeft.{Left, left};
+    ghost use Rattle.document_reader.specs.private.LinesLeft.{Left, left};
 
     ghost Value = { Left };
 

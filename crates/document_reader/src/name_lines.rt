@@ -4,7 +4,7 @@ ghost use Rattle.std.specs.Prelude.{◌≡◌, ◌++◌, ◌∷◌, [], IfOk, If
 ghost use Rattle.wpds_port.specs.Words.{word_of};
 ghost use Rattle.document_forms.specs.Forms.{Symbols, names_of};
 ghost use Rattle.document_forms.specs.Names.{once, is_reserved as is_reserved_of};
-ghost use Rattle.document_reader.specs.Readings.{declared_on};
+ghost use Rattle.document_reader.specs.private.Readings.{declared_on};
 ghost use Rattle.document_reader.specs.private.NameLines.{names_in, is_free as is_free_of, HasAdded, kind_of_names, Declares};
 
 use crate::lexemes::{is_name, line_front};

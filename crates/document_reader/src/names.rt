@@ -1,6 +1,6 @@
 ghost use Rattle.std.specs.Prelude.{◌≡◌, ℕ, List, [], ◌∷◌, ◌++◌, length, not, bytes_eq, if◌then◌else◌, Some, None, unwrap_or, IfOk, OnErr};
 ghost use Rattle.document_forms.specs.Names.{is_among, number_in};
-ghost use Rattle.document_reader.specs.NameTables.{at_name};
+ghost use Rattle.document_reader.specs.private.NameTables.{at_name};
 ghost use Rattle.wpds_base.specs.Lists.{IsOnce};
 
 use std::alloc::Global;
@@ -22,7 +22,7 @@ pub(crate) struct NameTable<'t> {
 
 impl<'t> Model for NameTable<'t> {
     ghost use Rattle.std.specs.Prelude.{List, ℕ};
-    ghost use Rattle.document_reader.specs.NameTables.{bytes_of, IsNumbered};
+    ghost use Rattle.document_reader.specs.private.NameTables.{bytes_of, IsNumbered};
 
     ghost Value = { List (List ℕ) };
 

@@ -6,7 +6,7 @@ ghost use Rattle.document_forms.specs.Kinds.{sources, edges};
 ghost use Rattle.document_forms.specs.Lawful.{set_count, item_count};
 ghost use Rattle.document_forms.specs.Patterns.{ItemForm, items_of};
 ghost use Rattle.document_reader.specs.private.ItemReading.{begins_with_colon, IsSetRead, AreItemsRead, HasItems};
-ghost use Rattle.document_reader.specs.QueryReading.{IsPatternOf};
+ghost use Rattle.document_reader.specs.private.QueryReading.{IsPatternOf};
 
 use crate::items::{SetRead, read_item, split_name};
 use crate::names::NameTable;

@@ -1,5 +1,5 @@
 ghost use Rattle.std.specs.Prelude.{IfOk};
-ghost use Rattle.document_reader.specs.QueryReading.{IsQueryRead};
+ghost use Rattle.document_reader.specs.private.QueryReading.{IsQueryRead};
 
 use crate::names::NameTable;
 use crate::patterns::{QueryFaults, read_pattern};

@@ -4,8 +4,8 @@ ghost use Rattle.std.specs.Prelude.{◌≡◌, [], ◌++◌, List, map, IfOk, So
 ghost use Rattle.wpds_port.specs.Refusals.{refusal};
 ghost use Rattle.wpds_port.specs.declared.Refusal.{Refusal as RefusalValue};
 ghost use Rattle.document_forms.specs.FirstRefusal.{Counted, counted, first_refused};
-ghost use Rattle.document_reader.specs.Readings.{HasRead, above_now, only_weights};
-ghost use Rattle.document_reader.specs.RuleReads.{HasFewItems};
+ghost use Rattle.document_reader.specs.private.Readings.{HasRead, above_now, only_weights};
+ghost use Rattle.document_reader.specs.private.RuleReads.{HasFewItems};
 
 use crate::body_lines::read_line;
 use crate::lines::Lines;

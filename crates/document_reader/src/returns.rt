@@ -9,7 +9,7 @@ ghost use Rattle.std.specs.List.{list_all};
 ghost use Rattle.document_forms.specs.Returns.{MoveForm, PlainReturn, moves_of, restore_of, only_moves, return_of};
 ghost use Rattle.document_forms.specs.Kinds.{allows_restore as allows_restore_of, allows_moves as allows_moves_of};
 ghost use Rattle.document_forms.specs.declared.weight.WeightsLine.{WeightsLine as WeightsLineValue};
-ghost use Rattle.document_reader.specs.NamesOnce.{HasNames};
+ghost use Rattle.document_reader.specs.private.NamesOnce.{HasNames};
 ghost use Rattle.document_reader.specs.private.NameLines.{names_in};
 ghost use Rattle.document_reader.specs.private.Returns.{is_any_name as is_any_name_of, begins_move, are_pairs, moves_said, move_form, moves_if_said, return_form, AreNumbersRead, AreMovesRead, AreNames, ArePairs, IsSaid, restored_in, moved_in, map_said, IsReadReturn, IsReturnRead};
 

@@ -8,9 +8,9 @@ ghost use Rattle.wpds_port.specs.declared.Word.TheVariants.{Name, Mark as Sign};
 ghost use Rattle.document_forms.specs.Above.{Above};
 ghost use Rattle.document_forms.specs.Forms.{RuleForm, rule_of};
 ghost use Rattle.document_forms.specs.Kinds.{rule_weight};
-ghost use Rattle.document_reader.specs.Readings.{above_now};
-ghost use Rattle.document_reader.specs.RuleReads.{IsReadRule, IsRuleRead};
-ghost use Rattle.document_reader.specs.WeightReads.{IsRead};
+ghost use Rattle.document_reader.specs.private.Readings.{above_now};
+ghost use Rattle.document_reader.specs.private.RuleReads.{IsReadRule, IsRuleRead};
+ghost use Rattle.document_reader.specs.private.WeightReads.{IsRead};
 ghost use Rattle.document_reader.specs.private.Rules.{rule_said, IsRightRead, IsBackRead, AreEnds, AreParts, weight_unknown as weight_unknown_of, weight_amiss as weight_amiss_of, weight_deep as weight_deep_of, is_unknown as is_unknown_of, is_misplaced as is_misplaced_of, parts_kind, weight_kept};
 
 use crate::items::split_name;

@@ -4,9 +4,9 @@ ghost use Rattle.std.specs.Prelude.{◌≡◌, ℕ, IfOk, Some, None, Err, map};
 ghost use Rattle.wpds_port.specs.declared.Refusal.{Refusal as RefusalValue};
 ghost use Rattle.document_forms.specs.Documents.{reads_as};
 ghost use Rattle.document_forms.specs.FirstRefusal.{counted, missing, FirstRefusal};
-ghost use Rattle.document_reader.specs.Readings.{HasRead, HasFirstTwo, above_now, document_now};
-ghost use Rattle.document_reader.specs.RuleReads.{HasFewItems};
-ghost use Rattle.document_reader.specs.Found.{found_first};
+ghost use Rattle.document_reader.specs.private.Readings.{HasRead, HasFirstTwo, above_now, document_now};
+ghost use Rattle.document_reader.specs.private.RuleReads.{HasFewItems};
+ghost use Rattle.document_reader.specs.private.Found.{found_first};
 
 use crate::headers::{header_kind, read_weights};
 use crate::lines::Lines;

@@ -4,7 +4,7 @@ ghost use Rattle.std.specs.Prelude.{◌≡◌, ◌∷◌, [], MatchOption, false
 ghost use Rattle.wpds_port.specs.Words.{word_of};
 ghost use Rattle.truth_tables.specs.Grammar.{number_of};
 ghost use Rattle.document_forms.specs.Weights.{NumberForm, OneForm, cost_of, is_only, own_weight};
-ghost use Rattle.document_reader.specs.WeightReads.{IsRead, IsReadAs, IsWeightRead, either};
+ghost use Rattle.document_reader.specs.private.WeightReads.{IsRead, IsReadAs, IsWeightRead, either};
 
 mod actions;
 mod exprs;

@@ -7,7 +7,7 @@ ghost use Rattle.wpds_base.specs.Faults.{first_fault};
 ghost use Rattle.document_forms.specs.FirstRefusal.{by_form};
 ghost use Rattle.document_forms.specs.Forms.{CostWeights, line_form, weights_named, weights_of};
 ghost use Rattle.document_forms.specs.Kinds.{weights_conditions};
-ghost use Rattle.document_reader.specs.Readings.{SaysWeights};
+ghost use Rattle.document_reader.specs.private.Readings.{SaysWeights};
 ghost use Rattle.document_reader.specs.private.LineForms.{form_in, weights_said, IsDeclared};
 
 use crate::digits::number;

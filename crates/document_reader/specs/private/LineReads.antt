@@ -7,7 +7,7 @@ use Rattle.document_forms.specs.Forms.{Class, LineForm, OfNames, names_of}
 use Rattle.document_forms.specs.Kinds.{conditions}
 use Rattle.document_forms.specs.FirstRefusal.{by_form}
 use Rattle.document_reader.specs.declared.reading.Reading.{Reading}
-use Rattle.document_reader.specs.Readings.{above_now, TakesForm}
+use Rattle.document_reader.specs.private.Readings.{above_now, TakesForm}
 
 -- A line of this form, or of none, is refused by its kind below the reading, or else it is taken.
 pub record IsAnswered

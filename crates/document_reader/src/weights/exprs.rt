@@ -8,7 +8,7 @@ ghost use Rattle.truth_tables.specs.Operands.{raw_formula};
 ghost use Rattle.document_forms.specs.Documents.{over_numbers};
 ghost use Rattle.document_forms.specs.Names.{has_unknown};
 ghost use Rattle.document_forms.specs.Weights.{ValueForm, value_of};
-ghost use Rattle.document_reader.specs.TreeReads.{AreKnown, IsTreeRead, HasValue, is_star};
+ghost use Rattle.document_reader.specs.private.TreeReads.{AreKnown, IsTreeRead, HasValue, is_star};
 
 use super::WeightFaults;
 use crate::names::NameTable;

@@ -2,8 +2,8 @@
 
 ghost use Rattle.std.specs.Prelude.{◌≡◌, ◌<◌, ℕ, List, [], ◌∷◌, ◌++◌, length, IfOk, MatchOption, None, option_map};
 ghost use Rattle.document_forms.specs.Weights.{SignForm, SignsForm, genkill_of, signs};
-ghost use Rattle.document_reader.specs.WeightReads.{IsRead, IsReadAs};
-ghost use Rattle.document_reader.specs.FactReads.{HasSigns, some_signs, sign_form};
+ghost use Rattle.document_reader.specs.private.WeightReads.{IsRead, IsReadAs};
+ghost use Rattle.document_reader.specs.private.FactReads.{HasSigns, some_signs, sign_form};
 
 use super::once::NamesOnce;
 use super::{WeightFaults, WeightRead};

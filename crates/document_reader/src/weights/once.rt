@@ -1,7 +1,7 @@
 //! Names that are to stand once each.
 
 ghost use Rattle.std.specs.Prelude.{◌≡◌, ℕ, List, [], ◌∷◌, ◌++◌, IfOk};
-ghost use Rattle.document_reader.specs.NamesOnce.{HasNames};
+ghost use Rattle.document_reader.specs.private.NamesOnce.{HasNames};
 
 use crate::names::NameTable;
 use std::alloc::Global;

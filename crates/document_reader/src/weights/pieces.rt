@@ -1,7 +1,7 @@
 //! Words cut into pieces at a mark.
 
 ghost use Rattle.std.specs.Prelude.{◌≡◌, [], ◌∷◌, MatchOption, Some};
-ghost use Rattle.document_reader.specs.Pieces.{pieces_of, pieces_left};
+ghost use Rattle.document_reader.specs.private.Pieces.{pieces_of, pieces_left};
 
 use std::marker::Model;
 use wpds_port::{Lexeme, Mark, Words};
@@ -28,7 +28,7 @@ impl<'t> Model for Pieces<'t> {
 
     ghost Value = { List (List Word) };
 
-    ghost use Rattle.document_reader.specs.Pieces.{pieces_left};
+    ghost use Rattle.document_reader.specs.private.Pieces.{pieces_left};
 
     ghost view = { λ p. pieces_left p.cut p.left };
 }

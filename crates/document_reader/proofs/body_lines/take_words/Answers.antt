@@ -4,7 +4,7 @@ use Rattle.wpds_base.specs.Faults.{first_fault}
 use Rattle.wpds_port.specs.Words.{word_of}
 use Rattle.document_forms.specs.FirstRefusal.{by_form}
 use Rattle.document_forms.specs.Kinds.{conditions}
-use Rattle.document_reader.specs.Readings.{above_now}
+use Rattle.document_reader.specs.private.Readings.{above_now}
 use Rattle.document_reader.proofs.LineFormLemmas.{weights_behind, controls_behind, symbols_behind, facts_behind, variables_behind, rule_behind}
 use Rattle.document_reader.proofs.body_lines.take_words.Goals as goal
 

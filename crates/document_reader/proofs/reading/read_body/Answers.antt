@@ -2,7 +2,7 @@ use Rattle.std.proofs.Common.{◌≡◌, ◌++◌, ◌∷◌, [], Some, map, sym
 use Rattle.wpds_port.specs.Refusals.{refusal}
 use Rattle.document_forms.specs.Lines.{Line}
 use Rattle.document_forms.specs.FirstRefusal.{counted, first_refused}
-use Rattle.document_reader.specs.Readings.{HasRead}
+use Rattle.document_reader.specs.private.Readings.{HasRead}
 use Rattle.document_reader.proofs.ReadingLemmas.{line_refused, line_taken}
 use Rattle.document_reader.proofs.reading.read_body.Goals as goal
 

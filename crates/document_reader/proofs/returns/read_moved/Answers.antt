@@ -1,5 +1,5 @@
 use Rattle.std.proofs.Common.{◌∙◌, ◌∷◌, ◌++◌, [], ap, subst, map}
-use Rattle.document_reader.specs.NamesOnce.{HasNames}
+use Rattle.document_reader.specs.private.NamesOnce.{HasNames}
 use Rattle.document_reader.specs.private.Returns.{moves_said, move_form}
 use Rattle.document_reader.proofs.ReturnLemmas.{all_pairs, pairs_all, moves_go_on, pairs_go_on, names_none_yet, to_more}
 use Rattle.document_reader.proofs.returns.read_moved.Goals as goal

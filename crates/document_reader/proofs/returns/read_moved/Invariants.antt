@@ -1,6 +1,6 @@
 use Rattle.std.proofs.Common.{◌≡◌, ◌++◌, List, ℕ, true, length, map}
 use Rattle.document_forms.specs.Returns.{MoveForm}
-use Rattle.document_reader.specs.NamesOnce.{HasNames}
+use Rattle.document_reader.specs.private.NamesOnce.{HasNames}
 use Rattle.document_reader.specs.private.Returns.{moves_said, AreMovesRead}
 use Rattle.document_reader.proofs.ReturnLemmas.{all_pairs}
 use Rattle.document_reader.proofs.returns.read_moved.Given as goal

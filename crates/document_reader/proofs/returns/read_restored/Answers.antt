@@ -1,7 +1,7 @@
 use Rattle.std.proofs.Common.{◌∙◌, ◌∷◌, ◌++◌, [], ap, subst, append_assoc}
 use Rattle.std.specs.List.{list_all}
 use Rattle.wpds_port.specs.Words.{word_of}
-use Rattle.document_reader.specs.NamesOnce.{HasNames}
+use Rattle.document_reader.specs.private.NamesOnce.{HasNames}
 use Rattle.document_reader.specs.private.NameLines.{names_in}
 use Rattle.document_reader.specs.private.Returns.{is_any_name}
 use Rattle.document_reader.proofs.ReturnLemmas.{names_go_on, rest_all_names, names_none_yet}

@@ -1,6 +1,6 @@
 use Rattle.std.proofs.Common.{◌≡◌, ◌++◌, List, ℕ, true, length}
 use Rattle.std.specs.List.{list_all}
-use Rattle.document_reader.specs.NamesOnce.{HasNames}
+use Rattle.document_reader.specs.private.NamesOnce.{HasNames}
 use Rattle.document_reader.specs.private.NameLines.{names_in}
 use Rattle.document_reader.specs.private.Returns.{is_any_name, AreNumbersRead}
 use Rattle.document_reader.proofs.returns.read_restored.Given as goal

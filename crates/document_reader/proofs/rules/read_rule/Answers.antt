@@ -1,5 +1,5 @@
 use Rattle.std.proofs.Common.{◌∙◌, subst, refl}
-use Rattle.document_reader.specs.Readings.{above_now}
+use Rattle.document_reader.specs.private.Readings.{above_now}
 use Rattle.document_reader.specs.private.Rules.{IsRightRead, IsBackRead}
 use Rattle.document_reader.proofs.RuleLemmas.{rule_form, said_is, back_there}
 use Rattle.document_reader.proofs.rules.read_rule.Goals as goal

@@ -2,7 +2,7 @@ use Rattle.std.proofs.Common.{◌≡◌, ◌++◌, length, map}
 use Rattle.document_forms.specs.Forms.{Symbols}
 use Rattle.document_forms.specs.Names.{once}
 use Rattle.document_forms.specs.FirstRefusal.{counted}
-use Rattle.document_reader.specs.Readings.{names_in}
+use Rattle.document_reader.specs.private.Readings.{names_in}
 use Rattle.document_reader.proofs.symbols.all_symbols.Given as goal
 
 -- The names so far and those of the lines that are left are all names.

@@ -4,8 +4,8 @@ use Rattle.wpds_port.specs.Refusals.{refusal}
 use Rattle.wpds_port.specs.declared.Kind.TheVariants.{NothingAsked}
 use Rattle.wpds_port.specs.declared.ReadFault.TheVariants.{Refused}
 use Rattle.document_forms.specs.FirstRefusal.{counted, first_refused, missing}
-use Rattle.document_reader.specs.Readings.{HasRead}
-use Rattle.document_reader.specs.Found.{found_first}
+use Rattle.document_reader.specs.private.Readings.{HasRead}
+use Rattle.document_reader.specs.private.Found.{found_first}
 use Rattle.document_reader.proofs.FirstLinesLemmas.{whole_read, nothing_asked, no_items, some_items, found_in_line}
 use Rattle.document_reader.proofs.system.read_lines.Goals as goal
 

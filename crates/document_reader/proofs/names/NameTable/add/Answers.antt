@@ -1,7 +1,7 @@
 use Rattle.std.proofs.Common.{arith, ◌≡◌, ◌++◌, ◌∷◌, [], ◌<◌, ◌^◌, length, ap, ◌∙◌}
 use Rattle.std.proofs.lemmas.List.{map_push, length-map}
 use Rattle.document_reader.proofs.NumberedLemmas.{numbered_push, next_is_new}
-use Rattle.document_reader.specs.NameTables.{bytes_of}
+use Rattle.document_reader.specs.private.NameTables.{bytes_of}
 use Rattle.document_reader.proofs.names.NameTable.add.Goals as goal
 
 pub invariant_of-self-in_ok-push : goal.invariant_of-self-in_ok-push

@@ -1,6 +1,6 @@
 use Rattle.std.proofs.Common.{Bor, List, ℕ, ◌≡◌, ◌+◌, ◌<◌, ◌++◌, ◌∷◌, [], length, take, get_or, sym, ap, ◌∙◌}
 use Rattle.std.proofs.lemmas.List.{take_more, take-map, map_push}
-use Rattle.document_reader.specs.NameTables.{bytes_of}
+use Rattle.document_reader.specs.private.NameTables.{bytes_of}
 use Rattle.document_reader.proofs.names.NameTable.into_names.Goals as goal
 
 bytes_of-take_more : (slices : List (Bor (List ℕ))) (i : ℕ) (d : Bor (List ℕ)) → i < length slices → take (i + 1) (bytes_of slices) ≡ take i (bytes_of slices) ++ (get_or slices i d).now ∷ []

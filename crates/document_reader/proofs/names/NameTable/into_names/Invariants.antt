@@ -1,5 +1,5 @@
 use Rattle.std.proofs.Common.{◌≡◌, take}
-use Rattle.document_reader.specs.NameTables.{bytes_of}
+use Rattle.document_reader.specs.private.NameTables.{bytes_of}
 use Rattle.document_reader.proofs.names.NameTable.into_names.Given as goal
 
 abbrev pub invariant-loop-name : goal.invariant-loop-name

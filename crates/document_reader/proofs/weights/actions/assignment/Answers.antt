@@ -5,9 +5,9 @@ use Rattle.document_forms.specs.Names.{is_among, has_unknown}
 use Rattle.document_forms.specs.Weights.{AssignForm}
 use Rattle.document_forms.specs.Kinds.{value_names, is_uneven}
 use Rattle.document_reader.specs.declared.weights.WeightFaults.{WeightFaults}
-use Rattle.document_reader.specs.WeightReads.{is_sound, either}
-use Rattle.document_reader.specs.TreeReads.{HasFaults}
-use Rattle.document_reader.specs.ActionReads.{HasValues, assigned}
+use Rattle.document_reader.specs.private.WeightReads.{is_sound, either}
+use Rattle.document_reader.specs.private.TreeReads.{HasFaults}
+use Rattle.document_reader.specs.private.ActionReads.{HasValues, assigned}
 use Rattle.document_reader.proofs.NamesOnceLemmas.{any_append}
 use Rattle.document_reader.proofs.TreeLemmas.{sound_parts}
 use Rattle.document_reader.proofs.ActionLemmas.{either_faults, told_as, sound_both, by_names}

@@ -2,7 +2,7 @@ use Rattle.std.proofs.Common.{◌≡◌, List, ◌++◌, length}
 use Rattle.std.specs.Prelude.{option_map}
 use Rattle.document_forms.specs.Words.{each}
 use Rattle.document_forms.specs.Weights.{ActionForm, ActionsForm, action_of, relation_of}
-use Rattle.document_reader.specs.ActionReads.{HasActions}
+use Rattle.document_reader.specs.private.ActionReads.{HasActions}
 use Rattle.document_reader.proofs.weights.actions.read_actions.Given as goal
 
 -- The actions are those that were read, and those of the pieces that are left.

@@ -1,6 +1,6 @@
 use Rattle.std.proofs.Common.{sym, ◌∙◌, subst}
 use Rattle.std.specs.Prelude.{IfOk}
-use Rattle.document_reader.specs.ActionReads.{IsActionRead}
+use Rattle.document_reader.specs.private.ActionReads.{IsActionRead}
 use Rattle.document_reader.proofs.ActionLemmas.{both_sides}
 use Rattle.document_reader.proofs.weights.actions.read_assign.Goals as goal
 

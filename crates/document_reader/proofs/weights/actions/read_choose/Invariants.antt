@@ -1,7 +1,7 @@
 use Rattle.std.proofs.Common.{◌≡◌, ℕ, List, ◌++◌, length}
 use Rattle.std.specs.Prelude.{option_map}
 use Rattle.document_forms.specs.Words.{name_of, each_of_some}
-use Rattle.document_reader.specs.ActionReads.{HasVariables}
+use Rattle.document_reader.specs.private.ActionReads.{HasVariables}
 use Rattle.document_reader.proofs.weights.actions.read_choose.Given as goal
 
 -- The names are those that were read, and those of the words that are left.

@@ -1,6 +1,6 @@
 use Rattle.std.proofs.Common.{subst}
 use Rattle.document_forms.specs.Weights.{AssignForm}
-use Rattle.document_reader.specs.ActionReads.{HasValues}
+use Rattle.document_reader.specs.private.ActionReads.{HasValues}
 use Rattle.document_reader.proofs.ActionLemmas.{sides_read}
 use Rattle.document_reader.proofs.weights.actions.read_sides.Goals as goal
 

@@ -2,7 +2,7 @@ use Rattle.std.proofs.Common.{◌≡◌, ℕ, List, ◌++◌, length}
 use Rattle.std.specs.Prelude.{option_map}
 use Rattle.document_forms.specs.Words.{is_comma, parted, each}
 use Rattle.document_forms.specs.Weights.{target_of}
-use Rattle.document_reader.specs.ActionReads.{HasTargets}
+use Rattle.document_reader.specs.private.ActionReads.{HasTargets}
 use Rattle.document_reader.proofs.weights.actions.read_targets.Given as goal
 
 -- The targets are those that were read, and those of the pieces that are left.

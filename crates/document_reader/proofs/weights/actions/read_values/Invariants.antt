@@ -2,7 +2,7 @@ use Rattle.std.proofs.Common.{◌≡◌, List, ◌++◌, length}
 use Rattle.std.specs.Prelude.{option_map}
 use Rattle.document_forms.specs.Words.{is_comma, parted_outside, each}
 use Rattle.document_forms.specs.Weights.{ValueForm, value_of}
-use Rattle.document_reader.specs.ActionReads.{HasValues}
+use Rattle.document_reader.specs.private.ActionReads.{HasValues}
 use Rattle.document_reader.proofs.weights.actions.read_values.Given as goal
 
 -- The values are those that were read, and those of the pieces that are left.

@@ -8,7 +8,7 @@ use Rattle.truth_tables.specs.Stacks.{tree_of}
 use Rattle.truth_tables.specs.Texts.{IsAnswer}
 use Rattle.document_forms.specs.Names.{has_unknown}
 use Rattle.document_forms.specs.Documents.{over_numbers}
-use Rattle.document_reader.specs.TreeReads.{AreKnown}
+use Rattle.document_reader.specs.private.TreeReads.{AreKnown}
 use Rattle.document_reader.proofs.TreeLemmas.{known, no_tree, sound_parts, shallow}
 use Rattle.document_reader.proofs.weights.exprs.read_tree.Goals as goal
 

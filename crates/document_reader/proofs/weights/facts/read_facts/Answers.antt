@@ -1,7 +1,7 @@
 use Rattle.std.proofs.Common.{◌++◌, ◌∷◌, [], ap, ◌∙◌, sym}
 use Rattle.wpds_port.specs.Words.{word_of}
 use Rattle.document_forms.specs.Weights.{genkill_of, SignsForm}
-use Rattle.document_reader.specs.FactReads.{sign_form}
+use Rattle.document_reader.specs.private.FactReads.{sign_form}
 use Rattle.document_reader.proofs.FactLemmas.{all_signs, signs_end, signs_go_on}
 use Rattle.document_reader.proofs.weights.facts.read_facts.Goals as goal
 

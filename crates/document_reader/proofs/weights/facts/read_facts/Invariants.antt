@@ -1,7 +1,7 @@
 use Rattle.std.proofs.Common.{◌≡◌, List, ◌++◌, length}
 use Rattle.std.specs.Prelude.{option_map}
 use Rattle.document_forms.specs.Weights.{SignForm, SignsForm, genkill_of}
-use Rattle.document_reader.specs.FactReads.{HasSigns, some_signs}
+use Rattle.document_reader.specs.private.FactReads.{HasSigns, some_signs}
 use Rattle.document_reader.proofs.weights.facts.read_facts.Given as goal
 
 -- The signs are those that were read, and those of the words that are left.

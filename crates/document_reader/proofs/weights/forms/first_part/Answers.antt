@@ -1,7 +1,7 @@
 use Rattle.std.proofs.Common.{◌≡◌, ◌∷◌, sym, rules}
 use Rattle.wpds_port.specs.declared.Mark.TheVariants.{Minus}
 use Rattle.wpds_port.specs.declared.Word.TheVariants.{Name, Number, Mark as Sign}
-use Rattle.document_reader.specs.FormReads.{part_form}
+use Rattle.document_reader.specs.private.FormReads.{part_form}
 use Rattle.document_reader.proofs.PairLemmas.{variable_first, number_first, minus_cases}
 use Rattle.document_reader.proofs.weights.forms.first_part.Goals as goal
 

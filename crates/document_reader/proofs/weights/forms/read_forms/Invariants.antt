@@ -1,8 +1,8 @@
 use Rattle.std.proofs.Common.{◌≡◌, List, ◌++◌, length}
 use Rattle.std.specs.Prelude.{option_map}
 use Rattle.document_forms.specs.Weights.{PairForm, PairsForm, copy_of}
-use Rattle.document_reader.specs.PairTexts.{some_pairs}
-use Rattle.document_reader.specs.FormReads.{HasPairs}
+use Rattle.document_reader.specs.private.PairTexts.{some_pairs}
+use Rattle.document_reader.specs.private.FormReads.{HasPairs}
 use Rattle.document_reader.proofs.weights.forms.read_forms.Given as goal
 
 -- The pairs are those that were read, and those of the words that are left.

@@ -3,8 +3,8 @@ use Rattle.std.specs.Prelude.{option_map}
 use Rattle.wpds_port.specs.declared.Mark.TheVariants.{Comma}
 use Rattle.wpds_port.specs.declared.Word.TheVariants.{Mark as Sign}
 use Rattle.document_forms.specs.Weights.{Parts}
-use Rattle.document_reader.specs.PairTexts.{parts_in, parts_behind, from_pair}
-use Rattle.document_reader.specs.FormReads.{part_form, HasParts}
+use Rattle.document_reader.specs.private.PairTexts.{parts_in, parts_behind, from_pair}
+use Rattle.document_reader.specs.private.FormReads.{part_form, HasParts}
 use Rattle.document_reader.proofs.EachLemmas.{read_none, read_more}
 use Rattle.document_reader.proofs.weights.forms.read_meet.Goals as goal
 

@@ -1,8 +1,8 @@
 use Rattle.std.proofs.Common.{◌≡◌, List, ◌++◌, length}
 use Rattle.std.specs.Prelude.{option_map}
 use Rattle.document_forms.specs.Weights.{PartForm, Parts}
-use Rattle.document_reader.specs.PairTexts.{parts_in, from_pair}
-use Rattle.document_reader.specs.FormReads.{HasParts}
+use Rattle.document_reader.specs.private.PairTexts.{parts_in, from_pair}
+use Rattle.document_reader.specs.private.FormReads.{HasParts}
 use Rattle.document_reader.proofs.weights.forms.read_meet.Given as goal
 
 -- The parts are those that were read, and those of the words that are left.

@@ -1,6 +1,6 @@
 use Rattle.std.proofs.Common.{◌≡◌, ◌∷◌, ap₂, sym, ◌∙◌, subst}
 use Rattle.document_reader.specs.declared.weights.pieces.Cut.TheVariants.{Commas, Semicolons, OutsideCommas}
-use Rattle.document_reader.specs.Pieces.{pieces_of, pieces_left}
+use Rattle.document_reader.specs.private.Pieces.{pieces_of, pieces_left}
 use Rattle.document_reader.proofs.PieceLemmas.{at_comma, at_semicolon, at_outside_comma}
 use Rattle.document_reader.proofs.weights.pieces.first_piece.Goals as goal
 

@@ -2,7 +2,7 @@ use Rattle.std.proofs.Common.{◌≡◌, sym, ap, ◌∙◌, w64, SFits, to_z, o
 use Rattle.std.proofs.lemmas.Int.{ints}
 use Rattle.document_forms.specs.Weights.{OfNumber}
 use Rattle.document_forms.specs.Documents.{meet_of}
-use Rattle.document_reader.specs.FormReads.{constant_more}
+use Rattle.document_reader.specs.private.FormReads.{constant_more}
 use Rattle.document_reader.proofs.FormLemmas.{constants, bits, constant_value, no_name, narrow_push}
 use Rattle.document_reader.proofs.weights.forms.PartsRead.add_number.Goals as goal
 

@@ -14,9 +14,9 @@ use Rattle.document_reader.specs.declared.weights.actions.Targets.{Targets}
 use Rattle.document_reader.specs.declared.weights.actions.Values.{Values}
 use Rattle.document_reader.specs.declared.weights.actions.ActionRead.{ActionRead}
 use Rattle.document_reader.specs.declared.weights.actions.ActionsRead.{ActionsRead}
-use Rattle.document_reader.specs.NamesOnce.{HasNames}
-use Rattle.document_reader.specs.WeightReads.{is_sound}
-use Rattle.document_reader.specs.TreeReads.{HasFaults, is_too_deep}
+use Rattle.document_reader.specs.private.NamesOnce.{HasNames}
+use Rattle.document_reader.specs.private.WeightReads.{is_sound}
+use Rattle.document_reader.specs.private.TreeReads.{HasFaults, is_too_deep}
 
 -- the assignment with these words on its two sides
 abbrev pub sides_of : (front back : List Word) → Option ActionForm

@@ -15,7 +15,7 @@ use Rattle.document_forms.specs.Documents.{expression_value, value_of}
 use Rattle.document_reader.specs.declared.weights.WeightFaults.{WeightFaults}
 use Rattle.document_reader.specs.declared.weights.exprs.TreeRead.{TreeRead}
 use Rattle.document_reader.specs.declared.weights.exprs.ValueRead.{ValueRead}
-use Rattle.document_reader.specs.WeightReads.{is_sound}
+use Rattle.document_reader.specs.private.WeightReads.{is_sound}
 
 -- This is amiss. Whether an expression is too deep is told of what is lawful.
 pub record HasFaults (some_unknown some_unlawful some_deep : Bool) (f : WeightFaults) : Type 0 where

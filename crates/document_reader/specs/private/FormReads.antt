@@ -7,7 +7,7 @@ use Rattle.document_forms.specs.Names.{has_unknown}
 use Rattle.document_forms.specs.Weights.{PartForm, OfVariable, OfNumber, PartsForm, PairForm, parts_of}
 use Rattle.document_forms.specs.Kinds.{parts_names, has_wide_part}
 use Rattle.document_forms.specs.Documents.{same_integer, parts_value, pair_value}
-use Rattle.document_reader.specs.NamesOnce.{HasNames}
+use Rattle.document_reader.specs.private.NamesOnce.{HasNames}
 use Rattle.document_reader.specs.declared.weights.forms.Part.{Part}
 use Rattle.document_reader.specs.declared.weights.forms.Part.TheVariants.{Variable, Number}
 use Rattle.document_reader.specs.declared.weights.forms.PartsRead.{PartsRead}

@@ -4,7 +4,7 @@ use Rattle.wpds_port.specs.declared.Word.{Word}
 use Rattle.document_forms.specs.Names.{has_unknown}
 use Rattle.document_forms.specs.Weights.{SignForm, signs}
 use Rattle.document_forms.specs.Documents.{sign_value}
-use Rattle.document_reader.specs.NamesOnce.{HasNames}
+use Rattle.document_reader.specs.private.NamesOnce.{HasNames}
 use Rattle.document_reader.specs.declared.weights.facts.Facts.{Facts}
 use Rattle.document_reader.specs.declared.weights.facts.Sign.{Sign}
 
