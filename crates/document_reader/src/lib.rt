@@ -3,6 +3,7 @@
 
 mod body_lines;
 mod digits;
+mod first_line;
 mod headers;
 mod items;
 mod lexemes;
@@ -19,6 +20,7 @@ mod system;
 mod weights;
 mod weights_lines;
 
+pub use first_line::first_line;
 pub use headers::language;
 pub use system::read_system;
 

@@ -1,5 +1,6 @@
 mod PatternLemmas
 mod LineLemmas
 mod RuleLemmas
-mod SymbolLemmas
+mod SetLemmas
+mod ItemLemmas
 pub mod CallerLemmas

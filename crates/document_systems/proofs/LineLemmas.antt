@@ -5,24 +5,25 @@ use Rattle.std.specs.List.{list_any, AllByRecursion}
 use Rattle.std.proofs.lemmas.Bool.Decides.{nat_tests}
 use Rattle.std.proofs.lemmas.List.{length-take-le, length-map}
 use Rattle.std.proofs.lemmas.List.Elements.{recursion_from_All}
-use Rattle.system_text.specs.declared.document.WeightsLine.{WeightsLine}
-use Rattle.system_text.specs.declared.document.RuleLine.{RuleLine}
-use Rattle.system_text.specs.Documents.{IsRuleLine}
-use Rattle.system_text.specs.declared.document.MapText.{MapText}
+use Rattle.document_forms.specs.declared.weight.WeightsLine.{WeightsLine}
+use Rattle.document_forms.specs.declared.document.RuleLine.{RuleLine}
+use Rattle.document_forms.specs.declared.document.MapText.{MapText}
+use Rattle.document_forms.specs.Lawful.{IsRuleLine, IsMapText}
 use Rattle.pushdown_rules.specs.Pushdown.{Pushdown}
 use Rattle.pushdown_rules.specs.Fault.{rule_fault}
 
 pub is_below : (n k : ℕ) → k < n → nat_le n k ≡ false
 is_below n k low = grind (arith, nat_tests)
 
-none_from : (n : ℕ) (gs : List ℕ) → AllByRecursion (λ g. g < n) gs → list_any (λ g. nat_le n g) gs ≡ false
+pub none_from : (n : ℕ) (gs : List ℕ) → AllByRecursion (λ g. g < n) gs → list_any (λ g. nat_le n g) gs ≡ false
 none_from n [] _ = refl
 none_from n (g ∷ gs) all = rw (is_below n g all.0, none_from n gs all.1) refl
 
 -- a rule with a return map pushes
-pushes : (map : Option MapText) (n : ℕ) → (IsSome map → n ≡ 2) → (is_some map && not (nat_eq n 2)) ≡ false
-pushes None n two = refl
-pushes (Some m) n two = rw (two refl) refl
+pushes : (weights : WeightsLine) (items : ℕ) (right : List ℕ) (map : Option MapText) → IsMapText weights items right map
+    → (is_some map && not (nat_eq (length right) 2)) ≡ false
+pushes weights items right None is = refl
+pushes weights items right (Some m) is = let two : length right ≡ 2 = is.push in rw two refl
 
 not_refused : {S W Map : Type 0} (p : Pushdown S W Map) (weights : WeightsLine) (items : ℕ) (r : RuleLine) → IsRuleLine weights p.controls p.symbols items r → length p.rules < 130000
     → rule_fault p r.control r.symbol r.to r.right (is_some r.map) ≡ None
@@ -34,7 +35,7 @@ not_refused p weights items r line few =
       is_below p.symbols r.symbol line.symbol,
       none_from p.symbols r.right (recursion_from_All (λ g. g < p.symbols) r.right line.right),
       long,
-      pushes r.map (length r.right) line.pushes,
+      pushes weights items r.right r.map line.map,
       is_below 130000 (length p.rules) few,
     ) refl
 

@@ -7,12 +7,12 @@ use Rattle.std.proofs.lemmas.List.{length-map}
 use Rattle.std.proofs.lemmas.List.Elements.{All-from_recursion, recursion_from_All}
 use Rattle.semiring_laws.specs.Semiring.{Operations, Fits, FitsMap}
 use Rattle.pushdown_rules.specs.Pushdown.{IsRule, IsSystem, map_of}
-use Rattle.system_text.specs.declared.document.Document.{Document}
-use Rattle.system_text.specs.declared.document.WeightsLine.{WeightsLine}
-use Rattle.system_text.specs.declared.document.WeightText.{WeightText}
-use Rattle.system_text.specs.declared.document.MapText.{MapText}
-use Rattle.system_text.specs.declared.document.RuleLine.{RuleLine}
-use Rattle.system_text.specs.Documents.{IsRuleLine, IsDocument}
+use Rattle.document_forms.specs.declared.weight.WeightsLine.{WeightsLine}
+use Rattle.document_forms.specs.declared.weight.WeightText.{WeightText}
+use Rattle.document_forms.specs.declared.document.MapText.{MapText}
+use Rattle.document_forms.specs.declared.document.RuleLine.{RuleLine}
+use Rattle.document_forms.specs.Documents.{Document}
+use Rattle.document_forms.specs.Lawful.{IsRuleLine, IsDocument}
 use Rattle.document_systems.specs.Kinds.{Kind}
 use Rattle.document_systems.specs.Systems.{rule_of, system_of}
 
@@ -69,7 +69,7 @@ module _ {S W Map : Type 0} (kind : Kind S W Map) (s : S) (plain : FitsMap (kind
       record {
         few_controls = is.controls.few;
         few_symbols = is.symbols.few;
-        few = omega (arith, is.few);
+        few = omega (arith, is.few_rules);
         rules =
             All-from_recursion (IsRule (kind.operations s) controls symbols) (map (rule_of kind s) d.rules)
             (are_rules d.weights controls symbols items d.rules (recursion_from_All (IsRuleLine d.weights controls symbols items) d.rules is.rules));

@@ -1,8 +1,8 @@
 -- What the weights of a document are, over the semirings that it may name.
 use Rattle.std.specs.Prelude.{ℕ, List}
 use Rattle.semiring_laws.specs.Semiring.{Operations}
-use Rattle.system_text.specs.declared.document.WeightText.{WeightText}
-use Rattle.system_text.specs.declared.document.MapText.{MapText}
+use Rattle.document_forms.specs.declared.weight.WeightText.{WeightText}
+use Rattle.document_forms.specs.declared.document.MapText.{MapText}
 
 -- Semirings `S` with weights `W` and return maps `Map`: what they compute, what is written in documents, and what that is worth.
 pub record Kind (S W Map : Type 0) : Type 1 where

@@ -1,8 +1,12 @@
 -- The pushdown system and the patterns that a document means.
-use Rattle.std.specs.Prelude.{ℕ, false, [], ◌∷◌, length, map, option_map}
-use Rattle.system_text.specs.declared.document.Document.{Document}
-use Rattle.system_text.specs.declared.document.RuleLine.{RuleLine}
-use Rattle.system_text.specs.declared.document.ConfigText.{ConfigText}
+use Rattle.std.specs.Prelude.{ℕ, false, List, [], ◌∷◌, length, map, option_map}
+use Rattle.std.specs.List.{range_with_len}
+use Rattle.document_forms.specs.Documents.{Document}
+use Rattle.document_forms.specs.declared.document.RuleLine.{RuleLine}
+use Rattle.document_forms.specs.declared.pattern.SetText.{SetText}
+use Rattle.document_forms.specs.declared.pattern.SetText.TheVariants.{All, Listed}
+use Rattle.document_forms.specs.declared.pattern.ItemText.{ItemText}
+use Rattle.document_forms.specs.declared.pattern.PatternText.{PatternText}
 use Rattle.config_patterns.specs.declared.item.Item.{Item}
 use Rattle.config_patterns.specs.Membership.{PatternValue}
 use Rattle.pushdown_rules.specs.Configuration.{Configuration}
@@ -30,16 +34,31 @@ module _ {S W Map : Type 0} (kind : Kind S W Map) (semiring : S) where
     rules = map rule_of d.rules;
   }
 
-abbrev pub configuration_of : ConfigText → Configuration
-configuration_of c = record { control = c.control; stack = c.stack }
+-- ---- the pattern that a side of a query is, over so many symbols
 
-abbrev pub one_symbol : ℕ → Item
-one_symbol g = record { set = g ∷ []; star = false }
+-- `.` takes all of them
+abbrev pub set_of : ℕ → SetText → List ℕ
+set_of symbols All = range_with_len 0 symbols
+set_of symbols (Listed gs) = gs
 
--- the pattern that a side of a query is, over so many symbols
-abbrev pub pattern_of : ℕ → ConfigText → PatternValue
-pattern_of symbols c = record { control = c.control; symbols = symbols; items = map one_symbol c.stack }
+abbrev pub item_of : ℕ → ItemText → Item
+item_of symbols i = record { set = set_of symbols i.set; star = i.star }
+
+abbrev pub pattern_of : ℕ → PatternText → PatternValue
+pattern_of symbols p = record {
+  control = p.control;
+  symbols = symbols;
+  items = map (item_of symbols) p.items;
+}
 
 -- the pattern that a side of a query of a document is
-abbrev pub side_of : Document → ConfigText → PatternValue
-side_of d c = pattern_of (length d.symbols) c
+abbrev pub side_of : Document → PatternText → PatternValue
+side_of d p = pattern_of (length d.symbols) p
+
+-- ---- a configuration as a side of a query
+
+abbrev pub one_symbol : ℕ → ItemText
+one_symbol g = record { set = Listed (g ∷ []); star = false }
+
+abbrev pub as_pattern : Configuration → PatternText
+as_pattern c = record { control = c.control; items = map one_symbol c.stack }

@@ -9,8 +9,8 @@ use Rattle.std.proofs.lemmas.Str.Parse.{digit_from_value}
 use Rattle.semiring_laws.specs.Semiring.{Fits}
 use Rattle.semiring_laws.specs.Reach.{reach_operations}
 use Rattle.cost_weights.specs.Cost.{cost_operations}
-use Rattle.system_text.specs.declared.document.WeightText.{WeightText}
-use Rattle.system_text.specs.declared.document.WeightText.TheVariants.{One, Number}
+use Rattle.document_forms.specs.declared.weight.WeightText.{WeightText}
+use Rattle.document_forms.specs.declared.weight.WeightText.TheVariants.{One, Zero, Number, Facts, Forms, Actions}
 use Rattle.document_systems.specs.Weights.{reach_weight, reach_text, cost_weight, cost_text, IsCap}
 
 pub reach_weights_fit : (t : WeightText) → Unit {0} → Fits reach_operations (reach_weight t)
@@ -33,8 +33,12 @@ fits_within : (n cap : ℕ) → n ≤ cap → IsTrue (nat_le n cap)
 fits_within n cap low = grind (arith, nat_tests)
 
 pub cost_weights_fit : (cap : ℕ) (t : WeightText) → IsCap cap → Fits (cost_operations cap) (cost_weight cap t)
-cost_weights_fit cap One is = fits_within 0 cap (omega arith)
+cost_weights_fit cap Zero is = refl
 cost_weights_fit cap (Number n) is = fits_within (min n cap) cap (omega arith)
+cost_weights_fit cap One is = fits_within 0 cap (omega arith)
+cost_weights_fit cap (Facts ss) is = fits_within 0 cap (omega arith)
+cost_weights_fit cap (Forms ps) is = fits_within 0 cap (omega arith)
+cost_weights_fit cap (Actions acts) is = fits_within 0 cap (omega arith)
 
 -- a number begins with a digit, and has digits alone
 no_letter : (ds rest more : List ℕ) → AllDigits 10 ds → 0 < length ds → ds ++ rest ≡ 117 ∷ more → ⊥

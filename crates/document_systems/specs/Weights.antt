@@ -7,13 +7,14 @@ use Rattle.semiring_laws.specs.declared.reach.Reach.{Reach}
 use Rattle.semiring_laws.specs.declared.reach.NoMap.{NoMap}
 use Rattle.semiring_laws.specs.declared.reach.NoMap.TheVariants.{Plain}
 use Rattle.cost_weights.specs.Cost.{cost_operations}
-use Rattle.system_text.specs.declared.document.WeightText.{WeightText}
-use Rattle.system_text.specs.declared.document.WeightText.TheVariants.{One, Number}
+use Rattle.document_forms.specs.declared.weight.WeightText.{WeightText}
+use Rattle.document_forms.specs.declared.weight.WeightText.TheVariants.{One, Zero, Number}
 use Rattle.document_systems.specs.Kinds.{Kind}
 
--- with reachability each rule has the weight one
+-- with reachability a rule leads on, unless its weight is `none`
 abbrev pub reach_weight : WeightText → Bool
-reach_weight text = true
+reach_weight Zero = false
+reach_weight _ = true
 
 abbrev pub reach_text : Bool → List ℕ
 reach_text true = codes "reachable"
@@ -31,8 +32,9 @@ reach_kind = record {
 
 -- with costs a rule without weight costs nothing, and a number over the cap is the cap
 abbrev pub cost_weight : ℕ → WeightText → Option ℕ
-cost_weight cap One = Some 0
+cost_weight cap Zero = None
 cost_weight cap (Number n) = Some (min n cap)
+cost_weight cap _ = Some 0
 
 -- the caps that a document can name
 abbrev pub IsCap : ℕ → Type 0

@@ -3,17 +3,16 @@ ghost use Rattle.semiring_laws.specs.Semiring.{Fits};
 ghost use Rattle.pushdown_rules.specs.Configuration.{Configuration};
 ghost use Rattle.pushdown_rules.specs.Pushdown.{IsSystem};
 ghost use Rattle.config_patterns.specs.Membership.{has_member};
-ghost use Rattle.system_text.specs.declared.document.ConfigText.{ConfigText};
-ghost use Rattle.system_text.specs.declared.document.Document.{Document};
-ghost use Rattle.system_text.specs.Documents.{IsDocument};
-ghost use Rattle.document_systems.specs.Systems.{configuration_of, pattern_of, system_of};
+ghost use Rattle.document_forms.specs.Documents.{Document};
+ghost use Rattle.document_forms.specs.Lawful.{IsDocument};
+ghost use Rattle.document_systems.specs.Systems.{as_pattern, pattern_of, system_of};
 
 use crate::DocumentWeights;
 
 /// A side of a query that is written as one configuration has that configuration as its one member.
 pub fn configurations_are_their_own_members()
-    ensures { (symbols : ℕ) (c : ConfigText) (d : Configuration)
-        → IsTrue (has_member (pattern_of symbols c) d) ↔ (d ≡ configuration_of c) }
+    ensures { (symbols : ℕ) (c d : Configuration)
+        → IsTrue (has_member (pattern_of symbols (as_pattern c)) d) ↔ (d ≡ c) }
 {}
 
 /// The text of zero is `unreachable`, and no other value's is.

@@ -1,13 +1,15 @@
-//! What a document means: its system over the semiring of its weights, and the patterns of its query.
+//! What a document means: its system over the semiring of its weights, and the patterns of its queries.
 #![tactic(auto)]
 
 mod laws;
+mod pattern;
 mod system;
 mod weights;
 
 pub use laws::{configurations_are_their_own_members, documents_are_systems, unreachable_is_zero};
-pub use system::{pattern_from, system_from};
-pub use weights::DocumentWeights;
+pub use pattern::pattern_from;
+pub use system::system_from;
+pub use weights::{DocumentWeights, Names};
 
 #[cfg(test)]
 mod tests;

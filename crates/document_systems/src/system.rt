@@ -1,16 +1,13 @@
-ghost use Rattle.std.specs.Prelude.{◌≡◌, ◌≤◌, ◌<◌, ◌++◌, ◌∷◌, [], false, length, All, IfOk, OnOk, IfSome, None, is_some, option_map};
+ghost use Rattle.std.specs.Prelude.{◌≡◌, ◌++◌, ◌∷◌, [], IfOk, OnOk, IfSome, None, is_some, option_map};
 ghost use Rattle.semiring_laws.specs.Semiring.{FitsMap};
-ghost use Rattle.config_patterns.specs.Fault.{item_fault};
 ghost use Rattle.pushdown_rules.specs.Fault.{rule_fault};
-ghost use Rattle.wpds_base.specs.Limits.{most_items};
-ghost use Rattle.system_text.specs.Documents.{IsDocument};
-ghost use Rattle.document_systems.specs.Systems.{rule_of, system_of, one_symbol, pattern_of};
+ghost use Rattle.document_forms.specs.Lawful.{IsDocument};
+ghost use Rattle.document_systems.specs.Systems.{rule_of, system_of};
 
-use crate::DocumentWeights;
-use config_patterns::{Pattern, PatternFault};
+use crate::{DocumentWeights, Names};
+use document_forms::{Document, MapText, RuleLine};
 use pushdown_rules::{RuleFault, System};
 use std::alloc::Global;
-use system_text::{ConfigText, Document, MapText, RuleLine};
 use wpds_base::OutOfMemory;
 
 // What the return map of a rule is worth, if one is written.
@@ -61,7 +58,7 @@ fn add_line<S: DocumentWeights>(
 pub fn system_from<S: DocumentWeights>(
     alloc: Global,
     semiring: S,
-    document: &Document,
+    document: &Document<Names>,
 ) -> Result<System<S>, OutOfMemory>
     requires { IsDocument document.now }
     ensures { IfOk result (λ s. s ≡ system_of S.kind semiring document.now) }
@@ -73,30 +70,4 @@ pub fn system_from<S: DocumentWeights>(
         add_line(alloc, &mut system, line)?;
     }
     Ok(system)
-}
-
-// Adds an item of one symbol that is not refused.
-fn add_symbol(alloc: Global, pattern: &mut Pattern, symbol: u32) -> Result<(), OutOfMemory>
-    requires { item_fault pattern.old (symbol ∷ []) false ≡ None }
-    ensures { let items = pattern.old.items ++ one_symbol symbol ∷ [] in
-        OnOk result (pattern.new ≡ record pattern.old { items = items }) }
-{
-    match pattern.add_item(alloc, &[symbol], false) {
-        Ok(()) => Ok(()),
-        Err(PatternFault::Memory) => Err(OutOfMemory),
-        Err(_) => unreachable!(),
-    }
-}
-
-/// The pattern that a side of a query is, over so many symbols: its one member is the configuration that it writes.
-pub fn pattern_from(alloc: Global, symbols: u32, text: &ConfigText) -> Result<Pattern, OutOfMemory>
-    requires below { All (λ g. g < symbols) text.now.stack }
-    requires short { length text.now.stack ≤ most_items }
-    ensures { IfOk result (λ p. p ≡ pattern_of symbols text.now) }
-{
-    let mut pattern = Pattern::new(alloc, text.control, symbols);
-    for symbol in text.stack.as_slice() {
-        add_symbol(alloc, &mut pattern, *symbol)?;
-    }
-    Ok(pattern)
 }

@@ -1,17 +1,21 @@
 ghost use Rattle.std.specs.Prelude.{◌≡◌, ◌↔◌, ℕ, List, IfOk, codes, refl};
 ghost use Rattle.std.specs.String.{string_bytes};
 ghost use Rattle.semiring_laws.specs.Semiring.{Fits, FitsMap};
-ghost use Rattle.system_text.specs.declared.document.WeightText.{WeightText as WeightTextValue};
-ghost use Rattle.system_text.specs.declared.document.MapText.{MapText as MapTextValue};
+ghost use Rattle.document_forms.specs.declared.weight.WeightText.{WeightText as WeightTextValue};
+ghost use Rattle.document_forms.specs.declared.document.MapText.{MapText as MapTextValue};
 ghost use Rattle.document_systems.specs.Kinds.{Kind};
 ghost use Rattle.document_systems.specs.Weights.{reach_kind, cost_kind};
 ghost use Rattle.document_systems.specs.WeightLaws.{reach_tells, cost_tells, reach_weights_fit, cost_weights_fit, reach_zero, cost_zero};
 
 use cost_weights::Cost;
+use document_forms::{MapText, WeightText};
 use semiring_laws::{NoMap, Reach, Semiring};
 use std::alloc::Global;
-use system_text::{MapText, Names, WeightText};
-use wpds_base::OutOfMemory;
+use wpds_base::{OutOfMemory, Sequence};
+use wpds_port::Text;
+
+/// The names of a class of a document, in the order in which they are declared.
+pub type Names = Sequence<Text>;
 
 /// A semiring that a document can name: what its weights are worth, and how a value is written.
 pub trait DocumentWeights: Semiring {
@@ -67,8 +71,11 @@ impl DocumentWeights for Reach {
 
     ghost tells_zero = { λ s items v named fit. reach_zero v };
 
-    fn weight_of(&self, _alloc: Global, _text: &WeightText) -> Result<bool, OutOfMemory> {
-        Ok(true)
+    fn weight_of(&self, _alloc: Global, text: &WeightText) -> Result<bool, OutOfMemory> {
+        match text {
+            WeightText::Zero => Ok(false),
+            _ => Ok(true),
+        }
     }
 
     fn map_of(&self, _alloc: Global, _text: &MapText) -> Result<NoMap, OutOfMemory> {
@@ -96,8 +103,9 @@ impl DocumentWeights for Cost {
 
     fn weight_of(&self, _alloc: Global, text: &WeightText) -> Result<Option<u64>, OutOfMemory> {
         match text {
-            WeightText::One => Ok(self.number(0)),
+            WeightText::Zero => Ok(None),
             WeightText::Number(n) => Ok(self.number(*n)),
+            _ => Ok(self.number(0)),
         }
     }
 

@@ -1,6 +1,8 @@
 ghost use Rattle.std.specs.Prelude.{◌≡◌, ◌<◌, IfOk};
+ghost use Rattle.config_patterns.specs.Membership.{PatternValue};
 ghost use Rattle.pattern_openings.specs.PatternOpenings.{IsOver};
 ghost use Rattle.prestar_laws.specs.Ways.{pre_way};
+ghost use Rattle.pushdown_rules.specs.Pushdown.{Pushdown};
 ghost use Rattle.query_answers.specs.Answering.{IsSaturatedFrom, IsAnswer};
 
 use config_patterns::Pattern;
@@ -14,17 +16,36 @@ use std::alloc::Global;
 use worker_pool::saturate_alone;
 use wpds_base::OutOfMemory;
 
-// The finished saturation backwards from a pattern.
-fn saturated<'s, S: Semiring>(
+/// A book that is saturated backwards from a pattern: all queries to this pattern are answered over it.
+pub type Saturation<'s, S> = Book<'s, S, Pre>;
+
+/// The finished saturation backwards from a pattern, by one worker. Refused only when out of memory.
+pub fn saturate<'s, S: Semiring>(
     alloc: Global,
     system: &'s System<S>,
     to: &Pattern,
-) -> Result<Book<'s, S, Pre>, OutOfMemory>
+) -> Result<Saturation<'s, S>, OutOfMemory>
     requires { IsOver system.now.controls system.now.symbols to.now }
     ensures { IfOk result (IsSaturatedFrom S.operations (pre_way S.operations) system.now to.now) }
 {
     let opened = pre_opening(alloc, system, to)?;
     saturate_alone(alloc, opened)
+}
+
+/// The answer to the query for runs from a pattern to the one that the saturation starts from: the sum over the paths
+/// that read the first. Refused only when out of memory.
+pub fn answer_over<S: Semiring>(
+    alloc: Global,
+    saturation: &Saturation<'_, S>,
+    from: &Pattern,
+) -> Result<Answer<S>, OutOfMemory>
+    requires { from.now.control < saturation.now.system.controls }
+    ensures { (p : Pushdown S S.W S.Ret) (to : PatternValue) → to.control < p.controls
+        → IsSaturatedFrom S.operations (pre_way S.operations) p to saturation.now
+        → IfOk result (IsAnswer S.operations p from.now to) }
+{
+    openings_read_members();
+    sum(alloc, saturation, from)
 }
 
 /// The answer to the query for runs from a pattern to a pattern: backwards from the second, by one worker, and then the
@@ -39,7 +60,6 @@ pub fn answer<S: Semiring>(
     requires to { IsOver system.now.controls system.now.symbols to.now }
     ensures { IfOk result (IsAnswer S.operations system.now from.now to.now) }
 {
-    openings_read_members();
-    let book = saturated(alloc, system, to)?;
-    sum(alloc, &book, from)
+    let saturation = saturate(alloc, system, to)?;
+    answer_over(alloc, &saturation, from)
 }

@@ -3,4 +3,4 @@
 
 mod answering;
 
-pub use answering::answer;
+pub use answering::{Saturation, answer, answer_over, saturate};

@@ -1,3 +1,5 @@
+mod InputLemmas
+mod KeptLemmas
 mod PartLemmas
 mod QueryLemmas
 mod ReplyLemmas

@@ -1,6 +1,6 @@
 -- Texts of a part for each query.
 use Rattle.std.proofs.Common.{◌≡◌, ℕ, ◌+◌, List, [], ◌∷◌, ◌++◌, length, refl, sym, ap, subst, ◌∙◌, append-nil, append_assoc, arith}
-use Rattle.system_text.specs.declared.document.QueryLine.{QueryLine}
+use Rattle.document_forms.specs.declared.document.QueryLine.{QueryLine}
 use Rattle.wpds_app.specs.Reports.{ByQuery}
 
 -- what follows of each part follows of the text

@@ -7,8 +7,6 @@ use Rattle.std.specs.String.{string_bytes}
 use Rattle.std.proofs.lemmas.List.{take_all}
 use Rattle.wpds_port.specs.Refusals.{refusal_text}
 use Rattle.wpds_port.specs.declared.refusal.Refusal.{Refusal}
-use Rattle.system_text.specs.FirstForm.{IsFirstForm}
-use Rattle.system_text.specs.declared.document.Document.{Document}
 use Rattle.wpds_app.specs.declared.input.Input.{Input}
 use Rattle.wpds_app.specs.declared.input.Input.TheVariants.{System}
 use Rattle.wpds_app.specs.declared.words.Options.{Options}
@@ -17,7 +15,8 @@ use Rattle.wpds_app.specs.declared.status.Status.TheVariants.{Answered, WordsRef
 use Rattle.wpds_app.specs.declared.reply.Reply.{Reply}
 use Rattle.wpds_port.specs.declared.refusal.ReadFault.{ReadFault as ReadFaultValue}
 use Rattle.wpds_port.specs.declared.refusal.ReadFault.TheVariants.{Refused}
-use Rattle.wpds_app.specs.Running.{IsInput, IsAccepted, IsRefused, IsUnread, HasForm, IsReply, HasReply, IsDecided, IsDecidedBy}
+use Rattle.wpds_app.specs.Running.{IsInput, Means, IsAccepted, IsRefused, IsUnread, IsReply, HasReply, IsDecided, IsDecidedBy}
+use Rattle.wpds_app.proofs.InputLemmas.{NeverBoth, OneDocument, accepted_not_refused}
 
 -- a refusal's line is the answer to an input that it refuses
 pub refused_replies : {E : Type 0} (input : List ℕ) (options : Options) (refusal : Refusal) (r : Result Reply E) → IfOk r (λ x. x.status ≡ DocumentRefused)
@@ -25,24 +24,19 @@ pub refused_replies : {E : Type 0} (input : List ℕ) (options : Options) (refus
 refused_replies input options refusal (Ok x) status text refused = subst (λ s. IsReply input options s (string_bytes x.text)) (sym status) (refusal, refused, text)
 refused_replies input options refusal (Err e) status text refused = tt
 
--- an input is accepted or refused, and not both
-accepted_not_refused : (input : List ℕ) (d : Input) (r : Refusal) → IsAccepted input d → IsRefused input r → ⊥
-accepted_not_refused input d r accepted (inl too_long) = absurd (let short = accepted.short in omega arith)
-accepted_not_refused input d r accepted (inr none) = none.1 d accepted.form
-
-decided : (input : List ℕ) (options : Options) (text : List ℕ) (status : Status) → IsReply input options status text → IsDecidedBy input status
-decided input options text Answered reply = record {
+decided : NeverBoth → OneDocument → (input : List ℕ) (options : Options) (text : List ℕ) (status : Status) → IsReply input options status text → IsDecidedBy input status
+decided both one input options text Answered reply = record {
   answered = (λ _. (reply.0, reply.1), λ _. refl);
-  refused = (λ e. cc, λ r. absurd (accepted_not_refused input reply.0 r.0 reply.1 r.1));
+  refused = (λ e. cc, λ r. absurd (accepted_not_refused both one input reply.0 r.0 reply.1 r.1));
 }
-decided input options text DocumentRefused reply = record {
-  answered = (λ e. cc, λ d. absurd (accepted_not_refused input d.0 reply.0 d.1 reply.1));
+decided both one input options text DocumentRefused reply = record {
+  answered = (λ e. cc, λ d. absurd (accepted_not_refused both one input d.0 reply.0 d.1 reply.1));
   refused = (λ _. (reply.0, reply.1), λ _. refl);
 }
-decided input options text WordsRefused reply = absurd reply
-decided input options text ReadFault reply = absurd reply
-decided input options text WriteFault reply = absurd reply
-decided input options text OutOfMemory reply = absurd reply
+decided both one input options text WordsRefused reply = absurd reply
+decided both one input options text ReadFault reply = absurd reply
+decided both one input options text WriteFault reply = absurd reply
+decided both one input options text OutOfMemory reply = absurd reply
 
 beginning_by : (b : Bool) (n : ℕ) (bytes input rest : List ℕ) → nat_lt (length input) n ≡ b → bytes ≡ input ++ rest → length input ≤ n → (length input < n → rest ≡ []) → input ≡ take n bytes
 beginning_by true n bytes input rest test joined within whole =
@@ -62,16 +56,16 @@ decided_unfaulted status (inl e) fault = cc
 decided_unfaulted status (inr e) fault = cc
 
 -- where the source tells its bytes, they decide
-decided_by : (bytes : List ℕ) (options : Options) (text : List ℕ) (left_before left_now : Option (List ℕ)) (status : Status) → left_before ≡ Some bytes → HasReply left_before left_now options status text → IsDecidedBy (take 4194305 bytes) status
-decided_by bytes options text before now status told has =
+decided_by : NeverBoth → OneDocument → (bytes : List ℕ) (options : Options) (text : List ℕ) (left_before left_now : Option (List ℕ)) (status : Status) → left_before ≡ Some bytes → HasReply left_before left_now options status text → IsDecidedBy (take 4194305 bytes) status
+decided_by both one bytes options text before now status told has =
     let read : IsInput (Some bytes) now has.input = subst (λ o. IsInput o now has.input) told has.read in
-    subst (λ i. IsDecidedBy i status) (input_is bytes has.input now read) (decided has.input options text status has.reply)
+    subst (λ i. IsDecidedBy i status) (input_is bytes has.input now read) (decided both one has.input options text status has.reply)
 
 -- the answer that was sent, if no fault came
-pub sent_decided : (bytes : List ℕ) (options : Options) (text : List ℕ) (left_before left_now : Option (List ℕ)) (status sent : Status) → left_before ≡ Some bytes → HasReply left_before left_now options status text
+pub sent_decided : NeverBoth → OneDocument → (bytes : List ℕ) (options : Options) (text : List ℕ) (left_before left_now : Option (List ℕ)) (status sent : Status) → left_before ≡ Some bytes → HasReply left_before left_now options status text
     → (sent ≢ WriteFault → sent ≡ status) → IsDecided sent → IsDecidedBy (take 4194305 bytes) sent
-sent_decided bytes options text before now status sent told has kept done =
-    subst (IsDecidedBy (take 4194305 bytes)) (sym (kept (decided_unfaulted sent done))) (decided_by bytes options text before now status told has)
+sent_decided both one bytes options text before now status sent told has kept done =
+    subst (IsDecidedBy (take 4194305 bytes)) (sym (kept (decided_unfaulted sent done))) (decided_by both one bytes options text before now status told has)
 
 reply_decides : (input : List ℕ) (options : Options) (text : List ℕ) (status : Status) → IsReply input options status text → IsDecided status
 reply_decides input options text Answered reply = inl refl
@@ -87,13 +81,9 @@ pub sent_decides : (options : Options) (text : List ℕ) (left_before left_now :
 sent_decides options text before now status sent has kept unfaulted = subst IsDecided (sym (kept unfaulted)) (reply_decides has.input options text status has.reply)
 
 -- what an input means, and why it is refused, if that is its meaning's call's result
-module _ (input : List ℕ) (r : Result Input ReadFaultValue) (told : MatchResult r (IsAccepted input) (IsUnread input)) where
-  pub accepted_as : (meaning : Input) → r ≡ Ok meaning → IsAccepted input meaning
-  accepted_as meaning is = subst (λ x. MatchResult x (IsAccepted input) (IsUnread input)) is told
+module _ (input : List ℕ) (r : Result Input ReadFaultValue) (told : MatchResult r (Means input) (IsUnread input)) where
+  pub meant_as : (meaning : Input) → r ≡ Ok meaning → Means input meaning
+  meant_as meaning is = subst (λ x. MatchResult x (Means input) (IsUnread input)) is told
 
   pub refused_as : (refusal : Refusal) → r ≡ Err (Refused refusal) → IsRefused input refusal
-  refused_as refusal is = subst (λ x. MatchResult x (IsAccepted input) (IsUnread input)) is told
-
--- what is no document means nothing
-pub no_meaning : (input : List ℕ) → ((d : Document) → IsFirstForm input d → ⊥) → (meaning : Input) → HasForm input meaning → ⊥
-no_meaning input none (System d) form = none d form
+  refused_as refusal is = subst (λ x. MatchResult x (Means input) (IsUnread input)) is told

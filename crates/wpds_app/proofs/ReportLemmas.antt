@@ -1,6 +1,6 @@
 -- Reports on reachability.
 use Rattle.std.proofs.Common.{◌≡◌, inl, inr, ℕ, zero, suc, Bool, true, false, ◌&&◌, ◌||◌, List, [], ◌∷◌, map, length, Option, Some, None, refl, sym, ap, subst, ◌∙◌}
-use Rattle.std.specs.Prelude.{codes, slice_get, unwrap_or, if◌then◌else◌}
+use Rattle.std.specs.Prelude.{◌≢◌, IfSome, codes, slice_get, unwrap_or, if◌then◌else◌}
 use Rattle.std.specs.List.{AllByRecursion}
 use Rattle.semiring_laws.specs.declared.reach.Reach.{Reach as ReachValue}
 use Rattle.semiring_laws.specs.declared.reach.NoMap.{NoMap}
@@ -13,22 +13,23 @@ use Rattle.pushdown_rules.specs.RunValue.{Frame, Machine, starting, called, retu
 use Rattle.pushdown_rules.specs.Values.{rules_of, value_of}
 use Rattle.pushdown_rules.specs.Answers.{Answers, Leads}
 use Rattle.config_patterns.specs.Membership.{has_member}
-use Rattle.system_text.specs.declared.document.Document.{Document}
-use Rattle.system_text.specs.declared.document.RuleLine.{RuleLine}
-use Rattle.system_text.specs.declared.document.QueryLine.{QueryLine}
-use Rattle.system_text.specs.declared.document.ConfigText.{ConfigText}
+use Rattle.document_forms.specs.Documents.{Document}
+use Rattle.document_forms.specs.declared.document.RuleLine.{RuleLine}
+use Rattle.document_forms.specs.declared.document.QueryLine.{QueryLine}
+use Rattle.document_forms.specs.declared.pattern.PatternText.{PatternText}
+use Rattle.document_forms.specs.declared.weight.WeightText.{WeightText}
+use Rattle.document_forms.specs.declared.weight.WeightText.TheVariants.{One, Zero, Number, Facts, Forms, Actions}
+use Rattle.document_forms.specs.declared.weight.WeightsLine.TheVariants.{Reach}
 use Rattle.pushdown_rules.specs.Configuration.{Configuration}
-use Rattle.system_text.specs.declared.document.WeightsLine.TheVariants.{Reach}
-use Rattle.document_systems.specs.Weights.{reach_kind, reach_text}
-use Rattle.document_systems.specs.Systems.{rule_of, system_of, configuration_of, side_of}
-use Rattle.document_systems.proofs.CallerLemmas.{one_member}
+use Rattle.document_systems.specs.Weights.{reach_kind, reach_text, reach_weight}
+use Rattle.document_systems.specs.Systems.{rule_of, system_of, side_of}
 use Rattle.path_sum.specs.Answers.{listed_runs}
 use Rattle.wpds_app.specs.declared.words.Options.{Options}
-use Rattle.wpds_app.specs.Reports.{ByQuery, shown, query_text, IsQueryText, IsReportBy, IsReport, IsReachable, TellsReachability}
+use Rattle.wpds_app.specs.Reports.{ByQuery, shown, query_text, IsQueryText, BySemiring, IsReported, IsReport, LeadsOn, IsReachable, TellsReachability}
 use Rattle.wpds_app.proofs.QueryLemmas.{unlisted_line}
 use Rattle.wpds_app.proofs.PartLemmas.{of_each}
 
--- ---- with reachability each run of a document's rules has the value one
+-- ---- with reachability a run has the value one exactly where each of its rules has
 
 abbrev IsOneRule : Rule ReachValue Bool NoMap → Type 0
 IsOneRule r = r.weight ≡ true
@@ -71,49 +72,125 @@ value_one : (rs : List (Rule ReachValue Bool NoMap)) (m : Machine Bool NoMap) �
 value_one [] m all good = product_one m.frames m.accumulator good.1 good.0
 value_one (r ∷ rs) m all good = value_one rs (machine_after reach_operations r m) all.1 (by_right_one r.right r m all.0 good)
 
--- the rules that a document's lines make
-line_one : (lines : List RuleLine) (k : ℕ) (r : Rule ReachValue Bool NoMap) → slice_get (map (rule_of reach_kind (record {})) lines) k ≡ Some r → IsOneRule r
-line_one [] k r e = cc
-line_one (l ∷ ls) zero r e = let q : rule_of reach_kind (record {}) l ≡ r = cc in ap (λ x. x.weight) (sym q)
-line_one (l ∷ ls) (suc k) r e = line_one ls k r e
+-- ---- and no other run has
+
+saved_one : (a b : Bool) → (a && b) ≡ true → (a ≡ true) × (b ≡ true)
+saved_one true b e = (refl, e)
+saved_one false b e = cc
+
+product_is_one : (fs : List (Frame Bool NoMap)) (value : Bool) → product reach_operations fs value ≡ true → IsOneMachine (record { accumulator = value; frames = fs })
+product_is_one [] value one = (one, tt)
+product_is_one (f ∷ fs) value one =
+    let all = product_is_one fs (f.saved && value) one in
+    let both = saved_one f.saved value all.0 in
+    (both.1, (both.0, all.1))
+
+returned_was_one : (value : Bool) (fs : List (Frame Bool NoMap)) → IsOneMachine (returned reach_operations value fs) → (value ≡ true) × AllByRecursion IsOneFrame fs
+returned_was_one value [] one = one
+returned_was_one value (f ∷ fs) one =
+    let both = saved_one f.saved value one.0 in
+    (both.1, (both.0, one.1))
+
+by_right_was_one : (right : List ℕ) (r : Rule ReachValue Bool NoMap) (m : Machine Bool NoMap) → IsOneMachine (by_right right r m) → IsOneRule r × IsOneMachine m
+by_right_was_one [] r m one =
+    let back = returned_was_one (m.accumulator && r.weight) m.frames one in
+    let both = saved_one m.accumulator r.weight back.0 in
+    (both.1, (both.0, back.1))
+by_right_was_one (g ∷ []) r m one = let both = saved_one m.accumulator r.weight one.0 in (both.1, (both.0, one.1))
+by_right_was_one (g ∷ h ∷ hs) r m one = (one.0, (one.1.0, one.1.1))
+
+value_was_one : (rs : List (Rule ReachValue Bool NoMap)) (m : Machine Bool NoMap) → value_from reach_operations m rs ≡ true → IsOneMachine m × AllByRecursion IsOneRule rs
+value_was_one [] m one = (product_is_one m.frames m.accumulator one, tt)
+value_was_one (r ∷ rs) m one =
+    let rest = value_was_one rs (machine_after reach_operations r m) one in
+    let first = by_right_was_one r.right r m rest.0 in
+    (first.1, (first.0, rest.1))
+
+-- ---- a rule has the weight one unless it has none
+
+weighs_one : (t : WeightText) → t ≢ Zero → reach_weight t ≡ true
+weighs_one One some = refl
+weighs_one Zero some = absurd (some refl)
+weighs_one (Number n) some = refl
+weighs_one (Facts ss) some = refl
+weighs_one (Forms ps) some = refl
+weighs_one (Actions acts) some = refl
+
+weighs_some : (t : WeightText) → reach_weight t ≡ true → t ≢ Zero
+weighs_some t one zero = let none : reach_weight t ≡ false = ap reach_weight zero in cc
+
+abbrev made : List RuleLine → List (Rule ReachValue Bool NoMap)
+made lines = map (rule_of reach_kind (record {})) lines
+
+-- a number names a rule and its line, or neither
+data Named (lines : List RuleLine) (k : ℕ) : Type 0 where
+  Neither : slice_get lines k ≡ None → slice_get (made lines) k ≡ None → Named lines k
+  Both : (l : RuleLine) → slice_get lines k ≡ Some l → slice_get (made lines) k ≡ Some (rule_of reach_kind (record {}) l) → Named lines k
+
+named : (lines : List RuleLine) (k : ℕ) → Named lines k
+named [] k = Neither refl refl
+named (l ∷ ls) zero = Both l refl refl
+named (l ∷ ls) (suc k) = elim (named ls k) [
+  | Neither none nothing ↦ Neither none nothing
+  | Both m line rule ↦ Both m line rule
+]
 
 module _ (d : Document) where
   abbrev system : Pushdown ReachValue Bool NoMap
   system = system_of reach_kind (record {}) d
 
-  rules_one : (run : List ℕ) → AllByRecursion IsOneRule (rules_of reach_operations system run)
-  rules_one [] = tt
-  rules_one (k ∷ ks) = go (slice_get system.rules k) refl (rules_one ks)
-    where
-      go : (o : Option (Rule ReachValue Bool NoMap)) → slice_get system.rules k ≡ o → AllByRecursion IsOneRule (rules_of reach_operations system ks) → AllByRecursion IsOneRule (rules_of reach_operations system (k ∷ ks))
-      go None is rest = rw is rest
-      go (Some r) is rest = rw is (line_one d.rules k r is, rest)
+  abbrev rules : List ℕ → List (Rule ReachValue Bool NoMap)
+  rules run = rules_of reach_operations system run
 
-  run_one : (run : List ℕ) → value_of reach_operations system run ≡ true
-  run_one run = value_one (rules_of reach_operations system run) (starting reach_operations) (rules_one run) (refl, tt)
+  rules_one : (run : List ℕ) → LeadsOn d run → AllByRecursion IsOneRule (rules run)
+  rules_one [] on = tt
+  rules_one (k ∷ ks) on = go (named d.rules k)
+    where
+      go : Named d.rules k → AllByRecursion IsOneRule (rules (k ∷ ks))
+      go (Neither none nothing) = rw nothing (rules_one ks on.1)
+      go (Both l line rule) =
+          let some : l.weight ≢ Zero = subst (λ o. IfSome o (λ r. r.weight ≢ Zero)) line on.0 in
+          rw rule (weighs_one l.weight some, rules_one ks on.1)
+
+  rules_lead : (run : List ℕ) → AllByRecursion IsOneRule (rules run) → LeadsOn d run
+  rules_lead [] one = tt
+  rules_lead (k ∷ ks) one = go (named d.rules k) one
+    where
+      go : Named d.rules k → AllByRecursion IsOneRule (rules (k ∷ ks)) → LeadsOn d (k ∷ ks)
+      go (Neither none nothing) one =
+          let rest : AllByRecursion IsOneRule (rules ks) = rw (← nothing) one in
+          (rw none tt, rules_lead ks rest)
+      go (Both l line rule) one =
+          let all : AllByRecursion IsOneRule (rule_of reach_kind (record {}) l ∷ rules ks) = rw (← rule) one in
+          (rw line (weighs_some l.weight all.0), rules_lead ks all.1)
+
+  run_one : (run : List ℕ) → LeadsOn d run → value_of reach_operations system run ≡ true
+  run_one run on = value_one (rules run) (starting reach_operations) (rules_one run on) (refl, tt)
+
+  run_leads : (run : List ℕ) → value_of reach_operations system run ≡ true → LeadsOn d run
+  run_leads run one = rules_lead run (value_was_one (rules run) (starting reach_operations) one).1
 
   -- ---- what the text of a query says
 
   module _ (q : QueryLine) where
-    abbrev side : ConfigText → Configuration → Bool
-    side c = has_member (side_of d c)
+    abbrev side : PatternText → Configuration → Bool
+    side p = has_member (side_of d p)
 
-    reached : (runs : List (List ℕ)) → AllByRecursion (Leads reach_operations system (side q.from) (side q.to)) runs
-        → true ≡ combination reach_operations (map (value_of reach_operations system) runs) → IsReachable d q
+    abbrev IsRun : List ℕ → Type 0
+    IsRun run = Leads reach_operations system (side q.from) (side q.to) run
+
+    reached : (runs : List (List ℕ)) → AllByRecursion IsRun runs → true ≡ combination reach_operations (map (value_of reach_operations system) runs) → IsReachable d q
     reached [] lead some = cc
-    reached (r ∷ rs) lead some =
-        let first = lead.0 in
-        let from = (one_member (length d.symbols) q.from first.0).0 first.2 in
-        let to = (one_member (length d.symbols) q.to first.1).0 first.3 in
-        let run = first.4 in
-        (r, subst (λ c. Run system c r (configuration_of q.to)) from (subst (λ e. Run system first.0 r e) to run))
+    reached (r ∷ rs) lead some = go (value_of reach_operations system r) refl
+      where
+        go : (b : Bool) → value_of reach_operations system r ≡ b → IsReachable d q
+        go true one = (r, run_leads r one, lead.0)
+        go false none = reached rs lead.1 (some ∙ ap (λ b. b || combination reach_operations (map (value_of reach_operations system) rs)) none)
 
     never : (value : Bool) → value ≡ false → (runs : List (List ℕ)) → Answers reach_operations system (side q.from) (side q.to) value runs → IsReachable d q → ⊥
-    never value nothing runs answers (run, leads) =
-        let from = (one_member (length d.symbols) q.from (configuration_of q.from)).1 refl in
-        let to = (one_member (length d.symbols) q.to (configuration_of q.to)).1 refl in
-        let below : (value || value_of reach_operations system run) ≡ value = answers.below run (configuration_of q.from, configuration_of q.to, from, to, leads) in
-        let one = run_one run in
+    never value nothing runs answers (run, on, leads) =
+        let below : (value || value_of reach_operations system run) ≡ value = answers.below run leads in
+        let one = run_one run on in
         cc (below, nothing, one)
 
     told : (options : Options) (i : ℕ) (text : List ℕ) → IsQueryText reach_kind options system d.items i (side_of d q.from) (side_of d q.to) text → TellsReachability d i q text
@@ -135,4 +212,6 @@ module _ (d : Document) where
             )
 
 pub tells : (d : Document) (options : Options) (report : List ℕ) → d.weights ≡ Reach → IsReport options d report → ByQuery (TellsReachability d) 1 d.queries report
-tells d options report reach is = of_each (λ i q text h. told d q options i text h) 1 d.queries report (subst (λ w. IsReportBy w options d report) reach is)
+tells d options report reach is =
+    of_each (λ i q text h. told d q options i text h) 1 d.queries report
+    (subst (λ w. BySemiring (λ kind semiring. IsReported kind options semiring d report) w) reach is)

@@ -2,3 +2,4 @@ pub mod Commands
 pub mod Reports
 pub mod Running
 pub mod Statuses
+pub mod private

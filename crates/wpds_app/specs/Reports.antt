@@ -1,6 +1,8 @@
 -- The report on a document.
-use Rattle.std.specs.Prelude.{◌≡◌, ◌⊎◌, ◌↔◌, ℕ, ◌+◌, ◌<◌, ◌≤◌, List, [], ◌∷◌, ◌++◌, Option, None, Some, codes, decimal, if◌then◌else◌}
+use Rattle.std.specs.Prelude.{◌≡◌, ◌≢◌, ◌⊎◌, ◌↔◌, ℕ, ◌+◌, ◌<◌, ◌≤◌, List, [], ◌∷◌, ◌++◌, Option, None, Some, IfSome, codes, decimal, slice_get, if◌then◌else◌}
+use Rattle.std.specs.List.{AllByRecursion}
 use Rattle.semiring_laws.specs.declared.reach.NoMap.{NoMap}
+use Rattle.semiring_laws.specs.Reach.{reach_operations}
 use Rattle.cost_weights.specs.Cost.{cost_operations}
 use Rattle.pushdown_rules.specs.Firing.{Run}
 use Rattle.pushdown_rules.specs.Pushdown.{Pushdown}
@@ -8,13 +10,14 @@ use Rattle.pushdown_rules.specs.Values.{value_of}
 use Rattle.pushdown_rules.specs.Answers.{Leads, HasNoFeasibleRun}
 use Rattle.config_patterns.specs.Membership.{PatternValue, has_member}
 use Rattle.witness_graph.specs.declared.listing.Listing.{Listing}
-use Rattle.system_text.specs.declared.document.Document.{Document}
-use Rattle.system_text.specs.declared.document.QueryLine.{QueryLine}
-use Rattle.system_text.specs.declared.document.WeightsLine.{WeightsLine}
-use Rattle.system_text.specs.declared.document.WeightsLine.TheVariants.{Reach, Cost}
+use Rattle.document_forms.specs.Documents.{Document}
+use Rattle.document_forms.specs.declared.document.QueryLine.{QueryLine}
+use Rattle.document_forms.specs.declared.weight.WeightText.TheVariants.{Zero}
+use Rattle.document_forms.specs.declared.weight.WeightsLine.{WeightsLine}
+use Rattle.document_forms.specs.declared.weight.WeightsLine.TheVariants.{Reach, Cost}
 use Rattle.document_systems.specs.Kinds.{Kind}
 use Rattle.document_systems.specs.Weights.{reach_kind, cost_kind}
-use Rattle.document_systems.specs.Systems.{system_of, configuration_of, side_of}
+use Rattle.document_systems.specs.Systems.{system_of, side_of}
 use Rattle.report_text.specs.Listings.{query_line, listing_text}
 use Rattle.path_sum.specs.declared.answer.Answer.{Answer}
 use Rattle.query_answers.specs.Answering.{IsAnswer}
@@ -40,19 +43,29 @@ module _ {S W Map : Type 0} (kind : Kind S W Map) (options : Options) where
     pub is_answer : IsAnswer kind.operations p from to answer
     pub told : text ≡ query_text i options (kind.written p.semiring items answer.value) answer.listing
 
-  -- the report tells an answer to each query of the document, over its system
+  -- the text tells an answer to a query of the document with a number, over its system
+  abbrev pub TellsQuery : S → Document → ℕ → QueryLine → List ℕ → Type 0
+  TellsQuery semiring d i q text =
+      IsQueryText (system_of kind semiring d) d.items i (side_of d q.from) (side_of d q.to) text
+
+  -- the report tells an answer to each query of the document
   abbrev pub IsReported : S → Document → List ℕ → Type 0
-  IsReported semiring d report =
-      ByQuery (λ i q. IsQueryText (system_of kind semiring d) d.items i (side_of d q.from) (side_of d q.to)) 1 d.queries report
+  IsReported semiring d report = ByQuery (TellsQuery semiring d) 1 d.queries report
 
--- the report on a document over the semiring of some weights
-abbrev pub IsReportBy : WeightsLine → Options → Document → List ℕ → Type 0
-IsReportBy Reach options d report = IsReported reach_kind options (record {}) d report
-IsReportBy (Cost most) options d report = IsReported cost_kind options most d report
+-- This holds of the semiring that these weights name, if it is built.
+abbrev pub BySemiring : ({S W Map : Type 0} → Kind S W Map → S → Type 0) → WeightsLine → Type 0
+BySemiring holds Reach = holds reach_kind (record {})
+BySemiring holds (Cost most) = holds cost_kind most
+BySemiring holds _ = ⊥
 
--- the report on a document, over the semiring of its own
+-- the semiring of these weights is built
+abbrev pub IsBuilt : WeightsLine → Type 0
+IsBuilt weights = BySemiring (λ kind semiring. Unit {0}) weights
+
+-- the report on a document, over the semiring that its weights name
 abbrev pub IsReport : Options → Document → List ℕ → Type 0
-IsReport options d report = IsReportBy d.weights options d report
+IsReport options d report =
+    BySemiring (λ kind semiring. IsReported kind options semiring d report) d.weights
 
 -- ---- what the text of a query tells
 
@@ -61,17 +74,21 @@ abbrev pub IsInfeasible : {S W Map : Type 0} → Kind S W Map → S → Document
 IsInfeasible kind semiring d q =
     HasNoFeasibleRun (kind.operations semiring) (system_of kind semiring d) (has_member (side_of d q.from)) (has_member (side_of d q.to))
 
-abbrev pub IsInfeasibleBy : WeightsLine → Document → QueryLine → Type 0
-IsInfeasibleBy Reach d q = IsInfeasible reach_kind (record {}) d q
-IsInfeasibleBy (Cost most) d q = IsInfeasible cost_kind most d q
-
 -- `unreachable` is written exactly when there is none
-abbrev pub TellsFeasibility : WeightsLine → Document → ℕ → QueryLine → List ℕ → Type 0
-TellsFeasibility weights d i q text = (text ≡ query_line i (codes "unreachable")) ↔ IsInfeasibleBy weights d q
+abbrev pub TellsFeasibility : Document → ℕ → QueryLine → List ℕ → Type 0
+TellsFeasibility d i q text =
+    (text ≡ query_line i (codes "unreachable"))
+    ↔ BySemiring (λ kind semiring. IsInfeasible kind semiring d q) d.weights
 
--- with reachability a run leads from the query's first configuration to its second
+-- no rule of the run has the weight `none`
+abbrev pub LeadsOn : Document → List ℕ → Type 0
+LeadsOn d run = AllByRecursion (λ k. IfSome (slice_get d.rules k) (λ r. r.weight ≢ Zero)) run
+
+-- with reachability such a run leads from a member of the query's first pattern to one of its second
 abbrev pub IsReachable : Document → QueryLine → Type 0
-IsReachable d q = (run : List ℕ) × Run (system_of reach_kind (record {}) d) (configuration_of q.from) run (configuration_of q.to)
+IsReachable d q =
+    (run : List ℕ) × LeadsOn d run
+    × Leads reach_operations (system_of reach_kind (record {}) d) (has_member (side_of d q.from)) (has_member (side_of d q.to)) run
 
 -- the text says that one does, or that none does, and that is so
 abbrev pub TellsReachability : Document → ℕ → QueryLine → List ℕ → Type 0

@@ -1,16 +1,20 @@
 -- What a run of the program reads and writes.
-use Rattle.std.specs.Prelude.{◌≡◌, ℕ, ◌+◌, ◌<◌, ◌≤◌, ◌⊎◌, ◌↔◌, List, [], ◌∷◌, ◌++◌, Option, length}
+use Rattle.std.specs.Prelude.{◌≡◌, ℕ, ◌+◌, ◌<◌, ◌≤◌, ◌⊎◌, ◌↔◌, IsTrue, List, [], ◌∷◌, ◌++◌, Option, Some, length}
 use Rattle.std.specs.Io.KnownBytes.{Appends, Consumes, IsAtEnd}
 use Rattle.wpds_port.specs.Writing.{AppendsPart}
-use Rattle.wpds_port.specs.Refusals.{refusal_text}
+use Rattle.wpds_port.specs.Refusals.{refusal, refusal_text}
 use Rattle.wpds_port.specs.declared.refusal.Refusal.{Refusal}
-use Rattle.wpds_port.specs.declared.refusal.Kind.TheVariants.{TooLong, NotBuilt}
-use Rattle.system_text.specs.FirstForm.{IsFirstForm}
+use Rattle.wpds_port.specs.declared.refusal.Kind.TheVariants.{NotBuilt}
+use Rattle.document_forms.specs.Documents.{reads_as}
+use Rattle.document_forms.specs.FirstRefusal.{FirstRefusal, is_short}
+use Rattle.document_forms.specs.Languages.{language_of}
+use Rattle.document_forms.specs.declared.language.Language.TheVariants.{Program}
+use Rattle.document_reader.specs.FirstLines.{first_line}
 use Rattle.wpds_port.specs.declared.refusal.ReadFault.{ReadFault as ReadFaultValue}
 use Rattle.wpds_port.specs.declared.refusal.ReadFault.TheVariants.{Refused, Memory}
 use Rattle.wpds_base.specs.Limits.{most_bytes}
 use Rattle.wpds_app.specs.Commands.{IsCheck, IsCommand, usage_text}
-use Rattle.wpds_app.specs.Reports.{IsReport}
+use Rattle.wpds_app.specs.Reports.{IsBuilt, IsReport}
 use Rattle.wpds_app.specs.declared.input.Input.{Input}
 use Rattle.wpds_app.specs.declared.input.Input.TheVariants.{System}
 use Rattle.wpds_app.specs.declared.words.Options.{Options}
@@ -23,20 +27,40 @@ pub record IsInput (left_before left_now : Option (List ℕ)) (input : List ℕ)
   pub limit : length input ≤ most_bytes + 1
   pub whole : length input < most_bytes + 1 → IsAtEnd left_now
 
--- how an input is written that means this
-abbrev pub HasForm : List ℕ → Input → Type 0
-HasForm input (System d) = IsFirstForm input d
+-- what an input means that is read
+abbrev pub Means : List ℕ → Input → Type 0
+Means input (System d) = reads_as input d
+
+-- what is needed to answer it is built
+abbrev pub IsAnswerable : Input → Type 0
+IsAnswerable (System d) = IsBuilt d.weights
 
 -- the input is answered, and what it means
 pub record IsAccepted (input : List ℕ) (meaning : Input) : Type 0 where
-  pub short : length input ≤ most_bytes
-  pub form : HasForm input meaning
+  pub means : Means input meaning
+  pub answerable : IsAnswerable meaning
 
--- what the refusal of an input is: too many bytes, or none of the forms
+-- the input is a program, which is not read yet
+abbrev pub IsProgram : List ℕ → Type 0
+IsProgram input = IsTrue (is_short input) × (language_of input ≡ Some Program)
+
+-- what is refused as not built on its first line that counts, the header of a program
+abbrev pub IsRefusedProgram : List ℕ → Refusal → Type 0
+IsRefusedProgram input r = IsProgram input × (r ≡ refusal (first_line input) NotBuilt)
+
+-- what is refused as a system
+abbrev pub IsRefusedSystem : List ℕ → Refusal → Type 0
+IsRefusedSystem input r = (IsProgram input → ⊥) × FirstRefusal input r
+
+-- what means something that is not built, as a whole
+abbrev pub IsRefusedWhole : List ℕ → Refusal → Type 0
+IsRefusedWhole input r =
+    (meaning : Input) × Means input meaning × (IsAnswerable meaning → ⊥) × (r ≡ refusal 0 NotBuilt)
+
+-- the refusal of an input
 abbrev pub IsRefused : List ℕ → Refusal → Type 0
 IsRefused input r =
-    ((most_bytes < length input) × (r ≡ record { line = 0; kind = TooLong }))
-    ⊎ ((length input ≤ most_bytes) × ((meaning : Input) → HasForm input meaning → ⊥) × (r ≡ record { line = 0; kind = NotBuilt }))
+    IsRefusedProgram input r ⊎ (IsRefusedSystem input r ⊎ IsRefusedWhole input r)
 
 -- why an input is not read: it is refused, or memory was short
 abbrev pub IsUnread : List ℕ → ReadFaultValue → Type 0

@@ -5,9 +5,9 @@ ghost use Rattle.pushdown_rules.specs.Answers.{HasNoFeasibleRun};
 ghost use Rattle.config_patterns.specs.Membership.{PatternValue, has_member};
 ghost use Rattle.document_systems.specs.Weights.{cost_kind};
 ghost use Rattle.report_text.specs.Listings.{query_line};
-ghost use Rattle.system_text.specs.Documents.{IsDocument};
-ghost use Rattle.system_text.specs.declared.document.Document.{Document};
-ghost use Rattle.system_text.specs.declared.document.WeightsLine.TheVariants.{Reach as ReachLine, Cost as CostLine};
+ghost use Rattle.document_forms.specs.Documents.{Document};
+ghost use Rattle.document_forms.specs.Lawful.{IsDocument};
+ghost use Rattle.document_forms.specs.declared.weight.WeightsLine.TheVariants.{Reach as ReachLine, Cost as CostLine};
 ghost use Rattle.wpds_app.specs.declared.words.Options.{Options as OptionsValue};
 ghost use Rattle.wpds_app.specs.Reports.{ByQuery, IsReport, IsQueryText, TellsFeasibility, TellsReachability, TellsCost, TellsCosts};
 
@@ -44,8 +44,8 @@ pub fn costs_are_the_cheapest()
     below_is_no_dearer();
 }
 
-/// What the report on a document with `weights reach` says of each query is so: that some run leads from its first
-/// configuration to its second, or that none does.
+/// What the report on a document with `weights reach` says of each query is so: that some run without a rule of weight
+/// `none` leads from a member of its first pattern to one of its second, or that none does.
 pub fn reports_tell_reachability()
     ensures { (d : Document) (options : OptionsValue) (report : List ℕ)
         → d.weights ≡ ReachLine → IsReport options d report
@@ -57,7 +57,7 @@ pub fn reports_tell_reachability()
 pub fn reports_tell_feasibility()
     ensures { (d : Document) (options : OptionsValue) (report : List ℕ)
         → IsDocument d → IsReport options d report
-        → ByQuery (TellsFeasibility d.weights d) 1 d.queries report }
+        → ByQuery (TellsFeasibility d) 1 d.queries report }
 {
     unreachable_where_infeasible::<Reach>();
     unreachable_where_infeasible::<Cost>();

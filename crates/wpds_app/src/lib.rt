@@ -1,6 +1,7 @@
 //! The top call: from the bytes that are read to the bytes that are written.
 #![tactic(auto)]
 
+mod alike;
 mod input;
 mod laws;
 mod program;

@@ -4,11 +4,14 @@ ghost use Rattle.wpds_base.specs.Limits.{most_bytes};
 ghost use Rattle.wpds_port.specs.Causes.{Rose};
 ghost use Rattle.wpds_port.specs.Reading.{ConsumesPart};
 ghost use Rattle.wpds_port.specs.Refusals.{refusal_text};
+ghost use Rattle.document_forms.specs.Documents.{reads_as};
 ghost use Rattle.wpds_app.specs.Running.{HasReply, IsReply};
 
-use crate::input::{MOST_BYTES, meaning_of};
+use crate::input::{MOST_BYTES, meaning_of, not_built};
 use crate::report::report;
 use crate::{Input, Options, Status};
+use document_forms::{Document, documents_are_lawful};
+use document_systems::Names;
 use std::alloc::Global;
 use wpds_base::OutOfMemory;
 use wpds_port::{InputFault, ReadFault, Refusal, Source, read_up_to};
@@ -33,18 +36,32 @@ fn refused(alloc: Global, refusal: Refusal) -> Result<Reply, OutOfMemory>
     })
 }
 
+// What is answered to the document of a system.
+fn reply_on_system(
+    alloc: Global,
+    input: &[u8],
+    document: &Document<Names>,
+    options: Options,
+) -> Result<Reply, OutOfMemory>
+    requires { reads_as input.now document.now }
+    ensures { IfOk result (λ r. IsReply input.now options r.status (string_bytes r.text)) }
+{
+    documents_are_lawful();
+    match report(alloc, document, options)? {
+        Some(text) => Ok(Reply {
+            status: Status::Answered,
+            text,
+        }),
+        None => refused(alloc, not_built(0)),
+    }
+}
+
 // What is answered to an input.
 fn reply_to(alloc: Global, input: &[u8], options: Options) -> Result<Reply, OutOfMemory>
     ensures { IfOk result (λ r. IsReply input.now options r.status (string_bytes r.text)) }
 {
     match meaning_of(alloc, input) {
-        Ok(Input::System(document)) => {
-            let text = report(alloc, &document, options)?;
-            Ok(Reply {
-                status: Status::Answered,
-                text,
-            })
-        }
+        Ok(Input::System(document)) => reply_on_system(alloc, input, &document, options),
         Err(ReadFault::Refused(refusal)) => refused(alloc, refusal),
         Err(ReadFault::Memory) => Err(OutOfMemory),
     }

@@ -1,20 +1,24 @@
-ghost use Rattle.std.specs.Prelude.{◌≡◌, ◌<◌, ◌≤◌, IfOk};
+ghost use Rattle.std.specs.Prelude.{◌≡◌, ◌<◌, ◌≤◌, All, IfOk, OnOk, MatchOption, None, length};
 ghost use Rattle.std.specs.String.{string_bytes};
 ghost use Rattle.wpds_base.specs.Limits.{most_cost};
-ghost use Rattle.system_text.specs.Documents.{IsDocument, IsQueryLine};
-ghost use Rattle.document_systems.specs.Systems.{pattern_of};
-ghost use Rattle.wpds_app.specs.Reports.{query_text, IsQueryText, IsReported, IsReport};
+ghost use Rattle.document_forms.specs.Lawful.{IsDocument, IsQueryOf};
+ghost use Rattle.document_systems.specs.Systems.{system_of, side_of};
+ghost use Rattle.prestar_laws.specs.Ways.{pre_way};
+ghost use Rattle.query_answers.specs.Answering.{IsSaturatedFrom};
+ghost use Rattle.wpds_app.specs.Reports.{query_text, TellsQuery, IsReported, IsReport, IsBuilt};
+ghost use Rattle.wpds_app.specs.private.Kept.{AreKept, TellsAt};
 
 use crate::Options;
+use crate::alike::same_pattern;
 use cost_weights::Cost;
-use document_systems::{DocumentWeights, pattern_from, system_from};
+use document_forms::{Document, PatternText, QueryLine, WeightsLine};
+use document_systems::{DocumentWeights, Names, pattern_from, system_from};
 use path_sum::Answer;
 use pushdown_rules::System;
-use query_answers::answer;
+use query_answers::{Saturation, answer_over, saturate};
 use report_text::{listing_text, query_line};
 use semiring_laws::Reach;
 use std::alloc::Global;
-use system_text::{Document, Names, QueryLine, WeightsLine};
 use wpds_base::OutOfMemory;
 
 // The lines of an answer to the query with a number.
@@ -40,44 +44,123 @@ fn answer_lines<S: DocumentWeights>(
     Ok(text)
 }
 
-// The lines of the query with a number.
+// The lines of the query with a number, over the saturation from its second pattern.
 fn query_lines<S: DocumentWeights>(
     alloc: Global,
-    system: &System<S>,
-    items: &Names,
+    saturation: &Saturation<'_, S>,
+    document: &Document<Names>,
+    options: Options,
     number: u64,
     query: &QueryLine,
-    options: Options,
 ) -> Result<String, OutOfMemory>
-    requires { IsQueryLine system.now.controls system.now.symbols query.now }
-    ensures { let from = pattern_of system.now.symbols query.now.from in
-        let to = pattern_of system.now.symbols query.now.to in
+    requires system { let p = saturation.now.system in
+        p ≡ system_of S.kind p.semiring document.now }
+    requires query { IsQueryOf document.now query.now }
+    requires saturated { let to = side_of document.now query.now.to in
+        IsSaturatedFrom S.operations (pre_way S.operations) saturation.now.system to saturation.now }
+    ensures { let semiring = saturation.now.system.semiring in
         IfOk result (λ t.
-        IsQueryText S.kind options system.now items.now number from to (string_bytes t)) }
+        TellsQuery S.kind options semiring document.now number query.now (string_bytes t)) }
 {
-    let symbols = system.symbols();
-    let from = pattern_from(alloc, symbols, &query.from)?;
-    let to = pattern_from(alloc, symbols, &query.to)?;
-    let answer = answer(alloc, system, &from, &to)?;
-    answer_lines(alloc, system.semiring(), items, number, &answer, options)
+    let system = saturation.system();
+    let from = pattern_from(alloc, system, &query.from)?;
+    let answer = answer_over(alloc, saturation, &from)?;
+    answer_lines(alloc, system.semiring(), &document.items, number, &answer, options)
+}
+
+// Keeps the lines of each query from a place on whose second pattern is this one.
+fn keep_alike<S: DocumentWeights>(
+    alloc: Global,
+    saturation: &Saturation<'_, S>,
+    document: &Document<Names>,
+    options: Options,
+    to: &PatternText,
+    place: usize,
+    kept: &mut [Option<String>],
+) -> Result<(), OutOfMemory>
+    requires document { IsDocument document.now }
+    requires system { let p = saturation.now.system in
+        p ≡ system_of S.kind p.semiring document.now }
+    requires saturated { let pattern = side_of document.now to.now in
+        IsSaturatedFrom S.operations (pre_way S.operations) saturation.now.system pattern
+        saturation.now }
+    requires room { length kept.old ≡ length document.now.queries }
+    requires kept { AreKept S.kind options saturation.now.system.semiring document.now kept.old }
+    ensures kept { let semiring = saturation.now.system.semiring in
+        OnOk result (AreKept S.kind options semiring document.now kept.new) }
+    ensures room { length kept.new ≡ length kept.old }
+{
+    let queries = document.queries.as_slice();
+    for k in place..queries.len() {
+        let query = &queries[k];
+        if same_pattern(&query.to, to) {
+            let number = k as u64 + 1;
+            let lines = query_lines(alloc, saturation, document, options, number, query)?;
+            kept[k] = Some(lines);
+        }
+    }
+    Ok(())
+}
+
+// The lines of the query at a place. Those of the later queries with the same second pattern are kept: one saturation
+// serves them all.
+fn lines_at<S: DocumentWeights>(
+    alloc: Global,
+    system: &System<S>,
+    document: &Document<Names>,
+    options: Options,
+    place: usize,
+    kept: &mut [Option<String>],
+) -> Result<String, OutOfMemory>
+    requires document { IsDocument document.now }
+    requires system { system.now ≡ system_of S.kind system.now.semiring document.now }
+    requires place { place < length document.now.queries }
+    requires room { length kept.old ≡ length document.now.queries }
+    requires kept { AreKept S.kind options system.now.semiring document.now kept.old }
+    ensures lines { let semiring = system.now.semiring in
+        IfOk result (λ t. TellsAt S.kind options semiring document.now place t) }
+    ensures kept { let semiring = system.now.semiring in
+        OnOk result (AreKept S.kind options semiring document.now kept.new) }
+    ensures room { length kept.new ≡ length kept.old }
+{
+    if let Some(lines) = kept[place].take() {
+        return Ok(lines);
+    }
+    let query = &document.queries.as_slice()[place];
+    let to = pattern_from(alloc, system, &query.to)?;
+    let saturation = saturate(alloc, system, &to)?;
+    keep_alike(alloc, &saturation, document, options, &query.to, place + 1, kept)?;
+    query_lines(alloc, &saturation, document, options, place as u64 + 1, query)
+}
+
+// As many places for lines, where nothing is kept yet.
+fn nothing_kept(alloc: Global, count: usize) -> Result<Vec<Option<String>>, OutOfMemory>
+    ensures room { IfOk result (λ kept. length kept.items ≡ count) }
+    ensures empty { IfOk result (λ kept. All (λ lines. lines ≡ None) kept.items) }
+{
+    let mut kept = Vec::with_capacity(alloc, count)?;
+    for _ in 0..count {
+        kept.push(None)?;
+    }
+    Ok(kept)
 }
 
 // The report on a document over a semiring.
 fn report_over<S: DocumentWeights>(
     alloc: Global,
     semiring: S,
-    document: &Document,
+    document: &Document<Names>,
     options: Options,
 ) -> Result<String, OutOfMemory>
     requires { IsDocument document.now }
     ensures { IfOk result (λ t. IsReported S.kind options semiring document.now (string_bytes t)) }
 {
     let system = system_from(alloc, semiring, document)?;
-    let items = &document.items;
+    let count = document.queries.len();
+    let mut kept = nothing_kept(alloc, count)?;
     let mut text = String::new(alloc);
-    for (place, query) in document.queries.as_slice().iter().enumerate() {
-        let number = place as u64 + 1;
-        let lines = query_lines(alloc, &system, items, number, query, options)?;
+    for place in 0..count {
+        let lines = lines_at(alloc, &system, document, options, place, &mut kept)?;
         text.push_str(lines.as_str())?;
     }
     Ok(text)
@@ -95,17 +178,21 @@ fn costs(cap: u64) -> Cost
     }
 }
 
-/// The report on a document.
+/// The report on a document, if the semiring of its weights is built.
 pub(crate) fn report(
     alloc: Global,
-    document: &Document,
+    document: &Document<Names>,
     options: Options,
-) -> Result<String, OutOfMemory>
+) -> Result<Option<String>, OutOfMemory>
     requires { IsDocument document.now }
-    ensures { IfOk result (λ t. IsReport options document.now (string_bytes t)) }
+    ensures { IfOk result (λ found. MatchOption found
+        (IsBuilt document.now.weights → ⊥)
+        (λ t. IsReport options document.now (string_bytes t))) }
 {
-    match document.weights {
-        WeightsLine::Reach => report_over(alloc, Reach, document, options),
-        WeightsLine::Cost { cap } => report_over(alloc, costs(cap), document, options),
-    }
+    let text = match document.weights {
+        WeightsLine::Reach => report_over(alloc, Reach, document, options)?,
+        WeightsLine::Cost { cap } => report_over(alloc, costs(cap), document, options)?,
+        _ => return Ok(None),
+    };
+    Ok(Some(text))
 }

@@ -1,6 +1,6 @@
 use Rattle.std.proofs.Common.{◌≡◌, ◌<◌, length, get_or, ap, ◌∙◌, sym, subst}
 use Rattle.std.specs.Prelude.{All}
-use Rattle.system_text.specs.Documents.{IsRuleLine}
+use Rattle.document_forms.specs.Lawful.{IsRuleLine}
 use Rattle.pushdown_rules.specs.Pushdown.{Pushdown}
 use Rattle.document_systems.proofs.LineLemmas.{next_is_not_refused, rules_before}
 use Rattle.document_systems.proofs.system.system_from.Goals as goal
@@ -20,4 +20,4 @@ add_line-requires g c =
     let items = length d.items in
     next_is_not_refused s d.weights items d.rules i c.line-item.result
     (subst (λ m. All (IsRuleLine d.weights m s.symbols items) d.rules) (sym controls) (subst (λ n. All (IsRuleLine d.weights (length d.controls) n items) d.rules) (sym symbols) c.requires.rules))
-    c.requires.few within item count
+    c.requires.few_rules within item count

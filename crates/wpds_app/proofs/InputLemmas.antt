@@ -1,0 +1,58 @@
+-- An input is accepted or refused, and not both.
+use Rattle.std.proofs.Common.{◌≡◌, inl, inr, ℕ, Bool, true, false, List, [], ◌∷◌, refl, sym, subst, ◌∙◌}
+use Rattle.std.specs.Prelude.{not, Option, None, Some, option_map, option_and_then, unwrap_or, if◌then◌else◌}
+use Rattle.wpds_port.specs.declared.Word.{Word}
+use Rattle.wpds_port.specs.declared.refusal.Refusal.{Refusal}
+use Rattle.wpds_port.specs.declared.refusal.Kind.TheVariants.{Header}
+use Rattle.wpds_port.specs.declared.refusal.ReadFault.{ReadFault as ReadFaultValue}
+use Rattle.wpds_port.specs.declared.refusal.ReadFault.TheVariants.{Refused, Memory}
+use Rattle.document_forms.specs.Documents.{Document, reads_as}
+use Rattle.document_forms.specs.FirstRefusal.{Counted, FirstRefusal, AreAccepted, all_symbols, counted_lines, is_header_line, missing}
+use Rattle.document_forms.specs.Forms.{is_header}
+use Rattle.document_forms.specs.Languages.{language_named, language_on, language_of}
+use Rattle.document_forms.specs.declared.language.Language.TheVariants.{System as SystemLanguage, Program}
+use Rattle.wpds_app.specs.declared.input.Input.{Input}
+use Rattle.wpds_app.specs.declared.input.Input.TheVariants.{System}
+use Rattle.wpds_app.specs.Running.{Means, IsAnswerable, IsAccepted, IsProgram, IsRefused, IsUnread}
+
+-- what the law on documents says
+abbrev pub NeverBoth : Type 0
+NeverBoth = (bytes : List ℕ) (d : Document) (r : Refusal) → reads_as bytes d → FirstRefusal bytes r → ⊥
+
+abbrev pub OneDocument : Type 0
+OneDocument = (bytes : List ℕ) (d e : Document) → reads_as bytes d → reads_as bytes e → d ≡ e
+
+-- ---- a document that is read begins with the header of a system
+
+named : (o : Option (List Word)) → unwrap_or (option_map is_header o) false ≡ true → option_and_then language_named o ≡ Some SystemLanguage
+named None is = cc
+named (Some ws) is = let header : is_header ws ≡ true = is in rw header refl
+
+first_named : (all : ℕ) (ls : List Counted) → AreAccepted all ls → missing ls ≡ None → language_on ls ≡ Some SystemLanguage
+first_named all [] accepted whole = cc
+first_named all (h ∷ ls) accepted whole = named h.words (go (is_header_line h) refl)
+  where
+    go : (b : Bool) → is_header_line h ≡ b → is_header_line h ≡ true
+    go true is = is
+    go false is =
+        let kind : (true, Header) ≡ (true, Header) = refl in
+        absurd (accepted [] h ls refl Header (rw is (inr (inl refl))))
+
+no_program : (input : List ℕ) (d : Document) → reads_as input d → IsProgram input → ⊥
+no_program input d is program =
+    let system = first_named (all_symbols (counted_lines input)) (counted_lines input) is.accepted is.whole in
+    let both : Some SystemLanguage ≡ Some Program = sym system ∙ program.1 in
+    cc
+
+pub accepted_not_refused : NeverBoth → OneDocument → (input : List ℕ) (meaning : Input) (r : Refusal) → IsAccepted input meaning → IsRefused input r → ⊥
+accepted_not_refused both one input (System d) r accepted (inl program) = no_program input d accepted.means program.0
+accepted_not_refused both one input (System d) r accepted (inr (inl system)) = both input d r accepted.means system.1
+accepted_not_refused both one input (System d) r accepted (inr (inr (System e, (means, (unanswerable, is))))) =
+    let same = one input d e accepted.means means in
+    unanswerable (subst (λ (x : Document). IsAnswerable (System x)) same accepted.answerable)
+
+-- ---- why an input is not read
+
+pub unread : (input : List ℕ) (fault : ReadFaultValue) → (IsProgram input → ⊥) → ((r : Refusal) → fault ≡ Refused r → FirstRefusal input r) → IsUnread input fault
+unread input (Refused r) system refused = inr (inl (system, refused r refl))
+unread input Memory system refused = tt

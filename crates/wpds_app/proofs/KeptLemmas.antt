@@ -1,0 +1,1 @@
+-- Lines that are kept for later queries.
