@@ -41,6 +41,8 @@ pub(crate) fn meaning_of(alloc: Global, input: &[u8]) -> Result<Input, ReadFault
     if is_program(input) {
         return Err(ReadFault::Refused(not_built(first_line(input))));
     }
-    let document = read_system(alloc, input)?;
-    Ok(Input::System(document))
+    match read_system(alloc, input) {
+        Ok(document) => Ok(Input::System(document)),
+        Err(fault) => Err(fault),
+    }
 }

@@ -32,8 +32,6 @@ fn outcome(
     Ok((status, sink.written().to_vec(alloc)?))
 }
 
-const NOT_BUILT: &str = "refused: line 0: 14 NotBuilt\n";
-
 const REACHABLE: &str = "query 1: reachable\n";
 
 const UNREACHABLE: &str = "query 1: unreachable\n";
@@ -74,11 +72,15 @@ const ANSWERED: [(&str, &str); 10] = [
     ("rule p a -> p b a\nquery p: a => p: a b\n", UNREACHABLE),
 ];
 
-// Two queries, none, and one at a control that is not there.
-const REFUSED: [&str; 3] = [
-    "rule p b -> q\nquery p: a => q: a\nquery p: a => q: a\n",
-    "",
-    "query p: a => r: a\n",
+// No query, one at a control that is not there, and what follows the last line.
+const REFUSED: [(&str, &str); 4] = [
+    ("", "refused: line 5: 10 NothingAsked\n"),
+    ("query p: a => r: a\n", "refused: line 5: 6 Unknown\n"),
+    ("rule p a -> p b a a\nquery p: => p:\n", "refused: line 5: 4 Form\n"),
+    (
+        "rule p a -> p b : 2\nquery p: => p:\n",
+        "refused: line 5: 7 WeightText\n",
+    ),
 ];
 
 // How `check --brief` ends on these lines after those of the names, and what it writes.
@@ -100,10 +102,64 @@ fn answers_documents(rt: HostRuntime) -> Result<(), Fail> {
 
 #[test]
 fn refuses_other_documents(rt: HostRuntime) -> Result<(), Fail> {
-    for rest in REFUSED {
+    for (rest, text) in REFUSED {
         let (ended, written) = brief_outcome(rt.alloc(), rest)?;
         assert_eq!(rt; ended, Status::DocumentRefused, "at {rest}");
-        assert_eq!(rt; written.as_slice(), NOT_BUILT.as_bytes(), "at {rest}");
+        assert_eq!(rt; written.as_slice(), text.as_bytes(), "at {rest}");
+    }
+    Ok(())
+}
+
+// What is not built: a program, and weights that no semiring answers yet.
+const NOT_BUILT: [(&str, &str); 4] = [
+    ("# a program\n\nbool 1\n", "refused: line 3: 14 NotBuilt\n"),
+    (
+        "wpds 1\nweights genkill\ncontrols p\nquery p: => p:\n",
+        "refused: line 0: 14 NotBuilt\n",
+    ),
+    (
+        "wpds 1\nweights copy\ncontrols p\nquery p: => p:\n",
+        "refused: line 0: 14 NotBuilt\n",
+    ),
+    (
+        "wpds 1\nweights relation\ncontrols p\nquery p: => q:\n",
+        "refused: line 4: 6 Unknown\n",
+    ),
+];
+
+#[test]
+fn refuses_what_is_not_built(rt: HostRuntime) -> Result<(), Fail> {
+    for (document, text) in NOT_BUILT {
+        let (ended, written) = outcome(rt.alloc(), &BRIEF, document.as_bytes(), &[], 100, &[])?;
+        assert_eq!(rt; ended, Status::DocumentRefused, "at {document}");
+        assert_eq!(rt; written.as_slice(), text.as_bytes(), "at {document}");
+    }
+    Ok(())
+}
+
+// Queries with patterns, of which some have one second pattern, and what is written for them.
+const QUERIES: [(&str, &str); 3] = [
+    (
+        "query p: a => q: .*\nquery p: {a b}* => q: .*\nquery q: a* => q: .*\n",
+        "query 1: reachable\nquery 2: reachable\nquery 3: reachable\n",
+    ),
+    (
+        "query p: a => q: {b}\nquery p: a => q: a\nquery p: . => q: b\nquery p: a => q: a\n",
+        "query 1: unreachable\nquery 2: reachable\nquery 3: unreachable\nquery 4: reachable\n",
+    ),
+    (
+        "query p: {a}* b => q: . b\nquery p: a* => q:\n",
+        "query 1: reachable\nquery 2: unreachable\n",
+    ),
+];
+
+#[test]
+fn answers_queries_in_order(rt: HostRuntime) -> Result<(), Fail> {
+    for (queries, text) in QUERIES {
+        let document = format!(in rt.alloc(); "rule p a -> p b a\nrule p b -> q\nrule p a -> q : none\n{queries}")?;
+        let (ended, written) = brief_outcome(rt.alloc(), document.as_str())?;
+        assert_eq!(rt; ended, Status::Answered, "at {queries}");
+        assert_eq!(rt; written.as_slice(), text.as_bytes(), "at {queries}");
     }
     Ok(())
 }
@@ -162,7 +218,7 @@ fn stops_at_each_fault(rt: HostRuntime) -> Result<(), Fail> {
 #[test]
 fn refuses_what_is_too_long(rt: HostRuntime) -> Result<(), Fail> {
     for (length, text) in [
-        (4_194_304, NOT_BUILT),
+        (4_194_304, "refused: line 2: 3 Header\n"),
         (4_194_305, "refused: line 0: 1 TooLong\n"),
         (4_194_306, "refused: line 0: 1 TooLong\n"),
     ] {
@@ -177,7 +233,8 @@ fn refuses_what_is_too_long(rt: HostRuntime) -> Result<(), Fail> {
 #[test]
 fn refuses_each_beginning(rt: HostRuntime) -> Result<(), Fail> {
     let bytes = CALL.as_bytes();
-    for length in 0..bytes.len() {
+    let query = "query p: a => q: a\n";
+    for length in 0..bytes.len() - query.len() + 1 {
         let (ended, _) = outcome(rt.alloc(), &["check"], &bytes[..length], &[], 100, &[])?;
         assert_eq!(rt; ended, Status::DocumentRefused, "at {length}");
     }
