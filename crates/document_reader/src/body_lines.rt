@@ -8,7 +8,7 @@ ghost use Rattle.document_forms.specs.FirstRefusal.{by_form};
 ghost use Rattle.document_forms.specs.Forms.{Controls, Symbols, Facts, Variables, OfWeights, OfRule, weights_of, rule_of, query_of, form_behind};
 ghost use Rattle.document_forms.specs.Kinds.{conditions};
 ghost use Rattle.document_reader.specs.private.Readings.{kind_on, above_now, Takes};
-ghost use Rattle.rule_reader.specs.RuleReads.{HasFewItems};
+ghost use Rattle.rule_reader.specs.RuleReads.{HasFewItems, IsRuleRead};
 ghost use Rattle.document_reader.specs.private.LineReads.{IsAnswered, AreAnswered};
 
 use crate::lines::{is_text, line_front};
@@ -18,7 +18,7 @@ use crate::queries::read_query;
 use crate::reading::Reading;
 use crate::weights_lines::said_weights;
 use document_forms::WeightsLine;
-use rule_reader::{is_name, read_rule};
+use rule_reader::{RuleRead, is_name, read_rule};
 use std::alloc::Global;
 use wpds_base::OutOfMemory;
 use wpds_port::{Kind, Lexeme, Words};
@@ -99,6 +99,17 @@ fn declare_variables<'t>(
     }
 }
 
+// The rule that the words behind `rule` are, below what was read.
+fn next_rule(
+    alloc: Global,
+    reading: &Reading<'_>,
+    words: &Words,
+) -> Result<Option<RuleRead>, OutOfMemory>
+    ensures { IfOk result (IsRuleRead (above_now reading.now) words.now) }
+{
+    read_rule(alloc, &reading.scope, reading.rules.len(), words)
+}
+
 // Takes the rule that the words behind `rule` are.
 fn take_rule(
     alloc: Global,
@@ -109,7 +120,7 @@ fn take_rule(
     ensures { IfOk result (λ k. (all : ℕ) → IsAnswered all reading.old reading.new
         (option_map OfRule (rule_of words.now)) k) }
 {
-    let Some(read) = read_rule(alloc, &reading.scope, reading.rules.len(), words)? else {
+    let Some(read) = next_rule(alloc, reading, words)? else {
         return Ok(Some(Kind::Form));
     };
     if let Some(kind) = read.kind {
@@ -145,7 +156,8 @@ fn take_query(
 ) -> Result<Option<Kind>, OutOfMemory>
     ensures { IfOk result (IsAnswered all reading.old reading.new (query_of words.now)) }
 {
-    let Some(read) = read_query(alloc, all, &reading.scope.controls, &reading.scope.symbols, words)? else {
+    let scope = &reading.scope;
+    let Some(read) = read_query(alloc, all, &scope.controls, &scope.symbols, words)? else {
         return Ok(Some(Kind::Form));
     };
     let many = reading.queries.len() >= MOST_QUERIES;

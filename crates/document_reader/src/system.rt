@@ -81,11 +81,12 @@ fn read_first_two<'t>(alloc: Global, lines: &mut Lines<'t>) -> Result<Reading<'t
 fn document(alloc: Global, reading: Reading<'_>) -> Result<Document<Sequence<Text>>, OutOfMemory>
     ensures { IfOk result (λ d. d ≡ document_now reading.entry) }
 {
+    let scope = reading.scope;
     Ok(Document {
-        weights: reading.scope.weights,
-        controls: reading.scope.controls.into_names(alloc)?,
-        symbols: reading.scope.symbols.into_names(alloc)?,
-        items: reading.scope.items.into_names(alloc)?,
+        weights: scope.weights,
+        controls: scope.controls.into_names(alloc)?,
+        symbols: scope.symbols.into_names(alloc)?,
+        items: scope.items.into_names(alloc)?,
         rules: RuleLines::from_vec(reading.rules),
         queries: QueryLines::from_vec(reading.queries),
     })

@@ -4,6 +4,9 @@ use Rattle.document_reader.specs.private.ItemReading.{begins_with_close}
 use Rattle.document_reader.proofs.SetLemmas.{empty_braces, open_braces, set_in_braces}
 use Rattle.document_reader.proofs.items.read_braced.Goals as goal
 
+pub returns-then-is_empty : goal.returns-then-is_empty
+returns-then-is_empty c = empty_braces c.args.words.now (grind (arith, c.in_ok-read.ensures.numbers.count))
+
 pub returns-in_default : goal.returns-in_default
 returns-in_default c =
     open_braces c.args.words.now (ap begins_with_close (sym c.in_ok-read.ensures.rest) ∙ c.in_default.ensures)
