@@ -13,9 +13,9 @@ use Rattle.document_forms.specs.FirstRefusal.{by_form}
 use Rattle.document_forms.specs.declared.document.RuleLine.{RuleLine}
 use Rattle.document_forms.proofs.CallerLemmas.{names_few, facts_limit, variables_limit}
 use Rattle.document_reader.specs.declared.reading.Reading.{Reading}
-use Rattle.document_reader.specs.declared.rules.RuleRead.{RuleRead}
+use Rattle.rule_reader.specs.declared.rules.RuleRead.{RuleRead}
 use Rattle.document_reader.specs.private.Readings.{above_now, TakesForm}
-use Rattle.document_reader.specs.private.RuleReads.{HasFewItems, IsReadRule}
+use Rattle.rule_reader.specs.RuleReads.{HasFewItems, IsReadRule}
 use Rattle.document_reader.specs.private.LineReads.{IsAnswered, AreAnswered}
 use Rattle.document_reader.specs.private.NameLines.{kind_of_names, Declares}
 
@@ -23,9 +23,9 @@ use Rattle.document_reader.specs.private.NameLines.{kind_of_names, Declares}
 
 -- the reading with other names of a class
 abbrev pub with_names : Class → Reading → List (List ℕ) → Reading
-with_names Controls r xs = record r { controls = xs }
-with_names Symbols r xs = record r { symbols = xs }
-with_names _ r xs = record r { items = xs }
+with_names Controls r xs = record r { scope = record (r.scope) { controls = xs } }
+with_names Symbols r xs = record r { scope = record (r.scope) { symbols = xs } }
+with_names _ r xs = record r { scope = record (r.scope) { items = xs } }
 
 abbrev known : Class → Reading → List (List ℕ)
 known c r = class_names (above_now r) c
@@ -44,8 +44,8 @@ names_taken Variables r xs = record { above = refl; rules = sym (append-nil r.ru
 
 -- The names of a class are declared, or refused.
 pub names_answered :
-    {E : Type 0} (c : Class) (r : Reading) (new : List (List ℕ)) (ws : List Word) (result : Result (Option Kind) E) → has_class r.weights c ≡ true
-    → IfOk result (λ k. k ≡ kind_of_names (known c r) (most_names r.weights c) (names_of ws)) → IfOk result (λ k. IfNone k (Declares (known c r) new ws))
+    {E : Type 0} (c : Class) (r : Reading) (new : List (List ℕ)) (ws : List Word) (result : Result (Option Kind) E) → has_class r.scope.weights c ≡ true
+    → IfOk result (λ k. k ≡ kind_of_names (known c r) (most_names r.scope.weights c) (names_of ws)) → IfOk result (λ k. IfNone k (Declares (known c r) new ws))
     → IfOk result (AreAnswered r (with_names c r new) c ws)
 names_answered c r new ws (Err x) h e d = tt
 names_answered c r new ws (Ok k) h e d =
@@ -101,7 +101,7 @@ few_with all a (OfQuery p q) o h e = h
 
 -- also when a line is answered and has no kind
 pub few_answered :
-    {E : Type 0} (all : ℕ) (old new : Reading) (form : Option LineForm) (result : Result (Option Kind) E) → IsOnce old.items → HasFewItems (above_now old)
+    {E : Type 0} (all : ℕ) (old new : Reading) (form : Option LineForm) (result : Result (Option Kind) E) → IsOnce old.scope.items → HasFewItems (above_now old)
     → IfOk result (IsAnswered all old new form) → IfOk result (λ k. IfNone k (HasFewItems (above_now new)))
 few_answered all old new form (Err x) o h m = tt
 few_answered all old new form (Ok k) o h m = go k m.kind m.taken

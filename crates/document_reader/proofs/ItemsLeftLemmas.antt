@@ -7,7 +7,8 @@ use Rattle.wpds_port.specs.declared.Word.{Word}
 use Rattle.wpds_port.specs.declared.Word.TheVariants.{Name, Mark as Sign}
 use Rattle.document_forms.specs.Words.{◌>>=◌}
 use Rattle.document_forms.specs.Patterns.{SetForm, Dotted, Bare, Braced, ItemForm, item, set_words, star_words, is_set, ItemsReading, Items, Starred, InBraces, item_before, items_reading, items_in, items_of}
-use Rattle.document_reader.specs.private.ItemReading.{begins_with_name, begins_with_close, begins_with_star}
+use Rattle.rule_reader.specs.Names.{begins_with_name}
+use Rattle.document_reader.specs.private.ItemReading.{begins_with_close, begins_with_star}
 
 -- ---- what a reading from the right waits for
 
@@ -86,6 +87,25 @@ pub braces_left_open :
     (xs : List (List ℕ)) (ws : List Word) → begins_with_name ws ≡ false
     → begins_with_close ws ≡ false → items_of (Sign OpenBrace ∷ (map Name xs ++ ws)) ≡ None
 braces_left_open xs ws h g = open_none (items_reading (map Name xs ++ ws)) (not_in_braces xs ws h g)
+
+-- ---- where braces have no name in them
+
+closed_at_once : (ws : List Word) → begins_with_close ws ≡ true → items_of (Sign OpenBrace ∷ ws) ≡ None
+closed_at_once (Sign CloseBrace ∷ ws) h = go (items_reading ws)
+  where
+    go : (o : Option ItemsReading) → (((o >>= item_before (Sign CloseBrace)) >>= item_before (Sign OpenBrace)) >>= items_in) ≡ None
+    go None = refl
+    go (Some (Items is)) = refl
+    go (Some (Starred is)) = refl
+    go (Some (InBraces xs star is)) = refl
+closed_at_once _ h = cc
+
+pub braces_empty : (ws : List Word) → begins_with_name ws ≡ false → items_of (Sign OpenBrace ∷ ws) ≡ None
+braces_empty ws h = go (begins_with_close ws) refl
+  where
+    go : (t : Bool) → begins_with_close ws ≡ t → items_of (Sign OpenBrace ∷ ws) ≡ None
+    go true e = closed_at_once ws e
+    go false e = braces_left_open [] ws h e
 
 -- ---- where an item stands in front
 

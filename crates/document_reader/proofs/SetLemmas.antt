@@ -1,27 +1,22 @@
 -- What is read of the symbols of a set, and of the set.
 use Rattle.std.proofs.Common.{◌≡◌, ℕ, ◌+◌, ◌<◌, Bool, true, false, not, ◌||◌, cond, List, [], ◌∷◌, ◌++◌, length, map, Option, Some, None, refl, sym, ap, ◌∙◌, subst, append_assoc, arith}
 use Rattle.std.specs.Prelude.{bytes_eq, unwrap_or, is_none, if◌then◌else◌}
-use Rattle.std.proofs.lemmas.Bool.{or_parts}
-use Rattle.std.proofs.lemmas.List.{length_push, map_push}
 use Rattle.std.proofs.lemmas.List.Folds.{list_any-append}
-use Rattle.std.proofs.lemmas.Bool.Decides.{same_from_decides, Decides-like}
-use Rattle.std.proofs.lemmas.Slice.Eq.{bytes_eq-Decides}
+use Rattle.std.proofs.Math.Bool.{or-false}
 use Rattle.document_forms.specs.Names.{is_among, number_in, has_twice, has_unknown}
-use Rattle.document_reader.specs.declared.items.SymbolsRead.{SymbolsRead}
+use Rattle.rule_reader.specs.declared.name_reads.NamesOnce.{NamesOnce}
+use Rattle.rule_reader.specs.declared.name_reads.NamesRead.{NamesRead}
+use Rattle.rule_reader.specs.Names.{number_among, begins_with_name, names_in_front, behind_names}
+use Rattle.rule_reader.specs.NameReads.{AreNumbersRead, HasNames}
 use Rattle.wpds_port.specs.declared.Mark.TheVariants.{OpenBrace, CloseBrace}
 use Rattle.wpds_port.specs.declared.Word.{Word}
-use Rattle.wpds_port.specs.declared.Word.TheVariants.{Name, Mark as Sign}
+use Rattle.wpds_port.specs.declared.Word.TheVariants.{Name, Number, Mark as Sign}
 use Rattle.document_forms.specs.Patterns.{Braced, is_set, set_words, star_words, items_of}
 use Rattle.document_forms.specs.declared.pattern.SetText.TheVariants.{Listed}
 use Rattle.document_reader.specs.declared.items.SetRead.{SetRead}
 use Rattle.document_reader.specs.declared.items.ItemRead.{ItemRead}
-use Rattle.document_reader.specs.private.ItemReading.{begins_with_name, begins_with_close, begins_with_star, AreSymbolsRead, HasSymbols, IsSetRead, HasSet, HasItem}
-use Rattle.document_reader.proofs.NumberedLemmas.{is_among-push}
-use Rattle.document_reader.proofs.ItemsLeftLemmas.{braces_left_open, item_in_front, item_is_longer}
-use Rattle.document_reader.specs.private.NameTables.{number_among}
-
-bytes_eq-sym : (x y : List ℕ) → bytes_eq x y ≡ bytes_eq y x
-bytes_eq-sym x y = same_from_decides (bytes_eq x y) (bytes_eq y x) (bytes_eq-Decides x y) (Decides-like (bytes_eq y x) sym sym (bytes_eq-Decides y x))
+use Rattle.document_reader.specs.private.ItemReading.{begins_with_close, begins_with_star, IsSetRead, HasSet, HasItem}
+use Rattle.document_reader.proofs.ItemsLeftLemmas.{braces_left_open, braces_empty, item_in_front, item_is_longer}
 
 pub regroup : (a b c d : Bool) → ((a || b) || (c || d)) ≡ ((a || c) || (b || d))
 regroup true b c d = refl
@@ -29,19 +24,6 @@ regroup false true true d = refl
 regroup false true false d = refl
 regroup false false true d = refl
 regroup false false false d = refl
-
-twice_push :
-    (xs : List (List ℕ)) (x : List ℕ) → has_twice (xs ++ x ∷ []) ≡ (has_twice xs || is_among xs x)
-twice_push [] x = refl
-twice_push (y ∷ ys) x = rw (is_among-push ys x y, twice_push ys x, bytes_eq-sym y x) (regroup (is_among ys y) (bytes_eq x y) (has_twice ys) (is_among ys x))
-
-or_false : (b : Bool) → (b || false) ≡ b
-or_false true = refl
-or_false false = refl
-
-not_not : (b : Bool) → not (not b) ≡ b
-not_not true = refl
-not_not false = refl
 
 none_among :
     (known : List (List ℕ)) (x : List ℕ) → is_none (number_among known x) ≡ not (is_among known x)
@@ -56,7 +38,7 @@ pub unknown_push :
     → has_unknown known (xs ++ x ∷ []) ≡ (has_unknown known xs || is_none (number_among known x))
 unknown_push known xs x =
     list_any-append (λ y. not (is_among known y)) xs (x ∷ [])
-    ∙ ap (λ b. has_unknown known xs || b) (or_false (not (is_among known x)) ∙ sym (none_among known x))
+    ∙ ap (λ b. has_unknown known xs || b) (or-false (not (is_among known x)) ∙ sym (none_among known x))
 
 -- a name that is known has its number
 pub known_number :
@@ -70,74 +52,57 @@ known_number known x d = go (is_among known x)
     go true h = refl
     go false h = cc
 
-seen_push :
-    (seen xs : List (List ℕ)) (x y : List ℕ) → ((z : List ℕ) → is_among seen z ≡ is_among xs z)
-    → is_among (if not (is_among seen x) then seen ++ x ∷ [] else seen) y ≡ is_among (xs ++ x ∷ []) y
-seen_push seen xs x y h = go (is_among seen x) refl ∙ (ap (λ b. b || bytes_eq y x) (h y) ∙ sym (is_among-push xs x y))
-  where
-    there :
-        (t : Bool) → bytes_eq y x ≡ t → is_among seen x ≡ true
-        → is_among seen y ≡ (is_among seen y || t)
-    there true e g = let same : y ≡ x = (bytes_eq-Decides y x).0 e in let k : is_among seen y ≡ true = subst (λ z. is_among seen z ≡ true) (sym same) g in rw k refl
-    there false e g = sym (or_false (is_among seen y))
-
-    go :
-        (b : Bool) → is_among seen x ≡ b
-        → is_among (if not b then seen ++ x ∷ [] else seen) y ≡ (is_among seen y || bytes_eq y x)
-    go true g = there (bytes_eq y x) refl g
-    go false g = is_among-push seen x y
-
--- one symbol more
-pub symbols_more :
-    (symbols xs : List (List ℕ)) (x : List ℕ) (r q : SymbolsRead) (number : Option ℕ) (added : Bool)
-    → AreSymbolsRead symbols xs r → number ≡ number_among symbols x
-    → added ≡ not (is_among r.seen x) → q.numbers.items ≡ r.numbers.items ++ unwrap_or number 0 ∷ []
-    → q.seen ≡ (if added then r.seen ++ x ∷ [] else r.seen) → q.twice ≡ (r.twice || not added)
-    → q.unknown ≡ (r.unknown || is_none number) → AreSymbolsRead symbols (xs ++ x ∷ []) q
-symbols_more symbols xs x r q number added h n a items seen twice unknown = record {
-  count = ap length items ∙ (length_push r.numbers.items (unwrap_or number 0) ∙ (ap (λ k. k + 1) h.count ∙ sym (length_push xs x)));
-  seen = λ y. ap (λ zs. is_among zs y) (seen ∙ ap (λ b. if b then r.seen ++ x ∷ [] else r.seen) a) ∙ seen_push r.seen xs x y h.seen;
-  twice = twice ∙ (ap (λ b. r.twice || not b) a ∙ (ap (λ b. r.twice || b) (not_not (is_among r.seen x) ∙ h.seen x) ∙ (ap (λ b. b || is_among xs x) h.twice ∙ sym (twice_push xs x))));
-  unknown = unknown ∙ (ap (λ o. r.unknown || is_none o) n ∙ (ap (λ b. b || is_none (number_among symbols x)) h.unknown ∙ sym (unknown_push symbols xs x)));
-  numbers = λ e. let k = or_parts r.unknown (is_none number) (sym unknown ∙ e) in items ∙ (ap (λ ks. ks ++ unwrap_or number 0 ∷ []) (h.numbers k.0) ∙ (ap (λ m. map (number_in symbols) xs ++ m ∷ []) (ap (λ o. unwrap_or o 0) n ∙ known_number symbols x 0 (ap is_none (sym n) ∙ k.1)) ∙ sym (map_push (number_in symbols) xs x)));
-}
-
 -- ---- a set
 
--- a name in front is one symbol more
-pub symbols_ahead :
-    (symbols : List (List ℕ)) (ws left rest : List Word) (x : List ℕ) (r q : SymbolsRead) (h : HasSymbols symbols ws r left)
-    → left ≡ Name x ∷ rest → AreSymbolsRead symbols (h.names ++ x ∷ []) q
-    → HasSymbols symbols ws q rest
-symbols_ahead symbols ws left rest x r q h e read = record {
-  names = h.names ++ x ∷ [];
-  front = h.front ∙ (ap (λ vs. map Name h.names ++ vs) e ∙ (sym (append_assoc (map Name h.names) (Name x ∷ []) rest) ∙ ap (λ vs. vs ++ rest) (sym (map_push Name h.names x))));
-  read = read;
-}
+-- words are the names in front and the words behind them
+front_and_behind : (ws : List Word) → ws ≡ map Name (names_in_front ws) ++ behind_names ws
+front_and_behind [] = refl
+front_and_behind (Name x ∷ ws) = ap (λ vs. Name x ∷ vs) (front_and_behind ws)
+front_and_behind (Number n ∷ ws) = refl
+front_and_behind (Sign m ∷ ws) = refl
+
+behind_is_none : (ws : List Word) → begins_with_name (behind_names ws) ≡ false
+behind_is_none [] = refl
+behind_is_none (Name x ∷ ws) = behind_is_none ws
+behind_is_none (Number n ∷ ws) = refl
+behind_is_none (Sign m ∷ ws) = refl
 
 -- no items begin with braces that stay open
-pub open_braces :
-    (symbols : List (List ℕ)) (ws left : List Word) (r : SymbolsRead) (h : HasSymbols symbols ws r left)
-    → begins_with_name left ≡ false → begins_with_close left ≡ false
-    → items_of (Sign OpenBrace ∷ ws) ≡ None
-open_braces symbols ws left r h g e = ap (λ vs. items_of (Sign OpenBrace ∷ vs)) h.front ∙ braces_left_open h.names left g e
+pub open_braces : (ws : List Word) → begins_with_close (behind_names ws) ≡ false → items_of (Sign OpenBrace ∷ ws) ≡ None
+open_braces ws e =
+    ap (λ vs. items_of (Sign OpenBrace ∷ vs)) (front_and_behind ws)
+    ∙ braces_left_open (names_in_front ws) (behind_names ws) (behind_is_none ws) e
+
+-- nor with braces that have no name in them
+pub empty_braces : (ws : List Word) → length (names_in_front ws) ≡ 0 → items_of (Sign OpenBrace ∷ ws) ≡ None
+empty_braces ws e = braces_empty ws (none ws e)
+  where
+    none : (ws : List Word) → length (names_in_front ws) ≡ 0 → begins_with_name ws ≡ false
+    none [] e = refl
+    none (Name x ∷ ws) e = cc
+    none (Number n ∷ ws) e = refl
+    none (Sign m ∷ ws) e = refl
 
 pub set_in_braces :
-    (symbols : List (List ℕ)) (ws left rest : List Word) (r : SymbolsRead) (q : SetRead) (h : HasSymbols symbols ws r left)
-    → left ≡ Sign CloseBrace ∷ rest → 0 < length r.numbers.items → q.set ≡ Listed r.numbers.items
-    → q.twice ≡ r.twice → q.unknown ≡ r.unknown → HasSet symbols (Sign OpenBrace ∷ ws) q rest
-set_in_braces symbols ws left rest r q h e some set twice unknown = record {
-  set = Braced h.names;
-  lawful = lawful h.names (omega (arith, some, h.read.count));
-  front = ap (λ vs. Sign OpenBrace ∷ vs) (h.front ∙ (ap (λ vs. map Name h.names ++ vs) e ∙ sym (append_assoc (map Name h.names) (Sign CloseBrace ∷ []) rest)));
+    (symbols : List (List ℕ)) (ws rest : List Word) (r : NamesRead) (once : NamesOnce) (q : SetRead)
+    → behind_names ws ≡ Sign CloseBrace ∷ rest → AreNumbersRead symbols (names_in_front ws) r
+    → HasNames (names_in_front ws) once → 0 < length r.numbers.items → q.set ≡ Listed r.numbers.items
+    → q.twice ≡ once.twice → q.unknown ≡ r.unknown → HasSet symbols (Sign OpenBrace ∷ ws) q rest
+set_in_braces symbols ws rest r once q e read added some set twice unknown = record {
+  set = Braced names;
+  lawful = lawful names (omega (arith, some, read.count));
+  front = ap (λ vs. Sign OpenBrace ∷ vs) (front_and_behind ws ∙ (ap (λ vs. map Name names ++ vs) e ∙ sym (append_assoc (map Name names) (Sign CloseBrace ∷ []) rest)));
   read = record {
-    count = λ all. rw set h.read.count;
-    twice = twice ∙ h.read.twice;
-    unknown = unknown ∙ h.read.unknown;
-    value = λ u. set ∙ ap Listed (h.read.numbers (sym unknown ∙ u));
+    count = λ all. rw set read.count;
+    twice = twice ∙ added.twice;
+    unknown = unknown ∙ read.unknown;
+    value = λ u. set ∙ ap Listed (read.numbers (sym unknown ∙ u));
   };
 }
   where
+    names : List (List ℕ)
+    names = names_in_front ws
+
     lawful : (xs : List (List ℕ)) → 0 < length xs → is_set (Braced xs) ≡ true
     lawful [] z = absurd (omega (arith, z))
     lawful (x ∷ xs) z = refl

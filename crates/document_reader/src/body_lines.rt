@@ -8,18 +8,17 @@ ghost use Rattle.document_forms.specs.FirstRefusal.{by_form};
 ghost use Rattle.document_forms.specs.Forms.{Controls, Symbols, Facts, Variables, OfWeights, OfRule, weights_of, rule_of, query_of, form_behind};
 ghost use Rattle.document_forms.specs.Kinds.{conditions};
 ghost use Rattle.document_reader.specs.private.Readings.{kind_on, above_now, Takes};
-ghost use Rattle.document_reader.specs.private.RuleReads.{HasFewItems};
+ghost use Rattle.rule_reader.specs.RuleReads.{HasFewItems, IsRuleRead};
 ghost use Rattle.document_reader.specs.private.LineReads.{IsAnswered, AreAnswered};
 
-use crate::lexemes::{is_name, line_front};
-use crate::lines::is_text;
+use crate::lines::{is_text, line_front};
 use crate::name_lines::declare;
 use crate::patterns::QueryFaults;
 use crate::queries::read_query;
 use crate::reading::Reading;
-use crate::rules::read_rule;
 use crate::weights_lines::said_weights;
 use document_forms::WeightsLine;
+use rule_reader::{RuleRead, is_name, read_rule};
 use std::alloc::Global;
 use wpds_base::OutOfMemory;
 use wpds_port::{Kind, Lexeme, Words};
@@ -60,7 +59,7 @@ fn declare_controls<'t>(
 ) -> Result<Option<Kind>, OutOfMemory>
     ensures { IfOk result (AreAnswered reading.old reading.new Controls words.now) }
 {
-    declare(&mut reading.controls, MOST_CONTROLS, words)
+    declare(&mut reading.scope.controls, MOST_CONTROLS, words)
 }
 
 // Declares the symbols that the words behind `symbols` are.
@@ -70,7 +69,7 @@ fn declare_symbols<'t>(
 ) -> Result<Option<Kind>, OutOfMemory>
     ensures { IfOk result (AreAnswered reading.old reading.new Symbols words.now) }
 {
-    declare(&mut reading.symbols, MOST_SYMBOLS, words)
+    declare(&mut reading.scope.symbols, MOST_SYMBOLS, words)
 }
 
 // Declares facts, which gen-kill weights alone have.
@@ -80,8 +79,8 @@ fn declare_facts<'t>(
 ) -> Result<Option<Kind>, OutOfMemory>
     ensures { IfOk result (AreAnswered reading.old reading.new Facts words.now) }
 {
-    match reading.weights {
-        WeightsLine::GenKill => declare(&mut reading.items, MOST_FACTS, words),
+    match reading.scope.weights {
+        WeightsLine::GenKill => declare(&mut reading.scope.items, MOST_FACTS, words),
         _ => Ok(Some(Kind::Form)),
     }
 }
@@ -93,11 +92,22 @@ fn declare_variables<'t>(
 ) -> Result<Option<Kind>, OutOfMemory>
     ensures { IfOk result (AreAnswered reading.old reading.new Variables words.now) }
 {
-    match reading.weights {
-        WeightsLine::Copy => declare(&mut reading.items, MOST_COPIED, words),
-        WeightsLine::Relation => declare(&mut reading.items, MOST_RELATED, words),
+    match reading.scope.weights {
+        WeightsLine::Copy => declare(&mut reading.scope.items, MOST_COPIED, words),
+        WeightsLine::Relation => declare(&mut reading.scope.items, MOST_RELATED, words),
         _ => Ok(Some(Kind::Form)),
     }
+}
+
+// The rule that the words behind `rule` are, below what was read.
+fn next_rule(
+    alloc: Global,
+    reading: &Reading<'_>,
+    words: &Words,
+) -> Result<Option<RuleRead>, OutOfMemory>
+    ensures { IfOk result (IsRuleRead (above_now reading.now) words.now) }
+{
+    read_rule(alloc, &reading.scope, reading.rules.len(), words)
 }
 
 // Takes the rule that the words behind `rule` are.
@@ -110,7 +120,7 @@ fn take_rule(
     ensures { IfOk result (λ k. (all : ℕ) → IsAnswered all reading.old reading.new
         (option_map OfRule (rule_of words.now)) k) }
 {
-    let Some(read) = read_rule(alloc, reading, words)? else {
+    let Some(read) = next_rule(alloc, reading, words)? else {
         return Ok(Some(Kind::Form));
     };
     if let Some(kind) = read.kind {
@@ -146,7 +156,8 @@ fn take_query(
 ) -> Result<Option<Kind>, OutOfMemory>
     ensures { IfOk result (IsAnswered all reading.old reading.new (query_of words.now)) }
 {
-    let Some(read) = read_query(alloc, all, &reading.controls, &reading.symbols, words)? else {
+    let scope = &reading.scope;
+    let Some(read) = read_query(alloc, all, &scope.controls, &scope.symbols, words)? else {
         return Ok(Some(Kind::Form));
     };
     let many = reading.queries.len() >= MOST_QUERIES;
@@ -206,7 +217,7 @@ pub(crate) fn read_line<'t>(
     ensures kind { IfOk result (λ k. k ≡ kind_on all (above_now reading.old) line.now) }
     ensures taken { IfOk result (λ k. IfNone k (Takes reading.old reading.new line.now)) }
 {
-    reading.items.stands_once();
+    reading.scope.items.stands_once();
     if !is_text(line) {
         return Ok(Some(Kind::NotText));
     }

@@ -6,10 +6,10 @@ ghost use Rattle.document_forms.specs.Forms.{line_words, is_first_version as is_
 ghost use Rattle.document_forms.specs.Languages.{language_named, language_of};
 ghost use Rattle.document_reader.specs.private.Readings.{header_kind_on, weights_kind_on, SaysWeights};
 
-use crate::lexemes::is_name;
 use crate::lines::{Lines, is_text};
 use crate::weights_lines::weights_line;
 use document_forms::{Language, WeightsLine};
+use rule_reader::is_name;
 use wpds_port::{Kind, Lexeme, Words};
 
 // Whether the words are this name and the number 1.

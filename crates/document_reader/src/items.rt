@@ -1,12 +1,12 @@
-ghost use Rattle.std.specs.Prelude.{◌≡◌, ◌++◌, ◌∷◌, [], ℕ, List, IfOk, MatchOption, None, false};
+ghost use Rattle.std.specs.Prelude.{◌≡◌, ◌++◌, ◌∷◌, IfOk, MatchOption, None, false};
 ghost use Rattle.wpds_port.specs.Words.{word_of};
 ghost use Rattle.wpds_port.specs.declared.Mark.TheVariants.{OpenBrace, CloseBrace};
-ghost use Rattle.wpds_port.specs.declared.Word.TheVariants.{Name, Mark as Sign};
+ghost use Rattle.wpds_port.specs.declared.Word.TheVariants.{Mark as Sign};
 ghost use Rattle.document_forms.specs.Patterns.{Bare, star_words, items_of};
-ghost use Rattle.document_reader.specs.private.ItemReading.{begins_with_name, begins_with_close, begins_with_star, AreSymbolsRead, HasSymbols, IsSetRead, HasSet, HasItem};
+ghost use Rattle.document_reader.specs.private.ItemReading.{begins_with_close, begins_with_star, IsSetRead, HasSet, HasItem};
 
-use crate::names::NameTable;
 use document_forms::SetText;
+use rule_reader::{NameTable, NamesOnce, read_names};
 use std::alloc::Global;
 use wpds_base::{OutOfMemory, Sequence};
 use wpds_port::{Lexeme, Mark, Words};
@@ -29,69 +29,6 @@ pub(crate) struct ItemRead<'t> {
     pub(crate) rest: Words<'t>,
 }
 
-// The symbols of a set in braces, as far as they are read.
-#[derive(Drop)]
-struct SymbolsRead<'t> {
-    numbers: Vec<u32>,
-    seen: NameTable<'t>,
-    twice: bool,
-    unknown: bool,
-}
-
-impl<'t> SymbolsRead<'t> {
-    fn new(alloc: Global) -> SymbolsRead<'t>
-        ensures { (symbols : List (List ℕ)) → AreSymbolsRead symbols [] result }
-    {
-        SymbolsRead {
-            numbers: Vec::new(alloc),
-            seen: NameTable::new(alloc),
-            twice: false,
-            unknown: false,
-        }
-    }
-
-    fn add(&mut self, symbols: &NameTable, name: &'t [u8]) -> Result<(), OutOfMemory>
-        ensures { IfOk result (λ _. (xs : List (List ℕ)) → AreSymbolsRead symbols.now xs self.old
-            → AreSymbolsRead symbols.now (xs ++ name.now ∷ []) self.new) }
-    {
-        let number = symbols.number_of(name);
-        self.numbers.push(number.unwrap_or(0))?;
-        let added = self.seen.add(name)?;
-        self.twice |= !added;
-        self.unknown |= number.is_none();
-        Ok(())
-    }
-}
-
-/// The name with which words begin, and the words behind it.
-pub(crate) fn split_name<'t>(words: &Words<'t>) -> Option<(&'t [u8], Words<'t>)>
-    ensures { MatchOption result (begins_with_name words.now ≡ false)
-        (λ p. words.now ≡ Name p.0.now ∷ p.1) }
-{
-    match words.split_first() {
-        Some((Lexeme::Name(name), rest)) => Some((name, rest)),
-        _ => None,
-    }
-}
-
-// The names in front, and the words behind them.
-fn read_symbols<'t>(
-    alloc: Global,
-    symbols: &NameTable,
-    words: &Words<'t>,
-) -> Result<(SymbolsRead<'t>, Words<'t>), OutOfMemory>
-    ensures read { IfOk result (λ r. HasSymbols symbols.now words.now r.0 r.1) }
-    ensures all { IfOk result (λ r. begins_with_name r.1 ≡ false) }
-{
-    let mut read = SymbolsRead::new(alloc);
-    let mut left = words.reborrow();
-    while let Some((name, rest)) = split_name(&left) {
-        read.add(symbols, name)?;
-        left = rest;
-    }
-    Ok((read, left))
-}
-
 // The words behind the closing brace with which words begin.
 fn split_close<'t>(words: &Words<'t>) -> Option<Words<'t>>
     ensures { MatchOption result (begins_with_close words.now ≡ false)
@@ -112,16 +49,18 @@ fn read_braced<'t>(
     ensures { IfOk result (λ o. MatchOption o (items_of (Sign OpenBrace ∷ words.now) ≡ None)
         (λ r. HasSet symbols.now (Sign OpenBrace ∷ words.now) r.0 r.1)) }
 {
-    let (read, left) = read_symbols(alloc, symbols, words)?;
+    let (read, left) = read_names(alloc, symbols, words)?;
     if read.numbers.is_empty() {
         return Ok(None);
     }
     let Some(rest) = split_close(&left) else {
         return Ok(None);
     };
+    let mut once = NamesOnce::new(alloc);
+    once.add_names(words)?;
     let set = SetRead {
         set: SetText::Listed(Sequence::from_vec(read.numbers)),
-        twice: read.twice,
+        twice: once.twice,
         unknown: read.unknown,
     };
     Ok(Some((set, rest)))

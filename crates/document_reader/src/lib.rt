@@ -2,22 +2,16 @@
 #![tactic(auto)]
 
 mod body_lines;
-mod digits;
 mod first_line;
 mod headers;
 mod items;
-mod lexemes;
 mod lines;
 mod name_lines;
-mod names;
 mod patterns;
 mod queries;
 mod reading;
-mod returns;
-mod rules;
 mod symbols;
 mod system;
-mod weights;
 mod weights_lines;
 
 pub use first_line::first_line;
@@ -28,5 +22,3 @@ pub use system::read_system;
 mod query_tests;
 #[cfg(test)]
 mod system_tests;
-#[cfg(test)]
-mod tests;

@@ -1,12 +1,15 @@
 //! The lines of a document that count, one after another.
 
-ghost use Rattle.std.specs.Prelude.{◌≡◌, ◌<◌, [], ◌∷◌, length, position, MatchOption};
+ghost use Rattle.std.specs.Prelude.{◌≡◌, ◌<◌, [], ◌∷◌, length, position, None, MatchOption};
 ghost use Rattle.wpds_port.specs.Tokens.{is_blank};
+ghost use Rattle.wpds_port.specs.Words.{word_of};
+ghost use Rattle.document_forms.specs.Forms.{line_form, form_behind};
 ghost use Rattle.document_forms.specs.Lines.{lines, counts as counts_as, is_text as is_text_as, is_allowed, without_return as return_off};
 ghost use Rattle.document_reader.specs.private.LinesLeft.{left, is_feed};
 
 use document_forms::one_cutting_into_lines;
 use std::marker::Model;
+use wpds_port::{Lexeme, Words};
 
 /// A line of a document with its number, from 1.
 #[derive(Clone, Copy)]
@@ -144,4 +147,14 @@ pub(crate) fn is_text(line: &[u8]) -> bool
     ensures { result ≡ is_text_as line.now }
 {
     line.iter().all(|byte| allowed(*byte))
+}
+
+/// The first word of a line and those behind it, if it is cut wholly into words which a form takes.
+pub(crate) fn line_front<'t>(line: &'t [u8]) -> Option<(Lexeme<'t>, Words<'t>)>
+    ensures { MatchOption result
+        (line_form line.now ≡ None)
+        (λ p. line_form line.now ≡ form_behind (word_of p.0) p.1) }
+{
+    let words = Words::of(line)?;
+    words.split_first()
 }

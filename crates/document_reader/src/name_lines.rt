@@ -7,8 +7,8 @@ ghost use Rattle.document_forms.specs.Names.{once, is_reserved as is_reserved_of
 ghost use Rattle.document_reader.specs.private.Readings.{declared_on};
 ghost use Rattle.document_reader.specs.private.NameLines.{names_in, is_free as is_free_of, HasAdded, kind_of_names, Declares};
 
-use crate::lexemes::{is_name, line_front};
-use crate::names::NameTable;
+use crate::lines::line_front;
+use rule_reader::{NameTable, is_name};
 use wpds_base::OutOfMemory;
 use wpds_port::{Kind, Lexeme, Words};
 

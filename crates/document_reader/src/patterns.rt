@@ -8,9 +8,9 @@ ghost use Rattle.document_forms.specs.Patterns.{ItemForm, items_of};
 ghost use Rattle.document_reader.specs.private.ItemReading.{begins_with_colon, IsSetRead, AreItemsRead, HasItems};
 ghost use Rattle.document_reader.specs.private.QueryReading.{IsPatternOf};
 
-use crate::items::{SetRead, read_item, split_name};
-use crate::names::NameTable;
+use crate::items::{SetRead, read_item};
 use document_forms::{ItemText, PatternText, SetText};
+use rule_reader::{NameTable, split_name};
 use std::alloc::Global;
 use wpds_base::{OutOfMemory, Sequence};
 use wpds_port::{Lexeme, Mark, Words};

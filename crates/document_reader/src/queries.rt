@@ -1,9 +1,9 @@
 ghost use Rattle.std.specs.Prelude.{IfOk};
 ghost use Rattle.document_reader.specs.private.QueryReading.{IsQueryRead};
 
-use crate::names::NameTable;
 use crate::patterns::{QueryFaults, read_pattern};
 use document_forms::QueryLine;
+use rule_reader::NameTable;
 use std::alloc::Global;
 use wpds_base::OutOfMemory;
 use wpds_port::{Lexeme, Mark, Words};

@@ -1,7 +1,7 @@
-use crate::names::NameTable;
 use crate::patterns::QueryFaults;
 use crate::queries::{QueryRead, read_query};
 use document_forms::{ItemText, PatternText, SetText};
+use rule_reader::NameTable;
 use std::alloc::Global;
 use wpds_base::OutOfMemory;
 use wpds_port::Words;
@@ -72,52 +72,51 @@ fn many_items(alloc: Global, item: &[u8], count: u32) -> Result<Vec<u8>, OutOfMe
     Ok(text)
 }
 
-// Whether an item has these symbols, or all of them, and a star.
-fn is_item(item: &ItemText, numbers: Option<&[u32]>, star: bool) -> bool {
-    let listed = match &item.set {
-        SetText::All => None,
-        SetText::Listed(symbols) => Some(symbols.as_slice()),
-    };
-    listed == numbers && item.star == star
+// Adds an item by the numbers of its symbols, as `[1, 0]*`, or by `.` where it is all of them.
+fn push_item(alloc: Global, text: &mut String, item: &ItemText) -> Result<(), OutOfMemory> {
+    match &item.set {
+        SetText::All => text.push_str(" .")?,
+        SetText::Listed(symbols) => {
+            let numbers = format!(in alloc; " {:?}", symbols.as_slice())?;
+            text.push_str(numbers.as_str())?;
+        }
+    }
+    if item.star {
+        text.push('*')?;
+    }
+    Ok(())
 }
 
-fn is_pattern(pattern: &PatternText, control: u32, items: &[(Option<&[u32]>, bool)]) -> bool {
-    let written = pattern.items.as_slice();
-    pattern.control == control
-        && written.len() == items.len()
-        && written
-            .iter()
-            .zip(items)
-            .all(|(item, (numbers, star))| is_item(item, *numbers, *star))
+// A pattern by its numbers, as `1 : . [1, 0]*`.
+fn written(alloc: Global, pattern: &PatternText) -> Result<String, OutOfMemory> {
+    let mut text = format!(in alloc; "{} :", pattern.control)?;
+    for item in pattern.items.as_slice() {
+        push_item(alloc, &mut text, item)?;
+    }
+    Ok(text)
+}
+
+// Whether nothing is amiss with a query, and its two patterns have these numbers.
+fn reads_as(alloc: Global, text: &[u8], from: &str, to: &str) -> Result<bool, OutOfMemory> {
+    let Some(read) = query(alloc, 3, text)? else {
+        return Ok(false);
+    };
+    let same_from = written(alloc, &read.query.from)?.as_str() == from;
+    let same_to = written(alloc, &read.query.to)?.as_str() == to;
+    Ok(read.faults == FINE && same_from && same_to)
 }
 
 #[test]
 fn a_query_of_each_kind_of_item(rt: HostRuntime) -> Result<(), OutOfMemory> {
     let text = b"q : . b {c} {b a} .* a* {c}* { b c a } * => p :";
-    let read = query(rt.alloc(), 3, text)?.expect(&rt, "a query");
-    assert_eq!(rt; read.faults, FINE);
-    let items = [
-        (None, false),
-        (Some([1].as_slice()), false),
-        (Some([2].as_slice()), false),
-        (Some([1, 0].as_slice()), false),
-        (None, true),
-        (Some([0].as_slice()), true),
-        (Some([2].as_slice()), true),
-        (Some([1, 2, 0].as_slice()), true),
-    ];
-    assert!(rt; is_pattern(&read.query.from, 1, &items));
-    assert!(rt; is_pattern(&read.query.to, 0, &[]));
+    let from = "1 : . [1] [2] [1, 0] .* [0]* [2]* [1, 2, 0]*";
+    assert!(rt; reads_as(rt.alloc(), text, from, "0 :")?);
     Ok(())
 }
 
 #[test]
 fn each_side_has_its_own_items(rt: HostRuntime) -> Result<(), OutOfMemory> {
-    let read = query(rt.alloc(), 3, b"p:a=>q:.*b")?.expect(&rt, "a query");
-    assert_eq!(rt; read.faults, FINE);
-    assert!(rt; is_pattern(&read.query.from, 0, &[(Some([0].as_slice()), false)]));
-    let items = [(None, true), (Some([1].as_slice()), false)];
-    assert!(rt; is_pattern(&read.query.to, 1, &items));
+    assert!(rt; reads_as(rt.alloc(), b"p:a=>q:.*b", "0 : [0]", "1 : .* [1]")?);
     Ok(())
 }
 
@@ -182,7 +181,12 @@ fn as_many_items_as_there_may_be(rt: HostRuntime) -> Result<(), OutOfMemory> {
     assert!(rt; each_is(rt.alloc(), &most, Some(FINE))?);
     let more = many_items(rt.alloc(), b" a", 1_001)?;
     assert!(rt; each_is(rt.alloc(), &more, Some(TOO_LARGE))?);
-    // What stands behind them is read all the same.
+    Ok(())
+}
+
+// What stands behind too many items is read all the same.
+#[test]
+fn items_behind_too_many(rt: HostRuntime) -> Result<(), OutOfMemory> {
     let broken = many_items(rt.alloc(), b" a* *", 1_001)?;
     assert!(rt; each_is(rt.alloc(), &broken, None)?);
     let both = QueryFaults {
@@ -208,6 +212,11 @@ fn as_many_edges_as_there_may_be(rt: HostRuntime) -> Result<(), OutOfMemory> {
     assert!(rt; turns_large(rt.alloc(), b"p : . a => q :", 999_999)?);
     assert!(rt; turns_large(rt.alloc(), b"p : a* . => q :", 499_999)?);
     assert!(rt; turns_large(rt.alloc(), b"p : => q : .* b .", 333_332)?);
+    Ok(())
+}
+
+#[test]
+fn more_edges_than_a_word_counts(rt: HostRuntime) -> Result<(), OutOfMemory> {
     let far = faults(rt.alloc(), usize::MAX, b"p : .* .* => q :")?;
     assert!(rt; far == Some(TOO_LARGE));
     Ok(())

@@ -5,23 +5,19 @@ ghost use Rattle.wpds_port.specs.Refusals.{refusal};
 ghost use Rattle.wpds_port.specs.declared.Refusal.{Refusal as RefusalValue};
 ghost use Rattle.document_forms.specs.FirstRefusal.{Counted, counted, first_refused};
 ghost use Rattle.document_reader.specs.private.Readings.{HasRead, above_now, only_weights};
-ghost use Rattle.document_reader.specs.private.RuleReads.{HasFewItems};
+ghost use Rattle.rule_reader.specs.RuleReads.{HasFewItems};
 
 use crate::body_lines::read_line;
 use crate::lines::Lines;
-use crate::names::NameTable;
 use document_forms::{QueryLine, RuleLine, WeightsLine, above_with_a_line};
+use rule_reader::{NameTable, Scope};
 use std::alloc::Global;
 use wpds_port::{Kind, ReadFault, Refusal};
 
 /// What the lines that were read declare and ask.
 #[derive(Drop)]
 pub(crate) struct Reading<'t> {
-    pub weights: WeightsLine,
-    pub controls: NameTable<'t>,
-    pub symbols: NameTable<'t>,
-    /// The facts or variables that weights name.
-    pub items: NameTable<'t>,
+    pub scope: Scope<'t>,
     pub rules: Vec<RuleLine>,
     pub queries: Vec<QueryLine>,
 }
@@ -34,10 +30,12 @@ impl<'t> Reading<'t> {
         ensures queries { result.queries.items ≡ [] }
     {
         Reading {
-            weights,
-            controls: NameTable::new(alloc),
-            symbols: NameTable::new(alloc),
-            items: NameTable::new(alloc),
+            scope: Scope {
+                weights,
+                controls: NameTable::new(alloc),
+                symbols: NameTable::new(alloc),
+                items: NameTable::new(alloc),
+            },
             rules: Vec::new(alloc),
             queries: Vec::new(alloc),
         }

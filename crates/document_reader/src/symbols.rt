@@ -6,7 +6,7 @@ ghost use Rattle.document_reader.specs.private.LinesLeft.{left};
 
 use crate::lines::Lines;
 use crate::name_lines::symbols_on;
-use crate::names::NameTable;
+use rule_reader::NameTable;
 use std::alloc::Global;
 use wpds_base::OutOfMemory;
 

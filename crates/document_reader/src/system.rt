@@ -5,7 +5,7 @@ ghost use Rattle.wpds_port.specs.declared.Refusal.{Refusal as RefusalValue};
 ghost use Rattle.document_forms.specs.Documents.{reads_as};
 ghost use Rattle.document_forms.specs.FirstRefusal.{counted, missing, FirstRefusal};
 ghost use Rattle.document_reader.specs.private.Readings.{HasRead, HasFirstTwo, above_now, document_now};
-ghost use Rattle.document_reader.specs.private.RuleReads.{HasFewItems};
+ghost use Rattle.rule_reader.specs.RuleReads.{HasFewItems};
 ghost use Rattle.document_reader.specs.private.Found.{found_first};
 
 use crate::headers::{header_kind, read_weights};
@@ -81,11 +81,12 @@ fn read_first_two<'t>(alloc: Global, lines: &mut Lines<'t>) -> Result<Reading<'t
 fn document(alloc: Global, reading: Reading<'_>) -> Result<Document<Sequence<Text>>, OutOfMemory>
     ensures { IfOk result (λ d. d ≡ document_now reading.entry) }
 {
+    let scope = reading.scope;
     Ok(Document {
-        weights: reading.weights,
-        controls: reading.controls.into_names(alloc)?,
-        symbols: reading.symbols.into_names(alloc)?,
-        items: reading.items.into_names(alloc)?,
+        weights: scope.weights,
+        controls: scope.controls.into_names(alloc)?,
+        symbols: scope.symbols.into_names(alloc)?,
+        items: scope.items.into_names(alloc)?,
         rules: RuleLines::from_vec(reading.rules),
         queries: QueryLines::from_vec(reading.queries),
     })

@@ -10,9 +10,9 @@ ghost use Rattle.document_forms.specs.Kinds.{weights_conditions};
 ghost use Rattle.document_reader.specs.private.Readings.{SaysWeights};
 ghost use Rattle.document_reader.specs.private.LineForms.{form_in, weights_said, IsDeclared};
 
-use crate::digits::number;
-use crate::lexemes::{is_name, line_front};
+use crate::lines::line_front;
 use document_forms::WeightsLine;
+use rule_reader::{is_name, number};
 use wpds_port::{Kind, Lexeme, Words};
 
 // Weights by the words behind `weights`, the cap by its digits.

@@ -10,14 +10,9 @@ use Rattle.document_forms.specs.Patterns.{SetForm, ItemForm, set_words, is_set, 
 use Rattle.document_forms.specs.Kinds.{set_names, set_size, item_size}
 use Rattle.document_forms.specs.Lawful.{set_count, item_count}
 use Rattle.document_forms.specs.Documents.{set_value, item_value}
-use Rattle.document_reader.specs.declared.items.SymbolsRead.{SymbolsRead}
 use Rattle.document_reader.specs.declared.items.SetRead.{SetRead}
 use Rattle.document_reader.specs.declared.items.ItemRead.{ItemRead}
 use Rattle.document_reader.specs.declared.patterns.ItemsRead.{ItemsRead}
-
-abbrev pub begins_with_name : List Word → Bool
-begins_with_name (Name x ∷ ws) = true
-begins_with_name _ = false
 
 abbrev pub begins_with_close : List Word → Bool
 begins_with_close (Sign CloseBrace ∷ ws) = true
@@ -30,22 +25,6 @@ begins_with_colon _ = false
 abbrev pub begins_with_star : List Word → Bool
 begins_with_star (Sign Star ∷ ws) = true
 begins_with_star _ = false
-
--- Symbols are read: how many they are and what is amiss with them, and their numbers if all are
--- known.
-pub record AreSymbolsRead (symbols xs : List (List ℕ)) (r : SymbolsRead) : Type 0 where
-  pub count : length r.numbers.items ≡ length xs
-  pub seen : (x : List ℕ) → is_among r.seen x ≡ is_among xs x
-  pub twice : r.twice ≡ has_twice xs
-  pub unknown : r.unknown ≡ has_unknown symbols xs
-  pub numbers : r.unknown ≡ false → r.numbers.items ≡ map (number_in symbols) xs
-
--- Words begin with names, which are read, and these come behind them.
-pub record HasSymbols
-    (symbols : List (List ℕ)) (ws : List Word) (r : SymbolsRead) (rest : List Word) : Type 0 where
-  pub names : List (List ℕ)
-  pub front : ws ≡ map Name names ++ rest
-  pub read : AreSymbolsRead symbols names r
 
 -- A set is read: how large it is and what is amiss with it, and its value if its symbols are known.
 pub record IsSetRead (symbols : List (List ℕ)) (s : SetForm) (r : SetRead) : Type 0 where

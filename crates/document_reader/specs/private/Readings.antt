@@ -10,6 +10,7 @@ use Rattle.document_forms.specs.Above.{weights_line, Above, above_of, with_line,
 use Rattle.document_forms.specs.Kinds.{weights_conditions, conditions}
 use Rattle.document_forms.specs.FirstRefusal.{Counted, counted, forms, by_form, first_refused}
 use Rattle.document_forms.specs.Documents.{Document, rules_on, queries_on, gathered, body}
+use Rattle.rule_reader.specs.RuleReads.{above_in}
 use Rattle.document_reader.specs.declared.reading.Reading.{Reading}
 
 -- ---- one line
@@ -45,14 +46,7 @@ names_in c ls = flat_map (names_on c) (forms ls)
 
 -- what a reading says above the next line
 abbrev pub above_now : Reading → Above
-above_now r = record {
-  weights = r.weights;
-  controls = r.controls;
-  symbols = r.symbols;
-  items = r.items;
-  rules = length r.rules.items;
-  queries = length r.queries.items;
-}
+above_now r = above_in r.scope (length r.rules.items) (length r.queries.items)
 
 -- what a weights line says
 abbrev pub only_weights : WeightsLine → Above
@@ -95,10 +89,10 @@ pub record HasFirstTwo (lines left : List Line) (r : Reading) : Type 0 where
 -- the document of what was read
 abbrev pub document_now : Reading → Document
 document_now r = record {
-  weights = r.weights;
-  controls = r.controls;
-  symbols = r.symbols;
-  items = r.items;
+  weights = r.scope.weights;
+  controls = r.scope.controls;
+  symbols = r.scope.symbols;
+  items = r.scope.items;
   rules = r.rules.items;
   queries = r.queries.items;
 }

@@ -1,7 +1,7 @@
 use Rattle.std.proofs.Common.{◌≡◌, Some}
 use Rattle.document_forms.specs.Forms.{RuleForm, rule_of}
 use Rattle.document_reader.specs.private.Readings.{above_now}
-use Rattle.document_reader.specs.private.RuleReads.{IsReadRule}
+use Rattle.rule_reader.specs.RuleReads.{IsReadRule}
 use Rattle.document_reader.proofs.BodyLineLemmas.{rule_taken}
 use Rattle.document_reader.proofs.body_lines.take_rule.Goals as goal
 

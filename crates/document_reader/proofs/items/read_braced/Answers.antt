@@ -1,14 +1,18 @@
-use Rattle.std.proofs.Common.{refl, ap, arith}
+use Rattle.std.proofs.Common.{◌∙◌, sym, ap, arith, refl}
 use Rattle.document_forms.specs.declared.pattern.SetText.TheVariants.{Listed}
-use Rattle.document_reader.proofs.SetLemmas.{open_braces, set_in_braces}
+use Rattle.document_reader.specs.private.ItemReading.{begins_with_close}
+use Rattle.document_reader.proofs.SetLemmas.{empty_braces, open_braces, set_in_braces}
 use Rattle.document_reader.proofs.items.read_braced.Goals as goal
+
+pub returns-then-is_empty : goal.returns-then-is_empty
+returns-then-is_empty c = empty_braces c.args.words.now (grind (arith, c.in_ok-read.ensures.numbers.count))
 
 pub returns-in_default : goal.returns-in_default
 returns-in_default c =
-    open_braces c.args.symbols.now c.args.words.now c.in_ok-read.left c.in_ok-read.read c.in_ok-read.ensures.read
-    c.in_ok-read.ensures.all c.in_default.ensures
+    open_braces c.args.words.now (ap begins_with_close (sym c.in_ok-read.ensures.rest) ∙ c.in_default.ensures)
 
 pub returns : goal.returns
 returns c =
-    set_in_braces c.args.symbols.now c.args.words.now c.in_ok-read.left c.in-Some.rest c.in_ok-read.read _
-    c.in_ok-read.ensures.read c.in-Some.ensures (grind arith) (ap Listed c.from_vec.ensures) refl refl
+    set_in_braces c.args.symbols.now c.args.words.now c.in-Some.rest c.in_ok-read.read c.add_names.new.self _
+    (sym c.in_ok-read.ensures.rest ∙ c.in-Some.ensures) c.in_ok-read.ensures.numbers
+    (c.in_ok-add_names.ensures _ c.new-once.ensures) (grind arith) (ap Listed c.from_vec.ensures) refl refl

@@ -1,7 +1,7 @@
 use Rattle.std.proofs.Common.{◌≡◌, List, ◌++◌, length, map}
 use Rattle.document_forms.specs.FirstRefusal.{Counted, counted}
 use Rattle.document_reader.specs.private.Readings.{HasRead, above_now}
-use Rattle.document_reader.specs.private.RuleReads.{HasFewItems}
+use Rattle.rule_reader.specs.RuleReads.{HasFewItems}
 use Rattle.document_reader.proofs.reading.read_body.Given as goal
 
 -- Each list of lines that the reading had at first is now one that it has, and those behind are

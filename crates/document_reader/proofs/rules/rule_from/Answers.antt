@@ -1,7 +1,0 @@
-use Rattle.std.proofs.Common.{refl}
-use Rattle.document_reader.proofs.RuleLemmas.{rule_read}
-use Rattle.document_reader.proofs.rules.rule_from.Goals as goal
-
-pub returns : goal.returns
-returns c =
-    λ a f p. rule_read a f c.args.parts p _ c.kind_of-kind.ensures refl refl refl c.from_vec.ensures c.weight_value.ensures refl

@@ -1,0 +1,13 @@
+mod ActionLemmas
+mod DigitLemmas
+mod EachLemmas
+mod FactLemmas
+mod FormLemmas
+mod FrontNameLemmas
+mod NamesOnceLemmas
+mod NumberedLemmas
+mod PairLemmas
+mod PieceLemmas
+mod ReturnLemmas
+mod RuleLemmas
+mod TreeLemmas

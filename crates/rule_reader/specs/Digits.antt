@@ -1,0 +1,6 @@
+-- Numbers that 64 bits hold.
+use Rattle.std.specs.Prelude.{ℕ, ◌^◌, nat_lt, if◌then◌else◌, Option, Some, None}
+
+-- the number, if 64 bits hold it
+abbrev pub as_u64 : ℕ → Option ℕ
+as_u64 n = if nat_lt n (2 ^ 64) then Some n else None

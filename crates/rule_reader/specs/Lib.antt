@@ -1,0 +1,5 @@
+pub mod private
+pub mod Digits
+pub mod NameReads
+pub mod Names
+pub mod RuleReads

@@ -1,0 +1,10 @@
+pub mod ActionReads
+pub mod FactReads
+pub mod FormReads
+pub mod NameTables
+pub mod PairTexts
+pub mod Pieces
+pub mod Returns
+pub mod Rules
+pub mod TreeReads
+pub mod WeightReads

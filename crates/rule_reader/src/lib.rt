@@ -1,0 +1,21 @@
+//! Reads what stands on one line of a rule: its names, its weight and its return.
+#![tactic(auto)]
+
+mod digits;
+mod lexemes;
+mod name_reads;
+mod names;
+mod returns;
+mod rules;
+mod scope;
+mod weights;
+
+pub use digits::number;
+pub use lexemes::{is_name, split_name};
+pub use name_reads::{NamesOnce, NamesRead, read_names};
+pub use names::NameTable;
+pub use rules::{RuleRead, read_rule};
+pub use scope::Scope;
+
+#[cfg(test)]
+mod tests;
