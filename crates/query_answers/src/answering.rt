@@ -3,6 +3,7 @@ ghost use Rattle.config_patterns.specs.Membership.{PatternValue};
 ghost use Rattle.pattern_openings.specs.PatternOpenings.{IsOver};
 ghost use Rattle.prestar_laws.specs.Ways.{pre_way};
 ghost use Rattle.pushdown_rules.specs.Pushdown.{Pushdown};
+ghost use Rattle.saturation_laws.specs.Books.{IsClosed};
 ghost use Rattle.query_answers.specs.Answering.{IsSaturatedFrom, IsAnswer};
 
 use config_patterns::Pattern;
@@ -39,7 +40,8 @@ pub fn answer_over<S: Semiring>(
     saturation: &Saturation<'_, S>,
     from: &Pattern,
 ) -> Result<Answer<S>, OutOfMemory>
-    requires { from.now.control < saturation.now.system.controls }
+    requires closed { IsClosed saturation.now }
+    requires control { from.now.control < saturation.now.system.controls }
     ensures { (p : Pushdown S S.W S.Ret) (to : PatternValue) → to.control < p.controls
         → IsSaturatedFrom S.operations (pre_way S.operations) p to saturation.now
         → IfOk result (IsAnswer S.operations p from.now to) }

@@ -65,7 +65,14 @@ fn query_lines<S: DocumentWeights>(
     let system = saturation.system();
     let from = pattern_from(alloc, system, &query.from)?;
     let answer = answer_over(alloc, saturation, &from)?;
-    answer_lines(alloc, system.semiring(), &document.items, number, &answer, options)
+    answer_lines(
+        alloc,
+        system.semiring(),
+        &document.items,
+        number,
+        &answer,
+        options,
+    )
 }
 
 // Keeps the lines of each query from a place on whose second pattern is this one.
@@ -129,8 +136,23 @@ fn lines_at<S: DocumentWeights>(
     let query = &document.queries.as_slice()[place];
     let to = pattern_from(alloc, system, &query.to)?;
     let saturation = saturate(alloc, system, &to)?;
-    keep_alike(alloc, &saturation, document, options, &query.to, place + 1, kept)?;
-    query_lines(alloc, &saturation, document, options, place as u64 + 1, query)
+    keep_alike(
+        alloc,
+        &saturation,
+        document,
+        options,
+        &query.to,
+        place + 1,
+        kept,
+    )?;
+    query_lines(
+        alloc,
+        &saturation,
+        document,
+        options,
+        place as u64 + 1,
+        query,
+    )
 }
 
 // As many places for lines, where nothing is kept yet.

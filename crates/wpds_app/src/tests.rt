@@ -76,7 +76,10 @@ const ANSWERED: [(&str, &str); 10] = [
 const REFUSED: [(&str, &str); 4] = [
     ("", "refused: line 5: 10 NothingAsked\n"),
     ("query p: a => r: a\n", "refused: line 5: 6 Unknown\n"),
-    ("rule p a -> p b a a\nquery p: => p:\n", "refused: line 5: 4 Form\n"),
+    (
+        "rule p a -> p b a a\nquery p: => p:\n",
+        "refused: line 5: 4 Form\n",
+    ),
     (
         "rule p a -> p b : 2\nquery p: => p:\n",
         "refused: line 5: 7 WeightText\n",
@@ -156,7 +159,9 @@ const QUERIES: [(&str, &str); 3] = [
 #[test]
 fn answers_queries_in_order(rt: HostRuntime) -> Result<(), Fail> {
     for (queries, text) in QUERIES {
-        let document = format!(in rt.alloc(); "rule p a -> p b a\nrule p b -> q\nrule p a -> q : none\n{queries}")?;
+        let document = format!(in rt.alloc();
+            "rule p a -> p b a\nrule p b -> q\nrule p a -> q : none\n{queries}"
+        )?;
         let (ended, written) = brief_outcome(rt.alloc(), document.as_str())?;
         assert_eq!(rt; ended, Status::Answered, "at {queries}");
         assert_eq!(rt; written.as_slice(), text.as_bytes(), "at {queries}");
