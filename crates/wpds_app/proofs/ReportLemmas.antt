@@ -214,4 +214,4 @@ module _ (d : Document) where
 pub tells : (d : Document) (options : Options) (report : List ℕ) → d.weights ≡ Reach → IsReport options d report → ByQuery (TellsReachability d) 1 d.queries report
 tells d options report reach is =
     of_each (λ i q text h. told d q options i text h) 1 d.queries report
-    (subst (λ w. BySemiring (λ kind semiring. IsReported kind options semiring d report) w) reach is)
+    (subst (λ w. BySemiring (λ S W Map kind semiring. IsReported kind options semiring d report) w) reach is)
