@@ -7,7 +7,8 @@ use Rattle.document_forms.specs.declared.document.RuleLine.{RuleLine}
 use Rattle.document_forms.specs.Names.{name}
 use Rattle.document_forms.specs.Documents.{Document}
 use Rattle.document_forms.specs.Writing.{listed, value_text, names_lines, item_text, pattern_text, action_text, rule_text, weight_texts, map_texts}
-use Rattle.document_writer.specs.private.Rows.{behind_blanks, lines, step_text}
+use Rattle.document_writer.specs.private.Documents.{step_text}
+use Rattle.document_writer.specs.private.Rows.{behind_blanks, lines}
 use Rattle.document_writer.proofs.RowLemmas.{spaced_first, spaced_more}
 
 pub class_written : (word : List ℕ) (names : List (List ℕ)) → (length names == 0) ≡ false → lines (names_lines word names) ≡ (word ++ behind_blanks names) ++ 10 ∷ []

@@ -6,7 +6,8 @@ use Rattle.std.specs.Fmt.{signed_decimal}
 use Rattle.document_forms.specs.declared.weight.FormText.TheVariants.{Meet}
 use Rattle.document_forms.specs.Names.{name}
 use Rattle.document_forms.specs.Writing.{members, constant_texts, or_undef, form_text}
-use Rattle.document_writer.specs.private.Rows.{marked, constant_text, members_from, has_some}
+use Rattle.document_writer.specs.private.Forms.{constant_text, members_from}
+use Rattle.document_writer.specs.private.Rows.{marked, has_some}
 use Rattle.document_writer.proofs.RowLemmas.{listed_marked}
 
 -- ---- one variable more
@@ -40,11 +41,6 @@ or_true false = refl
 pub member_some : (names : List (List ℕ)) (bits k : ℕ) (some : Bool) → k < length names → (bits / 2 ^ k % 2 == 1) ≡ true → (some || has_some (members_from names bits k)) ≡ true
 member_some names bits k some below hit = ap (λ ks. some || has_some ks) (members_hit names bits k below hit) ∙ or_true some
 
-pub members_end : (names : List (List ℕ)) (bits k : ℕ) → length names ≤ k → members_from names bits k ≡ []
-members_end names bits k above =
-    let left : length names - k ≡ 0 = omega arith in
-    ap (λ n. filter (λ v. bits / 2 ^ v % 2 == 1) (range_with_len k n)) left
-
 -- ---- the whole form
 
 some_text : (names : List (List ℕ)) (f : ℕ → List ℕ) (c : Option ℤ) (ms : List ℕ) → (is_some c || has_some ms) ≡ true → or_undef names (constant_texts names c ++ map f ms) ≡ constant_text c ++ marked (codes ", ") (is_some c) (map f ms)
@@ -52,13 +48,5 @@ some_text names f None [] h = absurd cc
 some_text names f None (m ∷ ms) h = listed_marked (f m ∷ map f ms)
 some_text names f (Some c) ms h = listed_marked (signed_decimal c ∷ map f ms)
 
-none_text : (names : List (List ℕ)) (f : ℕ → List ℕ) (c : Option ℤ) (ms : List ℕ) → (is_some c || has_some ms) ≡ false → or_undef names (constant_texts names c ++ map f ms) ≡ (constant_text c ++ marked (codes ", ") (is_some c) (map f ms)) ++ codes "undef"
-none_text names f None [] h = refl
-none_text names f None (m ∷ ms) h = absurd cc
-none_text names f (Some c) ms h = absurd cc
-
 pub form_some : (names : List (List ℕ)) (c : Option ℤ) (bits : ℕ) → (is_some c || has_some (members names bits)) ≡ true → form_text names (Meet c bits) ≡ constant_text c ++ marked (codes ", ") (is_some c) (map (name names) (members names bits))
 form_some names c bits = some_text names (name names) c (members names bits)
-
-pub form_none : (names : List (List ℕ)) (c : Option ℤ) (bits : ℕ) → (is_some c || has_some (members names bits)) ≡ false → form_text names (Meet c bits) ≡ (constant_text c ++ marked (codes ", ") (is_some c) (map (name names) (members names bits))) ++ codes "undef"
-form_none names c bits = none_text names (name names) c (members names bits)

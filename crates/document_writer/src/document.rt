@@ -2,7 +2,8 @@
 
 ghost use Rattle.std.specs.Prelude.{◌≡◌, ◌++◌, OnOk, IfOk};
 ghost use Rattle.document_forms.specs.Writing.{weights_text, names_lines, item_word, written};
-ghost use Rattle.document_writer.specs.private.Rows.{behind_blanks, lines, head_lines};
+ghost use Rattle.document_writer.specs.private.Documents.{head_lines};
+ghost use Rattle.document_writer.specs.private.Rows.{behind_blanks, lines};
 
 use crate::numbers::push_number;
 use crate::rows::push;
@@ -78,10 +79,11 @@ fn push_head(out: &mut Vec<u8>, document: &Document<Sequence<Text>>) -> Result<(
 /// The text of a document: the header, the weights, the names of each class, the rules and the
 /// queries, each on a line of its own. A class without names has no line.
 ///
-/// It is the text of which `document_forms` has the law `written_documents_read_back`: a document
-/// that was read is read back from what is written of it.
+/// By the law `written_documents_read_back` of `document_forms`, a document that was read is read
+/// back from its text, where that is no longer than a document may be.
 ///
-/// A number without a name writes no name. An expression takes as deep a recursion as it is deep.
+/// Any document is written: a number without a name writes nothing in its place. The recursion goes
+/// as deep as an expression is.
 pub fn write_system(alloc: Global, document: &Document<Sequence<Text>>) -> Result<Text, OutOfMemory>
     ensures { IfOk result (λ text. text ≡ written document.now) }
 {

@@ -2,12 +2,14 @@
 
 ghost use Rattle.std.specs.Prelude.{◌≡◌, ◌++◌, OnOk, map};
 ghost use Rattle.document_forms.specs.Writing.{rule_text, query_text};
-ghost use Rattle.document_writer.specs.private.Rows.{lines, step_text};
+ghost use Rattle.document_writer.specs.private.Documents.{step_text};
+ghost use Rattle.document_writer.specs.private.Rows.{lines};
 
 use crate::names::{push_name, push_names};
 use crate::patterns::push_pattern;
 use crate::rows::push;
-use crate::weights::{push_map, push_weight};
+use crate::weights::maps::push_map;
+use crate::weights::push_weight;
 use document_forms::{Document, QueryLine, RuleLine};
 use wpds_base::{OutOfMemory, Sequence};
 use wpds_port::Text;

@@ -1,21 +1,20 @@
 //! Weights and return maps are written with the names of facts or variables.
 
-mod actions;
-mod facts;
-mod forms;
-mod maps;
-
 ghost use Rattle.std.specs.Prelude.{◌≡◌, ◌++◌, OnOk};
 ghost use Rattle.document_forms.specs.Writing.{weight_texts};
 ghost use Rattle.document_writer.specs.private.Rows.{behind_blanks};
 
+mod actions;
+mod facts;
+mod forms;
+pub(crate) mod maps;
+
 use crate::numbers::push_number;
 use crate::rows::push;
-use actions::push_actions;
+use crate::weights::actions::push_actions;
+use crate::weights::facts::push_signs;
+use crate::weights::forms::push_pairs;
 use document_forms::WeightText;
-use facts::push_signs;
-use forms::push_pairs;
-pub(crate) use maps::push_map;
 use wpds_base::OutOfMemory;
 use wpds_port::Text;
 

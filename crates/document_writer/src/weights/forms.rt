@@ -4,7 +4,8 @@ ghost use Rattle.std.specs.Prelude.{◌≡◌, ◌++◌, ◌==◌, ◌/◌, ◌%
 ghost use Rattle.document_forms.specs.declared.weight.FormText.TheVariants.{Meet};
 ghost use Rattle.document_forms.specs.Names.{name};
 ghost use Rattle.document_forms.specs.Writing.{members, form_text, pair_text};
-ghost use Rattle.document_writer.specs.private.Rows.{behind_blanks, marked, constant_text, has_some};
+ghost use Rattle.document_writer.specs.private.Forms.{constant_text};
+ghost use Rattle.document_writer.specs.private.Rows.{behind_blanks, marked, has_some};
 
 use crate::names::push_name;
 use crate::numbers::push_signed;

@@ -2,7 +2,7 @@ use Rattle.std.proofs.Common.{◌≡◌, ◌||◌, true, is_some, ap, sym, ◌�
 use Rattle.std.proofs.lemmas.Grind.{common_steps}
 use Rattle.document_forms.specs.Writing.{members}
 use Rattle.document_writer.specs.private.Rows.{has_some}
-use Rattle.document_writer.proofs.FormLemmas.{form_some, form_none}
+use Rattle.document_writer.proofs.FormLemmas.{form_some}
 use Rattle.document_writer.proofs.weights.forms.push_meet.Goals as goal
 
 pub returns-then-branch : goal.returns-then-branch

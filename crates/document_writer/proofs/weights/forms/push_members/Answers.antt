@@ -1,6 +1,7 @@
 use Rattle.std.proofs.Common.{◌≡◌, ◌<◌, ◌==◌, ◌/◌, ◌%◌, ◌^◌, ◌++◌, ◌+◌, ◌||◌, ℕ, List, true, false, length, sym, ap, ◌∙◌, [], map, codes, if◌then◌else◌, arith}
 use Rattle.document_forms.specs.Names.{name}
-use Rattle.document_writer.specs.private.Rows.{marked, members_from, has_some}
+use Rattle.document_writer.specs.private.Forms.{members_from}
+use Rattle.document_writer.specs.private.Rows.{marked, has_some}
 use Rattle.document_writer.proofs.FormLemmas.{members_missed, member_written, member_some}
 use Rattle.document_writer.proofs.weights.forms.push_members.Goals as goal
 

@@ -1,7 +1,8 @@
 use Rattle.std.proofs.Common.{◌≡◌, ◌++◌, ◌==◌, ◌||◌, not, map, length, codes}
 use Rattle.document_forms.specs.Names.{name}
 use Rattle.document_forms.specs.Writing.{members}
-use Rattle.document_writer.specs.private.Rows.{marked, members_from, has_some}
+use Rattle.document_writer.specs.private.Forms.{members_from}
+use Rattle.document_writer.specs.private.Rows.{marked, has_some}
 use Rattle.document_writer.proofs.weights.forms.push_members.Given as goal
 
 abbrev pub invariant-loop-variable : goal.invariant-loop-variable
