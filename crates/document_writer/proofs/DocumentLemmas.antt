@@ -1,5 +1,5 @@
 -- The parts of a document's text, as they are written one after the other.
-use Rattle.std.proofs.Common.{◌≡◌, ◌==◌, ℕ, Bool, false, List, [], ◌∷◌, ◌++◌, length, map, refl, ap, ◌∙◌, append_assoc, append-nil, codes}
+use Rattle.std.proofs.Common.{◌≡◌, ◌==◌, ℕ, false, List, [], ◌∷◌, ◌++◌, length, map, ap, ◌∙◌, append_assoc, append-nil, codes}
 use Rattle.document_forms.specs.declared.pattern.PatternText.{PatternText}
 use Rattle.document_forms.specs.declared.weight.Action.TheVariants.{Choose, Assign}
 use Rattle.document_forms.specs.declared.weight.Assignment.{Assignment}

@@ -1,6 +1,6 @@
 //! Patterns are written with the names of controls and symbols.
 
-ghost use Rattle.std.specs.Prelude.{◌≡◌, ◌++◌, ◌∷◌, [], OnOk, map, codes};
+ghost use Rattle.std.specs.Prelude.{◌≡◌, ◌++◌, OnOk, map, codes};
 ghost use Rattle.document_forms.specs.Names.{name};
 ghost use Rattle.document_forms.specs.Writing.{spaced, set_text, item_text, pattern_text};
 ghost use Rattle.document_forms.specs.declared.pattern.SetText.TheVariants.{Listed};

@@ -1,4 +1,4 @@
-use Rattle.std.proofs.Common.{◌≡◌, ◌==◌, false, length, ap, sym, ◌∙◌, arith}
+use Rattle.std.proofs.Common.{◌≡◌, ◌==◌, false, length, arith}
 use Rattle.std.proofs.lemmas.Grind.{common_steps}
 use Rattle.document_writer.proofs.DocumentLemmas.{class_written}
 use Rattle.document_writer.proofs.document.push_class.Goals as goal

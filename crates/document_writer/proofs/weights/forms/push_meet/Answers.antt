@@ -1,4 +1,4 @@
-use Rattle.std.proofs.Common.{◌≡◌, ◌||◌, true, is_some, ap, sym, ◌∙◌, arith}
+use Rattle.std.proofs.Common.{◌≡◌, ◌||◌, true, is_some, arith}
 use Rattle.std.proofs.lemmas.Grind.{common_steps}
 use Rattle.document_forms.specs.Writing.{members}
 use Rattle.document_writer.specs.private.Rows.{has_some}

@@ -1,4 +1,4 @@
-use Rattle.std.proofs.Common.{◌≡◌, ◌<◌, ◌==◌, ◌/◌, ◌%◌, ◌^◌, ◌++◌, ◌+◌, ◌||◌, ℕ, List, true, false, length, sym, ap, ◌∙◌, [], map, codes, if◌then◌else◌, arith}
+use Rattle.std.proofs.Common.{◌≡◌, ◌<◌, ◌==◌, ◌/◌, ◌%◌, ◌^◌, ◌++◌, ◌+◌, ◌||◌, true, false, length, sym, ap, ◌∙◌, [], map, codes, if◌then◌else◌, arith}
 use Rattle.document_forms.specs.Names.{name}
 use Rattle.document_writer.specs.private.Forms.{members_from}
 use Rattle.document_writer.specs.private.Rows.{marked, has_some}

@@ -1,4 +1,4 @@
-use Rattle.std.proofs.Common.{◌≡◌, ◌++◌, ◌==◌, ◌||◌, not, map, length, codes}
+use Rattle.std.proofs.Common.{◌≡◌, ◌++◌, ◌||◌, map, codes}
 use Rattle.document_forms.specs.Names.{name}
 use Rattle.document_forms.specs.Writing.{members}
 use Rattle.document_writer.specs.private.Forms.{members_from}
