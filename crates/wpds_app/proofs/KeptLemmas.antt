@@ -1,12 +1,17 @@
 -- Lines that are kept for later queries.
-use Rattle.std.proofs.Common.{◌≡◌, inl, inr, ℕ, zero, suc, ◌<◌, ◌≤◌, List, [], ◌∷◌, length, get_or, set, refl, sym, ap, ◌∙◌, subst, arith}
+use Rattle.std.proofs.Common.{◌≡◌, inl, inr, ℕ, ◌+◌, zero, suc, ◌<◌, ◌≤◌, List, [], ◌∷◌, ◌++◌, length, get_or, set, take, refl, sym, ap, ◌∙◌, subst, arith}
 use Rattle.std.specs.Prelude.{◌⊎◌, All, Option, Some, None, String, slice_get}
+use Rattle.std.specs.String.{string_bytes}
 use Rattle.std.specs.declared.alloc.Global.{Global}
-use Rattle.std.proofs.lemmas.Option.{slice_get_cases}
+use Rattle.std.proofs.lemmas.List.{take_more, length-take-le}
+use Rattle.std.proofs.lemmas.Option.{slice_get_cases, slice_get_read, get_or_from_slice_get}
 use Rattle.document_forms.specs.Documents.{Document}
+use Rattle.document_forms.specs.declared.document.QueryLine.{QueryLine}
 use Rattle.document_systems.specs.Kinds.{Kind}
 use Rattle.wpds_app.specs.declared.words.Options.{Options}
+use Rattle.wpds_app.specs.Reports.{ByQuery, TellsQuery}
 use Rattle.wpds_app.specs.private.Kept.{TellsAt, AreKept}
+use Rattle.wpds_app.proofs.PartLemmas.{one_more}
 
 -- what stands at a place after a change of one place
 changed : {X : Type 0} (xs : List X) (i k : ℕ) (y z : X) → slice_get (set xs i y) k ≡ Some z → ((k ≡ i) × (z ≡ y)) ⊎ (slice_get xs k ≡ Some z)
@@ -25,6 +30,17 @@ module _ {S W Map : Type 0} (kind : Kind S W Map) (options : Options) (semiring 
 
   abbrev Tells : ℕ → String Global → Type 0
   Tells k lines = TellsAt kind options semiring d k lines
+
+  -- the lines of the query that stands at a place
+  pub told_at : (k : ℕ) (q : QueryLine) (lines : String Global) → q ≡ get_or d.queries k q → TellsQuery kind options semiring d (k + 1) q (string_bytes lines) → Tells k lines
+  told_at k q lines is told r there =
+      let same : q ≡ r = is ∙ get_or_from_slice_get d.queries k r q there in
+      subst (λ x. TellsQuery kind options semiring d (k + 1) x (string_bytes lines)) same told
+
+  -- lines that are kept
+  pub kept_at : (kept : List (Option (String Global))) (k : ℕ) (o : Option (String Global)) (lines : String Global) → Kept kept → k < length kept → o ≡ get_or kept k o → o ≡ Some lines → Tells k lines
+  kept_at kept k o lines are within is some =
+      are k lines (slice_get_read kept (length kept) k o refl within is ∙ ap Some some)
 
   pub kept_more : (kept : List (Option (String Global))) (i : ℕ) (lines : String Global) → Kept kept → Tells i lines → Kept (set kept i (Some lines))
   kept_more kept i lines are tells k other is = elim (changed kept i k (Some lines) (Some other) is) [
@@ -46,4 +62,21 @@ module _ {S W Map : Type 0} (kind : Kind S W Map) (options : Options) (semiring 
         let read : there.0 ≡ None = sym there.3 ∙ nothing in
         absurd (let e : Some (Some lines) ≡ Some None = same ∙ ap Some read in cc)
     | inr past ↦ absurd (let e : Some (Some lines) ≡ None = sym is ∙ past.1 in cc)
+  ]
+
+  -- ---- the report with a query more
+
+  abbrev Told : ℕ → QueryLine → List ℕ → Type 0
+  Told i q text = TellsQuery kind options semiring d i q text
+
+  pub one_query_more : (place : ℕ) (text : List ℕ) (lines : String Global) → place < length d.queries → ByQuery Told 1 (take place d.queries) text → Tells place lines
+      → ByQuery Told 1 (take (place + 1) d.queries) (text ++ string_bytes lines)
+  one_query_more place text lines within is tells = elim ((slice_get_cases d.queries place).1) [
+    | inl there ↦
+        let q = there.0 in
+        let more : take (place + 1) d.queries ≡ take place d.queries ++ q ∷ [] = take_more d.queries place q within ∙ ap (λ x. take place d.queries ++ x ∷ []) there.3 in
+        let count : place + 1 ≡ 1 + length (take place d.queries) = omega (arith, length-take-le place d.queries (omega (arith, within))) in
+        let told = subst (λ k. Told k q (string_bytes lines)) count (tells q there.2) in
+        subst (λ qs. ByQuery Told 1 qs (text ++ string_bytes lines)) (sym more) (one_more Told 1 (take place d.queries) text q (string_bytes lines) is told)
+    | inr past ↦ absurd (let low = past.0 in omega (arith, low, within))
   ]

@@ -1,4 +1,4 @@
-ghost use Rattle.std.specs.Prelude.{◌≡◌, ◌<◌, ◌≤◌, All, IfOk, OnOk, MatchOption, None, length};
+ghost use Rattle.std.specs.Prelude.{◌≡◌, ◌<◌, ◌≤◌, All, IfOk, OnOk, MatchOption, None, Some, length, slice_set};
 ghost use Rattle.std.specs.String.{string_bytes};
 ghost use Rattle.wpds_base.specs.Limits.{most_cost};
 ghost use Rattle.document_forms.specs.Lawful.{IsDocument, IsQueryOf};
@@ -57,7 +57,8 @@ fn query_lines<S: DocumentWeights>(
         p ≡ system_of S.kind p.semiring document.now }
     requires query { IsQueryOf document.now query.now }
     requires saturated { let to = side_of document.now query.now.to in
-        IsSaturatedFrom S.operations (pre_way S.operations) saturation.now.system to saturation.now }
+        IsSaturatedFrom S.operations (pre_way S.operations) saturation.now.system to
+        saturation.now }
     ensures { let semiring = saturation.now.system.semiring in
         IfOk result (λ t.
         TellsQuery S.kind options semiring document.now number query.now (string_bytes t)) }
@@ -73,6 +74,14 @@ fn query_lines<S: DocumentWeights>(
         &answer,
         options,
     )
+}
+
+// Keeps lines at a place.
+fn keep(kept: &mut [Option<String>], place: usize, lines: String)
+    requires { place < length kept.old }
+    ensures { kept.new ≡ slice_set kept.old place (Some lines) }
+{
+    kept[place] = Some(lines);
 }
 
 // Keeps the lines of each query from a place on whose second pattern is this one.
@@ -100,11 +109,12 @@ fn keep_alike<S: DocumentWeights>(
     let queries = document.queries.as_slice();
     for k in place..queries.len() {
         let query = &queries[k];
-        if same_pattern(&query.to, to) {
-            let number = k as u64 + 1;
-            let lines = query_lines(alloc, saturation, document, options, number, query)?;
-            kept[k] = Some(lines);
+        if !same_pattern(&query.to, to) {
+            continue;
         }
+        let number = k as u64 + 1;
+        let lines = query_lines(alloc, saturation, document, options, number, query)?;
+        keep(kept, k, lines);
     }
     Ok(())
 }
@@ -136,6 +146,8 @@ fn lines_at<S: DocumentWeights>(
     let query = &document.queries.as_slice()[place];
     let to = pattern_from(alloc, system, &query.to)?;
     let saturation = saturate(alloc, system, &to)?;
+    let number = place as u64 + 1;
+    let lines = query_lines(alloc, &saturation, document, options, number, query)?;
     keep_alike(
         alloc,
         &saturation,
@@ -145,14 +157,7 @@ fn lines_at<S: DocumentWeights>(
         place + 1,
         kept,
     )?;
-    query_lines(
-        alloc,
-        &saturation,
-        document,
-        options,
-        place as u64 + 1,
-        query,
-    )
+    Ok(lines)
 }
 
 // As many places for lines, where nothing is kept yet.
@@ -214,7 +219,7 @@ pub(crate) fn report(
     let text = match document.weights {
         WeightsLine::Reach => report_over(alloc, Reach, document, options)?,
         WeightsLine::Cost { cap } => report_over(alloc, costs(cap), document, options)?,
-        _ => return Ok(None),
+        WeightsLine::GenKill | WeightsLine::Copy | WeightsLine::Relation => return Ok(None),
     };
     Ok(Some(text))
 }

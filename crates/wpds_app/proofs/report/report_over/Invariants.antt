@@ -1,0 +1,13 @@
+use Rattle.std.proofs.Common.{◌≡◌, length, take}
+use Rattle.std.specs.String.{string_bytes}
+use Rattle.wpds_app.specs.Reports.{ByQuery, TellsQuery}
+use Rattle.wpds_app.specs.private.Kept.{AreKept}
+use Rattle.wpds_app.proofs.report.report_over.Given as goal
+
+abbrev pub invariant-loop-place : goal.invariant-loop-place
+invariant-loop-place g l =
+    let kind = g.S.DocumentWeights.kind in
+    let d = l.document in
+    (length l.kept.items ≡ length d.queries)
+    × AreKept kind l.options l.fn.semiring d l.kept.items
+    × ByQuery (TellsQuery kind l.options l.fn.semiring d) 1 (take l.place d.queries) (string_bytes l.text)
