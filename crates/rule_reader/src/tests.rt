@@ -96,7 +96,7 @@ fn lens(alloc: Global, names: &[&[u8]]) -> Result<(usize, usize), OutOfMemory> {
 #[test]
 fn an_empty_table_has_no_names(rt: HostRuntime) -> Result<(), OutOfMemory> {
     let table = NameTable::new(rt.alloc());
-    assert!(rt; !are_numbered(&table, &[b""]) && !are_numbered(&table, &[b"p"]));
+    assert!(rt; table.number_of(b"").is_none() && table.number_of(b"p").is_none());
     assert!(rt; lens(rt.alloc(), &[])? == (0, 0));
     Ok(())
 }
