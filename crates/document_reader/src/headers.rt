@@ -4,6 +4,7 @@ ghost use Rattle.std.specs.Prelude.{◌≡◌, IfOk, option_and_then};
 ghost use Rattle.std.specs.Result.{result_err};
 ghost use Rattle.document_forms.specs.Forms.{line_words, is_first_version as is_first_version_of};
 ghost use Rattle.document_forms.specs.Languages.{language_named, language_of};
+ghost use Rattle.document_reader.specs.FirstLines.{first_line as first_line_of};
 ghost use Rattle.document_reader.specs.private.Readings.{header_kind_on, weights_kind_on, SaysWeights};
 
 use crate::lines::{Lines, is_text};
@@ -51,6 +52,16 @@ pub fn language(bytes: &[u8]) -> Option<Language>
 {
     let line = Lines::new(bytes).next()?;
     header(line.bytes)
+}
+
+/// The number of the first line that counts, from 1, and 0 where there is none. It takes no memory.
+pub fn first_line(bytes: &[u8]) -> u64
+    ensures { result ≡ first_line_of bytes.now }
+{
+    match Lines::new(bytes).next() {
+        Some(line) => line.number,
+        None => 0,
+    }
 }
 
 /// The kind by which the first line that counts is refused.

@@ -2,7 +2,6 @@
 #![tactic(auto)]
 
 mod body_lines;
-mod first_line;
 mod headers;
 mod items;
 mod lines;
@@ -14,8 +13,7 @@ mod symbols;
 mod system;
 mod weights_lines;
 
-pub use first_line::first_line;
-pub use headers::language;
+pub use headers::{first_line, language};
 pub use system::read_system;
 
 #[cfg(test)]

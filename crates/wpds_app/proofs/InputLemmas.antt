@@ -34,9 +34,7 @@ first_named all (h ∷ ls) accepted whole = named h.words (go (is_header_line h)
   where
     go : (b : Bool) → is_header_line h ≡ b → is_header_line h ≡ true
     go true is = is
-    go false is =
-        let kind : (true, Header) ≡ (true, Header) = refl in
-        absurd (accepted [] h ls refl Header (rw is (inr (inl refl))))
+    go false is = absurd (accepted [] h ls refl Header (rw is (inr (inl refl))))
 
 no_program : (input : List ℕ) (d : Document) → reads_as input d → IsProgram input → ⊥
 no_program input d is program =
@@ -47,7 +45,7 @@ no_program input d is program =
 pub accepted_not_refused : NeverBoth → OneDocument → (input : List ℕ) (meaning : Input) (r : Refusal) → IsAccepted input meaning → IsRefused input r → ⊥
 accepted_not_refused both one input (System d) r accepted (inl program) = no_program input d accepted.means program.0
 accepted_not_refused both one input (System d) r accepted (inr (inl system)) = both input d r accepted.means system.1
-accepted_not_refused both one input (System d) r accepted (inr (inr (System e, (means, (unanswerable, is))))) =
+accepted_not_refused both one input (System d) r accepted (inr (inr (System e, means, unanswerable, is))) =
     let same = one input d e accepted.means means in
     unanswerable (subst (λ (x : Document). IsAnswerable (System x)) same accepted.answerable)
 

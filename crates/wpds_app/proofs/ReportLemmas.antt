@@ -1,7 +1,7 @@
 -- Reports on reachability.
 use Rattle.std.proofs.Common.{◌≡◌, inl, inr, ℕ, zero, suc, Bool, true, false, ◌&&◌, ◌||◌, List, [], ◌∷◌, map, length, Option, Some, None, refl, sym, ap, subst, ◌∙◌}
 use Rattle.std.specs.Prelude.{◌≢◌, IfSome, codes, slice_get, unwrap_or, if◌then◌else◌}
-use Rattle.std.specs.List.{AllByRecursion}
+use Rattle.std.specs.List.{AllByRecursion, cons_option}
 use Rattle.semiring_laws.specs.declared.reach.Reach.{Reach as ReachValue}
 use Rattle.semiring_laws.specs.declared.reach.NoMap.{NoMap}
 use Rattle.semiring_laws.specs.Reach.{reach_operations}
@@ -117,7 +117,7 @@ weighs_one (Forms ps) some = refl
 weighs_one (Actions acts) some = refl
 
 weighs_some : (t : WeightText) → reach_weight t ≡ true → t ≢ Zero
-weighs_some t one zero = let none : reach_weight t ≡ false = ap reach_weight zero in cc
+weighs_some t one none = let is : reach_weight t ≡ false = ap reach_weight none in cc
 
 abbrev made : List RuleLine → List (Rule ReachValue Bool NoMap)
 made lines = map (rule_of reach_kind (record {})) lines
@@ -144,25 +144,27 @@ module _ (d : Document) where
 
   rules_one : (run : List ℕ) → LeadsOn d run → AllByRecursion IsOneRule (rules run)
   rules_one [] on = tt
-  rules_one (k ∷ ks) on = go (named d.rules k)
+  rules_one (k ∷ ks) on = go (named d.rules k) (rules_one ks on.1)
     where
-      go : Named d.rules k → AllByRecursion IsOneRule (rules (k ∷ ks))
-      go (Neither none nothing) = rw nothing (rules_one ks on.1)
-      go (Both l line rule) =
+      go : Named d.rules k → AllByRecursion IsOneRule (rules ks) → AllByRecursion IsOneRule (rules (k ∷ ks))
+      go (Neither none nothing) rest = rw nothing rest
+      go (Both l line rule) rest =
           let some : l.weight ≢ Zero = subst (λ o. IfSome o (λ r. r.weight ≢ Zero)) line on.0 in
-          rw rule (weighs_one l.weight some, rules_one ks on.1)
+          rw rule (weighs_one l.weight some, rest)
 
   rules_lead : (run : List ℕ) → AllByRecursion IsOneRule (rules run) → LeadsOn d run
   rules_lead [] one = tt
-  rules_lead (k ∷ ks) one = go (named d.rules k) one
+  rules_lead (k ∷ ks) one = go (named d.rules k) one (rules_lead ks)
     where
-      go : Named d.rules k → AllByRecursion IsOneRule (rules (k ∷ ks)) → LeadsOn d (k ∷ ks)
-      go (Neither none nothing) one =
-          let rest : AllByRecursion IsOneRule (rules ks) = rw (← nothing) one in
-          (rw none tt, rules_lead ks rest)
-      go (Both l line rule) one =
-          let all : AllByRecursion IsOneRule (rule_of reach_kind (record {}) l ∷ rules ks) = rw (← rule) one in
-          (rw line (weighs_some l.weight all.0), rules_lead ks all.1)
+      go : Named d.rules k → AllByRecursion IsOneRule (rules (k ∷ ks)) → (AllByRecursion IsOneRule (rules ks) → LeadsOn d ks) → LeadsOn d (k ∷ ks)
+      go (Neither none nothing) one rest =
+          let P : Option (Rule ReachValue Bool NoMap) → Type 0 = λ o. AllByRecursion IsOneRule (cons_option o (rules ks)) in
+          let all : AllByRecursion IsOneRule (rules ks) = subst P nothing one in
+          (rw none tt, rest all)
+      go (Both l line rule) one rest =
+          let P : Option (Rule ReachValue Bool NoMap) → Type 0 = λ o. AllByRecursion IsOneRule (cons_option o (rules ks)) in
+          let all : AllByRecursion IsOneRule (rule_of reach_kind (record {}) l ∷ rules ks) = subst P rule one in
+          (rw line (weighs_some l.weight all.0), rest all.1)
 
   run_one : (run : List ℕ) → LeadsOn d run → value_of reach_operations system run ≡ true
   run_one run on = value_one (rules run) (starting reach_operations) (rules_one run on) (refl, tt)
@@ -181,11 +183,11 @@ module _ (d : Document) where
 
     reached : (runs : List (List ℕ)) → AllByRecursion IsRun runs → true ≡ combination reach_operations (map (value_of reach_operations system) runs) → IsReachable d q
     reached [] lead some = cc
-    reached (r ∷ rs) lead some = go (value_of reach_operations system r) refl
+    reached (r ∷ rs) lead some = go (value_of reach_operations system r) refl (reached rs lead.1)
       where
-        go : (b : Bool) → value_of reach_operations system r ≡ b → IsReachable d q
-        go true one = (r, run_leads r one, lead.0)
-        go false none = reached rs lead.1 (some ∙ ap (λ b. b || combination reach_operations (map (value_of reach_operations system) rs)) none)
+        go : (b : Bool) → value_of reach_operations system r ≡ b → (true ≡ combination reach_operations (map (value_of reach_operations system) rs) → IsReachable d q) → IsReachable d q
+        go true one rest = (r, run_leads r one, lead.0)
+        go false none rest = rest (some ∙ ap (λ b. b || combination reach_operations (map (value_of reach_operations system) rs)) none)
 
     never : (value : Bool) → value ≡ false → (runs : List (List ℕ)) → Answers reach_operations system (side q.from) (side q.to) value runs → IsReachable d q → ⊥
     never value nothing runs answers (run, on, leads) =
@@ -214,4 +216,4 @@ module _ (d : Document) where
 pub tells : (d : Document) (options : Options) (report : List ℕ) → d.weights ≡ Reach → IsReport options d report → ByQuery (TellsReachability d) 1 d.queries report
 tells d options report reach is =
     of_each (λ i q text h. told d q options i text h) 1 d.queries report
-    (subst (λ w. BySemiring (λ kind semiring. IsReported kind options semiring d report) w) reach is)
+    (subst (λ w. BySemiring (λ S W Map kind semiring. IsReported kind options semiring d report) w) reach is)

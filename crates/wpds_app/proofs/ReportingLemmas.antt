@@ -37,7 +37,7 @@ lines_told kind options p items i from to bytes a (Err e) kept is same text = tt
 
 -- a report is over a semiring that is built
 pub is_built : (weights : WeightsLine) (d : Document) (options : Options) (report : List ℕ)
-    → BySemiring (λ kind semiring. IsReported kind options semiring d report) weights → IsBuilt weights
+    → BySemiring (λ S W Map kind semiring. IsReported kind options semiring d report) weights → IsBuilt weights
 is_built Reach d options report is = tt
 is_built (Cost cap) d options report is = tt
 is_built GenKill d options report is = absurd is
@@ -47,13 +47,13 @@ is_built Relation d options report is = absurd is
 -- what the report says of feasibility, if the weights are these
 abbrev pub TellsFeasibilityBy : WeightsLine → Document → ℕ → QueryLine → List ℕ → Type 0
 TellsFeasibilityBy weights d i q text =
-    (text ≡ query_line i (codes "unreachable")) ↔ BySemiring (λ kind semiring. IsInfeasible kind semiring d q) weights
+    (text ≡ query_line i (codes "unreachable")) ↔ BySemiring (λ S W Map kind semiring. IsInfeasible kind semiring d q) weights
 
 -- weights by weights
 pub by_weights : (d : Document) (options : Options) (report : List ℕ)
     → (IsReported reach_kind options (record {}) d report → ByQuery (TellsFeasibilityBy Reach d) 1 d.queries report)
     → ((cap : ℕ) → IsWeightsLine (Cost cap) → IsReported cost_kind options cap d report → ByQuery (TellsFeasibilityBy (Cost cap) d) 1 d.queries report)
-    → (weights : WeightsLine) → IsWeightsLine weights → BySemiring (λ kind semiring. IsReported kind options semiring d report) weights
+    → (weights : WeightsLine) → IsWeightsLine weights → BySemiring (λ S W Map kind semiring. IsReported kind options semiring d report) weights
     → ByQuery (TellsFeasibilityBy weights d) 1 d.queries report
 by_weights d options report reach cost Reach named reported = reach reported
 by_weights d options report reach cost (Cost cap) named reported = cost cap named reported

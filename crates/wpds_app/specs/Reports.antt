@@ -1,7 +1,8 @@
 -- The report on a document.
-use Rattle.std.specs.Prelude.{◌≡◌, ◌≢◌, ◌⊎◌, ◌↔◌, ℕ, ◌+◌, ◌<◌, ◌≤◌, List, [], ◌∷◌, ◌++◌, Option, None, Some, IfSome, codes, decimal, slice_get, if◌then◌else◌}
+use Rattle.std.specs.Prelude.{◌≡◌, ◌≢◌, ◌⊎◌, ◌↔◌, ℕ, ◌+◌, ◌<◌, ◌≤◌, Bool, List, [], ◌∷◌, ◌++◌, Option, None, Some, IfSome, codes, decimal, slice_get, if◌then◌else◌}
 use Rattle.std.specs.List.{AllByRecursion}
 use Rattle.semiring_laws.specs.declared.reach.NoMap.{NoMap}
+use Rattle.semiring_laws.specs.declared.reach.Reach.{Reach as ReachValue}
 use Rattle.semiring_laws.specs.Reach.{reach_operations}
 use Rattle.cost_weights.specs.Cost.{cost_operations}
 use Rattle.pushdown_rules.specs.Firing.{Run}
@@ -53,19 +54,19 @@ module _ {S W Map : Type 0} (kind : Kind S W Map) (options : Options) where
   IsReported semiring d report = ByQuery (TellsQuery semiring d) 1 d.queries report
 
 -- This holds of the semiring that these weights name, if it is built.
-abbrev pub BySemiring : ({S W Map : Type 0} → Kind S W Map → S → Type 0) → WeightsLine → Type 0
-BySemiring holds Reach = holds reach_kind (record {})
-BySemiring holds (Cost most) = holds cost_kind most
+abbrev pub BySemiring : ((S W Map : Type 0) → Kind S W Map → S → Type 0) → WeightsLine → Type 0
+BySemiring holds Reach = holds ReachValue Bool NoMap reach_kind (record {})
+BySemiring holds (Cost most) = holds ℕ (Option ℕ) NoMap cost_kind most
 BySemiring holds _ = ⊥
 
 -- the semiring of these weights is built
 abbrev pub IsBuilt : WeightsLine → Type 0
-IsBuilt weights = BySemiring (λ kind semiring. Unit {0}) weights
+IsBuilt weights = BySemiring (λ S W Map kind semiring. Unit {0}) weights
 
 -- the report on a document, over the semiring that its weights name
 abbrev pub IsReport : Options → Document → List ℕ → Type 0
 IsReport options d report =
-    BySemiring (λ kind semiring. IsReported kind options semiring d report) d.weights
+    BySemiring (λ S W Map kind semiring. IsReported kind options semiring d report) d.weights
 
 -- ---- what the text of a query tells
 
@@ -78,7 +79,7 @@ IsInfeasible kind semiring d q =
 abbrev pub TellsFeasibility : Document → ℕ → QueryLine → List ℕ → Type 0
 TellsFeasibility d i q text =
     (text ≡ query_line i (codes "unreachable"))
-    ↔ BySemiring (λ kind semiring. IsInfeasible kind semiring d q) d.weights
+    ↔ BySemiring (λ S W Map kind semiring. IsInfeasible kind semiring d q) d.weights
 
 -- no rule of the run has the weight `none`
 abbrev pub LeadsOn : Document → List ℕ → Type 0

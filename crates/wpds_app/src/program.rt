@@ -11,6 +11,7 @@ ghost use Rattle.wpds_app.specs.Commands.{IsCommand, usage_text};
 use crate::Status;
 use crate::reply::read_and_reply;
 use crate::words::command_of;
+use document_forms::one_document_or_one_refusal;
 use std::alloc::Global;
 use wpds_port::{Failed, InputFault, Sink, Source, write_all};
 
@@ -96,6 +97,7 @@ pub fn run<R: Source, W: Sink>(
     ensures exactly { (bytes : List ℕ) → R.left source.old ≡ Some bytes → IsDecided result
         → IsDecidedBy (take (most_bytes + 1) bytes) result }
 {
+    one_document_or_one_refusal();
     let Some(options) = command_of(words) else {
         return finish(sink, Status::WordsRefused, USAGE.as_bytes());
     };

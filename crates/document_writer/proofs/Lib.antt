@@ -1,0 +1,4 @@
+mod BitLemmas
+mod DocumentLemmas
+mod FormLemmas
+mod RowLemmas
