@@ -35,6 +35,9 @@ fn outcome(
     Ok((status, sink.written().to_vec(alloc)?))
 }
 
+// What is written on it.
+const LINE: &str = "query 1: 3\n";
+
 // No call has this number.
 const NEVER: u64 = 1_000_000;
 
@@ -52,20 +55,14 @@ fn failing_reads(rt: HostRuntime) -> Result<(), OutOfMemory> {
     }
     let (status, text) = outcome(rt.alloc(), 8, 100, NEVER)?;
     assert_eq!(rt; status, Status::Answered);
-    assert_eq!(rt; text.as_slice(), b"query 1: 3\n");
+    assert_eq!(rt; text.as_slice(), LINE.as_bytes());
     Ok(())
 }
 
 // Whether so many bytes of the line are written, and then a fault is told.
-fn stops_behind(
-    alloc: Global,
-    room: usize,
-    call: u64,
-    count: usize,
-) -> Result<bool, OutOfMemory> {
+fn stops_behind(alloc: Global, room: usize, call: u64, count: usize) -> Result<bool, OutOfMemory> {
     let (status, text) = outcome(alloc, NEVER, room, call)?;
-    let line = b"query 1: 3\n";
-    Ok(status == Status::WriteFault && text.len() == count && line.starts_with(&text))
+    Ok(status == Status::WriteFault && text.len() == count && LINE.as_bytes().starts_with(&text))
 }
 
 // The last call is the flush.
@@ -83,7 +80,7 @@ fn failing_writes(rt: HostRuntime) -> Result<(), OutOfMemory> {
 fn room_for_the_line(rt: HostRuntime) -> Result<(), OutOfMemory> {
     let (status, text) = outcome(rt.alloc(), NEVER, 11, NEVER)?;
     assert_eq!(rt; status, Status::Answered);
-    assert_eq!(rt; text.as_slice(), b"query 1: 3\n");
+    assert_eq!(rt; text.as_slice(), LINE.as_bytes());
     Ok(())
 }
 
@@ -98,7 +95,10 @@ fn begins(alloc: Global, length: usize, text: &str) -> Result<bool, OutOfMemory>
 #[test]
 fn documents_that_are_cut_off(rt: HostRuntime) -> Result<(), OutOfMemory> {
     for length in 0..105usize {
-        assert!(rt; begins(rt.alloc(), length, "refused: line ")?, "at {length}");
+        assert!(rt;
+            begins(rt.alloc(), length, "refused: line ")?,
+            "at {length}"
+        );
     }
     assert!(rt; begins(rt.alloc(), 105, "query 1: unreachable\n")?);
     assert!(rt; begins(rt.alloc(), 106, "query 1: unreachable\n")?);

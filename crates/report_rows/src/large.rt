@@ -39,7 +39,13 @@ fn bytes(rt: HostRuntime) -> Result<(), OutOfMemory> {
     let more = repeated(rt.alloc(), "", "#", 4_194_305, "")?;
     assert!(rt; writes(rt.alloc(), more.as_bytes(), "refused: line 0: 1 TooLong\n")?);
     let program = repeated(rt.alloc(), "bool 1\n", "#", 4_194_304, "")?;
-    assert!(rt; writes(rt.alloc(), program.as_bytes(), "refused: line 0: 1 TooLong\n")?);
+    assert!(rt;
+        writes(
+            rt.alloc(),
+            program.as_bytes(),
+            "refused: line 0: 1 TooLong\n"
+        )?
+    );
     Ok(())
 }
 
@@ -85,12 +91,30 @@ fn symbols(rt: HostRuntime) -> Result<(), OutOfMemory> {
 #[test]
 fn rules(rt: HostRuntime) -> Result<(), OutOfMemory> {
     let more = repeated(rt.alloc(), HEAD, "rule p a -> p\n", 130_001, "")?;
-    assert!(rt; writes(rt.alloc(), more.as_bytes(), "refused: line 130005: 9 Count\n")?);
+    assert!(rt;
+        writes(
+            rt.alloc(),
+            more.as_bytes(),
+            "refused: line 130005: 9 Count\n"
+        )?
+    );
     let end = "rule p a -> p a : 1 return plain\n";
     let wrong = repeated(rt.alloc(), HEAD, "rule p a -> p\n", 130_000, end)?;
-    assert!(rt; writes(rt.alloc(), wrong.as_bytes(), "refused: line 130005: 7 WeightText\n")?);
+    assert!(rt;
+        writes(
+            rt.alloc(),
+            wrong.as_bytes(),
+            "refused: line 130005: 7 WeightText\n"
+        )?
+    );
     let most = repeated(rt.alloc(), HEAD, "rule p a -> p\n", 130_000, "")?;
-    assert!(rt; writes(rt.alloc(), most.as_bytes(), "refused: line 130005: 10 NothingAsked\n")?);
+    assert!(rt;
+        writes(
+            rt.alloc(),
+            most.as_bytes(),
+            "refused: line 130005: 10 NothingAsked\n"
+        )?
+    );
     Ok(())
 }
 
@@ -102,8 +126,20 @@ fn queries(rt: HostRuntime) -> Result<(), OutOfMemory> {
     assert!(rt; text.ends_with(b"query 999: unreachable\nquery 1000: unreachable\n"));
     let more = repeated(rt.alloc(), HEAD, "query p: a => p:\n", 1_001, "")?;
     assert!(rt; writes(rt.alloc(), more.as_bytes(), "refused: line 1005: 9 Count\n")?);
-    let unknown = repeated(rt.alloc(), HEAD, "query p: a => p:\n", 1_000, "query p: b => p:\n")?;
-    assert!(rt; writes(rt.alloc(), unknown.as_bytes(), "refused: line 1005: 6 Unknown\n")?);
+    let unknown = repeated(
+        rt.alloc(),
+        HEAD,
+        "query p: a => p:\n",
+        1_000,
+        "query p: b => p:\n",
+    )?;
+    assert!(rt;
+        writes(
+            rt.alloc(),
+            unknown.as_bytes(),
+            "refused: line 1005: 6 Unknown\n"
+        )?
+    );
     Ok(())
 }
 
@@ -116,7 +152,13 @@ fn items(rt: HostRuntime) -> Result<(), OutOfMemory> {
     let more = repeated(rt.alloc(), front.as_str(), " a", 1_001, " => p:\n")?;
     assert!(rt; writes(rt.alloc(), more.as_bytes(), "refused: line 5: 9 Count\n")?);
     let unknown = repeated(rt.alloc(), front.as_str(), " a", 1_001, " => q:\n")?;
-    assert!(rt; writes(rt.alloc(), unknown.as_bytes(), "refused: line 5: 6 Unknown\n")?);
+    assert!(rt;
+        writes(
+            rt.alloc(),
+            unknown.as_bytes(),
+            "refused: line 5: 6 Unknown\n"
+        )?
+    );
     let twice = repeated(rt.alloc(), front.as_str(), " a", 1_001, " {b b} => q:\n")?;
     assert!(rt; writes(rt.alloc(), twice.as_bytes(), "refused: line 5: 5 Twice\n")?);
     Ok(())
@@ -160,8 +202,20 @@ fn brackets(rt: HostRuntime) -> Result<(), OutOfMemory> {
     let deep = in_brackets(rt.alloc(), "x", 1_000_000)?;
     assert!(rt; writes(rt.alloc(), deep.as_bytes(), "refused: line 6: 9 Count\n")?);
     let open = in_brackets(rt.alloc(), "x", 999_999)?;
-    assert!(rt; writes(rt.alloc(), open.as_bytes(), "refused: line 6: 7 WeightText\n")?);
+    assert!(rt;
+        writes(
+            rt.alloc(),
+            open.as_bytes(),
+            "refused: line 6: 7 WeightText\n"
+        )?
+    );
     let unknown = in_brackets(rt.alloc(), "y", 1_000_000)?;
-    assert!(rt; writes(rt.alloc(), unknown.as_bytes(), "refused: line 6: 6 Unknown\n")?);
+    assert!(rt;
+        writes(
+            rt.alloc(),
+            unknown.as_bytes(),
+            "refused: line 6: 6 Unknown\n"
+        )?
+    );
     Ok(())
 }

@@ -147,7 +147,10 @@ const SECOND: &str = "2 NotText | weights reaché
 #[test]
 fn the_second_line(rt: HostRuntime) -> Result<(), OutOfMemory> {
     assert_eq!(rt; first_wrong_refusal(rt.alloc(), "wpds 1\n", SECOND)?, None);
-    assert_eq!(rt; first_wrong_refusal(rt.alloc(), "\n# x\nwpds 1\n \n", SECOND)?, None);
+    assert_eq!(rt;
+        first_wrong_refusal(rt.alloc(), "\n# x\nwpds 1\n \n", SECOND)?,
+        None
+    );
     Ok(())
 }
 
@@ -167,7 +170,10 @@ const LATER_WEIGHTS: &str = "5 Twice | weights reach
 #[test]
 fn later_weights_lines(rt: HostRuntime) -> Result<(), OutOfMemory> {
     let second = "wpds 1\nweights reach\n";
-    assert_eq!(rt; first_wrong_refusal(rt.alloc(), second, LATER_WEIGHTS)?, None);
+    assert_eq!(rt;
+        first_wrong_refusal(rt.alloc(), second, LATER_WEIGHTS)?,
+        None
+    );
     let last = "wpds 1\nweights copy\ncontrols p\nsymbols a\nquery p: a => p:\n";
     assert_eq!(rt; first_wrong_refusal(rt.alloc(), last, LATER_WEIGHTS)?, None);
     Ok(())
@@ -356,11 +362,23 @@ fn ends_of_lines(rt: HostRuntime) -> Result<(), OutOfMemory> {
     let document = with_ends(rt.alloc(), "\r\n")?;
     assert!(rt; writes(rt.alloc(), document.as_bytes(), "query 1: 3\n")?);
     let document = with_ends(rt.alloc(), "\r\r\n")?;
-    assert!(rt; writes(rt.alloc(), document.as_bytes(), "refused: line 1: 2 NotText\n")?);
+    assert!(rt;
+        writes(
+            rt.alloc(),
+            document.as_bytes(),
+            "refused: line 1: 2 NotText\n"
+        )?
+    );
     let document = with_ends(rt.alloc(), "\n\r\n")?;
     assert!(rt; writes(rt.alloc(), document.as_bytes(), "query 1: 3\n")?);
     let document = with_ends(rt.alloc(), "\r")?;
-    assert!(rt; writes(rt.alloc(), document.as_bytes(), "refused: line 1: 2 NotText\n")?);
+    assert!(rt;
+        writes(
+            rt.alloc(),
+            document.as_bytes(),
+            "refused: line 1: 2 NotText\n"
+        )?
+    );
     Ok(())
 }
 
@@ -371,8 +389,20 @@ fn ends_of_documents(rt: HostRuntime) -> Result<(), OutOfMemory> {
     assert!(rt; writes(rt.alloc(), b"\n\r", "refused: line 3: 3 Header\n")?);
     assert!(rt; writes(rt.alloc(), b"\r", "refused: line 2: 3 Header\n")?);
     assert!(rt; writes(rt.alloc(), b"wpds 1", "refused: line 2: 10 NothingAsked\n")?);
-    assert!(rt; writes(rt.alloc(), b"wpds 1\r", "refused: line 2: 10 NothingAsked\n")?);
-    assert!(rt; writes(rt.alloc(), b"wpds 1\n\r", "refused: line 3: 10 NothingAsked\n")?);
+    assert!(rt;
+        writes(
+            rt.alloc(),
+            b"wpds 1\r",
+            "refused: line 2: 10 NothingAsked\n"
+        )?
+    );
+    assert!(rt;
+        writes(
+            rt.alloc(),
+            b"wpds 1\n\r",
+            "refused: line 3: 10 NothingAsked\n"
+        )?
+    );
     assert!(rt; writes(rt.alloc(), b"wpds 1\r\r", "refused: line 1: 2 NotText\n")?);
     Ok(())
 }

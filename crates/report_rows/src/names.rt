@@ -55,7 +55,10 @@ refused: line 4: 4 Form
 
 #[test]
 fn long_names(rt: HostRuntime) -> Result<(), OutOfMemory> {
-    assert_eq!(rt; first_wrong(rt.alloc(), "wpds 1\nweights reach\n", LONG)?, None);
+    assert_eq!(rt;
+        first_wrong(rt.alloc(), "wpds 1\nweights reach\n", LONG)?,
+        None
+    );
     Ok(())
 }
 
@@ -126,7 +129,8 @@ fn reserved_words_are_declared_nowhere(rt: HostRuntime) -> Result<(), OutOfMemor
 }
 
 // Words of the two languages that are names like others.
-const FREE: &str = "controls wpds bool weights rule controls symbols facts variables reach fails main gen kill empty
+const FREE: &str =
+    "controls wpds bool weights rule controls symbols facts variables reach fails main gen kill empty
 symbols wpds bool weights rule controls symbols facts variables reach fails main gen kill empty
 rule rule symbols -> weights facts
 rule weights facts -> controls variables reach
@@ -173,7 +177,10 @@ query 4: reachable
 
 #[test]
 fn words_that_are_not_reserved(rt: HostRuntime) -> Result<(), OutOfMemory> {
-    assert_eq!(rt; first_wrong(rt.alloc(), "wpds 1\nweights reach\n", FREE)?, None);
+    assert_eq!(rt;
+        first_wrong(rt.alloc(), "wpds 1\nweights reach\n", FREE)?,
+        None
+    );
     Ok(())
 }
 
@@ -234,7 +241,8 @@ fn names_of_other_weights(rt: HostRuntime) -> Result<(), OutOfMemory> {
 #[test]
 fn a_name_in_three_classes(rt: HostRuntime) -> Result<(), OutOfMemory> {
     let head = "wpds 1\nweights copy\ncontrols p\nsymbols p\nvariables p q\n";
-    let lines = "rule p p -> p : p=p\nrule p p -> p p p : q=p return restore q\nsymbols q\ncontrols q";
+    let lines =
+        "rule p p -> p : p=p\nrule p p -> p p p : q=p return restore q\nsymbols q\ncontrols q";
     assert_eq!(rt; first_not_accepted(rt.alloc(), head, lines)?, None);
     Ok(())
 }

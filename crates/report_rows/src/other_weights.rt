@@ -154,8 +154,15 @@ fn refused_documents(rt: HostRuntime) -> Result<(), OutOfMemory> {
 }
 
 // A document with so many facts or variables on its line 5, and with a query.
-fn with_items(alloc: Global, weights: &str, class: &str, count: u32) -> Result<String, OutOfMemory> {
-    let mut text = format!(in alloc; "wpds 1\nweights {weights}\ncontrols p\nsymbols a b\n{class}")?;
+fn with_items(
+    alloc: Global,
+    weights: &str,
+    class: &str,
+    count: u32,
+) -> Result<String, OutOfMemory> {
+    let mut text = format!(in alloc;
+        "wpds 1\nweights {weights}\ncontrols p\nsymbols a b\n{class}"
+    )?;
     for number in 0..count {
         text.push_str(format!(in alloc; " f{number}")?.as_str())?;
     }

@@ -88,11 +88,7 @@ pub(crate) fn first_wrong_refusal(
 // Whether a document is accepted whose weights are not built.
 fn is_accepted(alloc: Global, head: &str, line: &str) -> Result<bool, OutOfMemory> {
     let document = format!(in alloc; "{head}{line}\nquery p: => p:\n")?;
-    writes(
-        alloc,
-        document.as_bytes(),
-        "refused: line 0: 14 NotBuilt\n",
-    )
+    writes(alloc, document.as_bytes(), "refused: line 0: 14 NotBuilt\n")
 }
 
 /// The number, from 1, of the first of the lines that is not accepted behind the head, whose

@@ -147,7 +147,10 @@ rule p a -> p a b : none return plain";
 
 #[test]
 fn rules_with_facts_that_are_accepted(rt: HostRuntime) -> Result<(), OutOfMemory> {
-    assert_eq!(rt; first_not_accepted(rt.alloc(), FACTS, FACT_RULES_ACCEPTED)?, None);
+    assert_eq!(rt;
+        first_not_accepted(rt.alloc(), FACTS, FACT_RULES_ACCEPTED)?,
+        None
+    );
     Ok(())
 }
 
@@ -217,7 +220,10 @@ rule p a -> p a b return restore z y x";
 
 #[test]
 fn rules_with_copies_that_are_accepted(rt: HostRuntime) -> Result<(), OutOfMemory> {
-    assert_eq!(rt; first_not_accepted(rt.alloc(), COPIES, COPY_RULES_ACCEPTED)?, None);
+    assert_eq!(rt;
+        first_not_accepted(rt.alloc(), COPIES, COPY_RULES_ACCEPTED)?,
+        None
+    );
     Ok(())
 }
 
@@ -305,7 +311,10 @@ const EXPRESSIONS: &str = "7 WeightText | rule p a -> p : assume 2
 
 #[test]
 fn expressions(rt: HostRuntime) -> Result<(), OutOfMemory> {
-    assert_eq!(rt; first_wrong_refusal(rt.alloc(), RELATIONS, EXPRESSIONS)?, None);
+    assert_eq!(rt;
+        first_wrong_refusal(rt.alloc(), RELATIONS, EXPRESSIONS)?,
+        None
+    );
     Ok(())
 }
 
@@ -327,11 +336,15 @@ rule p a -> p : one";
 
 #[test]
 fn actions_that_are_accepted(rt: HostRuntime) -> Result<(), OutOfMemory> {
-    assert_eq!(rt; first_not_accepted(rt.alloc(), RELATIONS, ACTIONS_ACCEPTED)?, None);
+    assert_eq!(rt;
+        first_not_accepted(rt.alloc(), RELATIONS, ACTIONS_ACCEPTED)?,
+        None
+    );
     Ok(())
 }
 
-const DEEP: &str = "9 Count | rule p a -> p : assume ((((((((((((((((((((((((((((((((((((((((((((((((((((((((((((((((x))))))))))))))))))))))))))))))))))))))))))))))))))))))))))))))))
+const DEEP: &str =
+    "9 Count | rule p a -> p : assume ((((((((((((((((((((((((((((((((((((((((((((((((((((((((((((((((x))))))))))))))))))))))))))))))))))))))))))))))))))))))))))))))))
 9 Count | rule p a -> p : assume !!!!!!!!!!!!!!!!!!!!!!!!!!!!!!!!!!!!!!!!!!!!!!!!!!!!!!!!!!!!!!!!x
 9 Count | rule p a -> p : x := tab2 8 (tab2 8 (tab2 8 (tab2 8 (tab2 8 (tab2 8 (tab2 8 (tab2 8 (tab2 8 (tab2 8 (tab2 8 (tab2 8 (tab2 8 (tab2 8 (tab2 8 (tab2 8 (tab2 8 (tab2 8 (tab2 8 (tab2 8 (tab2 8 (tab2 8 (tab2 8 (tab2 8 (tab2 8 (tab2 8 (tab2 8 (tab2 8 (tab2 8 (tab2 8 (tab2 8 (tab2 8 (tab2 8 (tab2 8 (tab2 8 (tab2 8 (tab2 8 (tab2 8 (tab2 8 (tab2 8 (tab2 8 (tab2 8 (tab2 8 (tab2 8 (tab2 8 (tab2 8 (tab2 8 (tab2 8 (tab2 8 (tab2 8 (tab2 8 (tab2 8 (tab2 8 (tab2 8 (tab2 8 (tab2 8 (tab2 8 (tab2 8 (tab2 8 (tab2 8 (tab2 8 (tab2 8 (tab2 8 (tab2 8 (x, y), y), y), y), y), y), y), y), y), y), y), y), y), y), y), y), y), y), y), y), y), y), y), y), y), y), y), y), y), y), y), y), y), y), y), y), y), y), y), y), y), y), y), y), y), y), y), y), y), y), y), y), y), y), y), y), y), y), y), y), y), y), y), y)
 9 Count | rule p a -> p : assume tab3 202 (y, tab3 202 (y, tab3 202 (y, tab3 202 (y, tab3 202 (y, tab3 202 (y, tab3 202 (y, tab3 202 (y, tab3 202 (y, tab3 202 (y, tab3 202 (y, tab3 202 (y, tab3 202 (y, tab3 202 (y, tab3 202 (y, tab3 202 (y, tab3 202 (y, tab3 202 (y, tab3 202 (y, tab3 202 (y, tab3 202 (y, tab3 202 (y, tab3 202 (y, tab3 202 (y, tab3 202 (y, tab3 202 (y, tab3 202 (y, tab3 202 (y, tab3 202 (y, tab3 202 (y, tab3 202 (y, tab3 202 (y, tab3 202 (y, tab3 202 (y, tab3 202 (y, tab3 202 (y, tab3 202 (y, tab3 202 (y, tab3 202 (y, tab3 202 (y, tab3 202 (y, tab3 202 (y, tab3 202 (y, tab3 202 (y, tab3 202 (y, tab3 202 (y, tab3 202 (y, tab3 202 (y, tab3 202 (y, tab3 202 (y, tab3 202 (y, tab3 202 (y, tab3 202 (y, tab3 202 (y, tab3 202 (y, tab3 202 (y, tab3 202 (y, tab3 202 (y, tab3 202 (y, tab3 202 (y, tab3 202 (y, tab3 202 (y, tab3 202 (y, tab3 202 (y, x, z), z), z), z), z), z), z), z), z), z), z), z), z), z), z), z), z), z), z), z), z), z), z), z), z), z), z), z), z), z), z), z), z), z), z), z), z), z), z), z), z), z), z), z), z), z), z), z), z), z), z), z), z), z), z), z), z), z), z), z), z), z), z), z)
@@ -351,7 +364,8 @@ fn deep_expressions(rt: HostRuntime) -> Result<(), OutOfMemory> {
     Ok(())
 }
 
-const DEEPEST: &str = "rule p a -> p : assume (((((((((((((((((((((((((((((((((((((((((((((((((((((((((((((((x)))))))))))))))))))))))))))))))))))))))))))))))))))))))))))))))
+const DEEPEST: &str =
+    "rule p a -> p : assume (((((((((((((((((((((((((((((((((((((((((((((((((((((((((((((((x)))))))))))))))))))))))))))))))))))))))))))))))))))))))))))))))
 rule p a -> p : assume !!!!!!!!!!!!!!!!!!!!!!!!!!!!!!!!!!!!!!!!!!!!!!!!!!!!!!!!!!!!!!!x
 rule p a -> p : x := tab2 8 (tab2 8 (tab2 8 (tab2 8 (tab2 8 (tab2 8 (tab2 8 (tab2 8 (tab2 8 (tab2 8 (tab2 8 (tab2 8 (tab2 8 (tab2 8 (tab2 8 (tab2 8 (tab2 8 (tab2 8 (tab2 8 (tab2 8 (tab2 8 (tab2 8 (tab2 8 (tab2 8 (tab2 8 (tab2 8 (tab2 8 (tab2 8 (tab2 8 (tab2 8 (tab2 8 (tab2 8 (tab2 8 (tab2 8 (tab2 8 (tab2 8 (tab2 8 (tab2 8 (tab2 8 (tab2 8 (tab2 8 (tab2 8 (tab2 8 (tab2 8 (tab2 8 (tab2 8 (tab2 8 (tab2 8 (tab2 8 (tab2 8 (tab2 8 (tab2 8 (tab2 8 (tab2 8 (tab2 8 (tab2 8 (tab2 8 (tab2 8 (tab2 8 (tab2 8 (tab2 8 (tab2 8 (tab2 8 (x, y), y), y), y), y), y), y), y), y), y), y), y), y), y), y), y), y), y), y), y), y), y), y), y), y), y), y), y), y), y), y), y), y), y), y), y), y), y), y), y), y), y), y), y), y), y), y), y), y), y), y), y), y), y), y), y), y), y), y), y), y), y), y)
 rule p a -> p : assume tab3 202 (y, tab3 202 (y, tab3 202 (y, tab3 202 (y, tab3 202 (y, tab3 202 (y, tab3 202 (y, tab3 202 (y, tab3 202 (y, tab3 202 (y, tab3 202 (y, tab3 202 (y, tab3 202 (y, tab3 202 (y, tab3 202 (y, tab3 202 (y, tab3 202 (y, tab3 202 (y, tab3 202 (y, tab3 202 (y, tab3 202 (y, tab3 202 (y, tab3 202 (y, tab3 202 (y, tab3 202 (y, tab3 202 (y, tab3 202 (y, tab3 202 (y, tab3 202 (y, tab3 202 (y, tab3 202 (y, tab3 202 (y, tab3 202 (y, tab3 202 (y, tab3 202 (y, tab3 202 (y, tab3 202 (y, tab3 202 (y, tab3 202 (y, tab3 202 (y, tab3 202 (y, tab3 202 (y, tab3 202 (y, tab3 202 (y, tab3 202 (y, tab3 202 (y, tab3 202 (y, tab3 202 (y, tab3 202 (y, tab3 202 (y, tab3 202 (y, tab3 202 (y, tab3 202 (y, tab3 202 (y, tab3 202 (y, tab3 202 (y, tab3 202 (y, tab3 202 (y, tab3 202 (y, tab3 202 (y, tab3 202 (y, tab3 202 (y, tab3 202 (y, x, z), z), z), z), z), z), z), z), z), z), z), z), z), z), z), z), z), z), z), z), z), z), z), z), z), z), z), z), z), z), z), z), z), z), z), z), z), z), z), z), z), z), z), z), z), z), z), z), z), z), z), z), z), z), z), z), z), z), z), z), z), z), z)
@@ -415,6 +429,9 @@ rule p a->p a b:assume x return move x = y z = y";
 
 #[test]
 fn return_maps_that_are_accepted(rt: HostRuntime) -> Result<(), OutOfMemory> {
-    assert_eq!(rt; first_not_accepted(rt.alloc(), RELATIONS, RETURNS_ACCEPTED)?, None);
+    assert_eq!(rt;
+        first_not_accepted(rt.alloc(), RELATIONS, RETURNS_ACCEPTED)?,
+        None
+    );
     Ok(())
 }
