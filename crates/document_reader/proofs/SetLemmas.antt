@@ -1,9 +1,9 @@
 -- What is read of the symbols of a set, and of the set.
-use Rattle.std.proofs.Common.{◌≡◌, ℕ, ◌+◌, ◌<◌, Bool, true, false, not, ◌||◌, cond, List, [], ◌∷◌, ◌++◌, length, map, Option, Some, None, refl, sym, ap, ◌∙◌, subst, append_assoc, arith}
-use Rattle.std.specs.Prelude.{bytes_eq, unwrap_or, is_none, if◌then◌else◌}
+use Rattle.std.proofs.Common.{◌≡◌, ℕ, ◌<◌, Bool, true, false, not, ◌||◌, cond, List, [], ◌∷◌, ◌++◌, length, map, Some, None, refl, sym, ap, ◌∙◌, subst, append_assoc, arith}
+use Rattle.std.specs.Prelude.{unwrap_or, is_none}
 use Rattle.std.proofs.lemmas.List.Folds.{list_any-append}
 use Rattle.std.proofs.Math.Bool.{or-false}
-use Rattle.document_forms.specs.Names.{is_among, number_in, has_twice, has_unknown}
+use Rattle.document_forms.specs.Names.{is_among, number_in, has_unknown}
 use Rattle.rule_reader.specs.declared.name_reads.NamesOnce.{NamesOnce}
 use Rattle.rule_reader.specs.declared.name_reads.NamesRead.{NamesRead}
 use Rattle.rule_reader.specs.Names.{number_among, begins_with_name, names_in_front, behind_names}

@@ -49,7 +49,10 @@ fn query(alloc: Global, all: usize, text: &[u8]) -> Result<Option<QueryRead>, Ou
 
 // What is amiss with a query, where it has its form.
 fn faults(alloc: Global, all: usize, text: &[u8]) -> Result<Option<QueryFaults>, OutOfMemory> {
-    Ok(query(alloc, all, text)?.map(|read| read.faults))
+    match query(alloc, all, text)? {
+        Some(read) => Ok(Some(read.faults)),
+        None => Ok(None),
+    }
 }
 
 // Whether this is amiss with the query on each of the lines; of none, that it has no form.

@@ -1,6 +1,6 @@
 -- Actions that were read, and one more.
 use Rattle.std.proofs.Common.{◌≡◌, ℕ, ◌<◌, ◌≤◌, Bool, true, false, not, ◌||◌, List, [], ◌∷◌, ◌++◌, length, get_or, map, min, Option, Some, refl, sym, ap, ap₂, ◌∙◌, arith}
-use Rattle.std.specs.Prelude.{zip, flat_map, option_map}
+use Rattle.std.specs.Prelude.{zip, flat_map}
 use Rattle.std.specs.List.{list_any}
 use Rattle.std.proofs.lemmas.Bool.{or_parts, or_from}
 use Rattle.std.proofs.lemmas.List.{map-append}
@@ -11,7 +11,7 @@ use Rattle.wpds_port.specs.declared.Word.TheVariants.{Name, Number, Mark as Sign
 use Rattle.wpds_port.specs.Words.{same_word}
 use Rattle.truth_tables.specs.Grammar.{has_large_table}
 use Rattle.document_forms.specs.Names.{number_in, has_unknown, is_among}
-use Rattle.document_forms.specs.Words.{is_comma, is_becomes, before, behind, parted, parted_outside, name_of, each, each_of_some, ◌>>=◌}
+use Rattle.document_forms.specs.Words.{is_comma, is_becomes, before, behind, parted, parted_outside, each, ◌>>=◌}
 use Rattle.document_forms.specs.Weights.{ValueForm, ActionForm, AssignForm, target_of, value_of as value_form, assign_of}
 use Rattle.document_forms.specs.Kinds.{value_names, value_trees}
 use Rattle.document_forms.specs.Documents.{value_of, assignment_of}

@@ -1,5 +1,5 @@
 -- What reading names gives.
-use Rattle.std.specs.Prelude.{◌≡◌, ℕ, false, List, map, length, if◌then◌else◌, Option, Some, None}
+use Rattle.std.specs.Prelude.{◌≡◌, ℕ, false, List, map, length}
 use Rattle.document_forms.specs.Names.{is_among, has_twice, has_unknown, number_in}
 use Rattle.rule_reader.specs.declared.name_reads.NamesOnce.{NamesOnce}
 use Rattle.rule_reader.specs.declared.name_reads.NamesRead.{NamesRead}

@@ -1,4 +1,4 @@
-//! Reads what stands on one line of a rule: its names, its weight and its return.
+//! Reads the line of a rule: its names, its weight and its return.
 #![tactic(auto)]
 
 mod digits;
@@ -17,5 +17,7 @@ pub use names::NameTable;
 pub use rules::{RuleRead, read_rule};
 pub use scope::Scope;
 
+#[cfg(test)]
+mod rule_tests;
 #[cfg(test)]
 mod tests;

@@ -4,8 +4,8 @@ use Rattle.std.specs.List.{list_any}
 use Rattle.wpds_base.specs.Limits.{most_items}
 use Rattle.wpds_port.specs.declared.Mark.TheVariants.{Colon, Star, CloseBrace}
 use Rattle.wpds_port.specs.declared.Word.{Word}
-use Rattle.wpds_port.specs.declared.Word.TheVariants.{Name, Mark as Sign}
-use Rattle.document_forms.specs.Names.{is_among, number_in, has_twice, has_unknown}
+use Rattle.wpds_port.specs.declared.Word.TheVariants.{Mark as Sign}
+use Rattle.document_forms.specs.Names.{has_twice, has_unknown}
 use Rattle.document_forms.specs.Patterns.{SetForm, ItemForm, set_words, is_set, items_of}
 use Rattle.document_forms.specs.Kinds.{set_names, set_size, item_size}
 use Rattle.document_forms.specs.Lawful.{set_count, item_count}

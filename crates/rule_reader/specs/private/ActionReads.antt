@@ -1,5 +1,5 @@
 -- What reading the actions of a relation gives.
-use Rattle.std.specs.Prelude.{◌≡◌, IsTrue, ℕ, false, ◌||◌, min, nat_lt, List, length, map, flat_map, zip, Option, None, Some, MatchOption}
+use Rattle.std.specs.Prelude.{◌≡◌, IsTrue, ℕ, ◌||◌, min, nat_lt, List, length, map, flat_map, zip, Option, None, Some, MatchOption}
 use Rattle.std.specs.List.{list_any}
 use Rattle.wpds_port.specs.declared.Word.{Word}
 use Rattle.truth_tables.specs.Grammar.{has_large_table}

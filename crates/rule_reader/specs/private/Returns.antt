@@ -1,10 +1,9 @@
 -- Return maps as they are read.
 use Rattle.std.specs.Prelude.{◌≡◌, ℕ, Bool, true, false, ◌&&◌, List, [], ◌∷◌, map, flat_map, Option, None, Some, option_map, unwrap_or, IfSome, MatchOption}
-use Rattle.std.specs.List.{list_all}
 use Rattle.wpds_port.specs.declared.Word.{Word}
 use Rattle.wpds_port.specs.declared.Word.TheVariants.{Name}
 use Rattle.document_forms.specs.declared.weight.WeightsLine.{WeightsLine}
-use Rattle.document_forms.specs.Names.{has_unknown, number_in}
+use Rattle.document_forms.specs.Names.{has_unknown}
 use Rattle.document_forms.specs.Words.{is_equal}
 use Rattle.document_forms.specs.Returns.{MoveForm, ReturnForm, PlainReturn, GivenMap, moves_of, return_of}
 use Rattle.document_forms.specs.Kinds.{has_map_twice, map_names, is_foreign_map}

@@ -1,7 +1,6 @@
 -- What reading a weight gives.
-use Rattle.std.specs.Prelude.{◌≡◌, IsTrue, ℕ, ◌^◌, Bool, true, false, not, ◌||◌, nat_le, nat_lt, if◌then◌else◌, List, length, Option, Some, None, MatchOption}
+use Rattle.std.specs.Prelude.{◌≡◌, IsTrue, ℕ, Bool, true, false, not, ◌||◌, nat_le, List, length, Option, Some, None, MatchOption}
 use Rattle.wpds_base.specs.Limits.{most_copied}
-use Rattle.truth_tables.specs.Grammar.{number_of}
 use Rattle.document_forms.specs.declared.weight.WeightsLine.{WeightsLine}
 use Rattle.wpds_port.specs.declared.Word.{Word}
 use Rattle.document_forms.specs.Names.{has_unknown}

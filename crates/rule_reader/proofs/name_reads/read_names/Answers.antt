@@ -1,6 +1,5 @@
-use Rattle.std.proofs.Common.{◌∙◌, ◌∷◌, ◌++◌, [], ap, sym, subst, append-nil}
+use Rattle.std.proofs.Common.{◌∙◌, ◌∷◌, ◌++◌, [], ap, sym}
 use Rattle.rule_reader.specs.Names.{names_in_front, behind_names}
-use Rattle.rule_reader.specs.NameReads.{AreNumbersRead}
 use Rattle.rule_reader.proofs.FrontNameLemmas.{front_goes_on}
 use Rattle.rule_reader.proofs.name_reads.read_names.Goals as goal
 

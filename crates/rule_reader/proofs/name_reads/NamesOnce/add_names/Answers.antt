@@ -1,4 +1,4 @@
-use Rattle.std.proofs.Common.{◌∙◌, ◌∷◌, ◌++◌, [], ap, sym, subst, append_assoc, append-nil}
+use Rattle.std.proofs.Common.{◌∷◌, ◌++◌, [], ap, sym, subst, append_assoc, append-nil}
 use Rattle.rule_reader.specs.Names.{names_in_front}
 use Rattle.rule_reader.specs.NameReads.{HasNames}
 use Rattle.rule_reader.proofs.FrontNameLemmas.{front_goes_on}

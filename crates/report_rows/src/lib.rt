@@ -1,0 +1,23 @@
+//! Rows of whole documents and what `check` writes on them, as tests.
+#![tactic(auto)]
+
+#[cfg(test)]
+mod answers;
+#[cfg(test)]
+mod devices;
+#[cfg(test)]
+mod large;
+#[cfg(test)]
+mod lines;
+#[cfg(test)]
+mod lowest;
+#[cfg(test)]
+mod names;
+#[cfg(test)]
+mod other_weights;
+#[cfg(test)]
+mod patterns;
+#[cfg(test)]
+mod rows;
+#[cfg(test)]
+mod rules;

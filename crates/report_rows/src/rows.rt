@@ -1,0 +1,107 @@
+//! What `check` writes on a document, and rows that say what it has to be.
+
+use std::alloc::Global;
+use wpds_app::run;
+use wpds_base::OutOfMemory;
+use wpds_port::{MemSink, MemSource};
+
+// How many bytes are written at most.
+const ROOM: usize = 100_000;
+
+// How many bytes are read or written at a time.
+const PIECE: usize = 4096;
+
+/// What `check --brief` writes on a document.
+pub(crate) fn written(alloc: Global, document: &[u8]) -> Result<Vec<u8>, OutOfMemory> {
+    let mut words = Vec::new(alloc);
+    words.push(String::from_str(alloc, "check")?)?;
+    words.push(String::from_str(alloc, "--brief")?)?;
+    let mut source = MemSource::new(document.to_vec(alloc)?, PIECE, Vec::new(alloc));
+    let mut sink = MemSink::new(alloc, ROOM, PIECE, Vec::new(alloc))?;
+    let _ = run(alloc, &words, &mut source, &mut sink);
+    Ok(sink.written().to_vec(alloc)?)
+}
+
+/// Whether `check --brief` writes this text on a document.
+pub(crate) fn writes(alloc: Global, document: &[u8], text: &str) -> Result<bool, OutOfMemory> {
+    Ok(written(alloc, document)?.as_slice() == text.as_bytes())
+}
+
+// Whether a row says what is written.
+fn is_right(alloc: Global, head: &str, row: &str) -> Result<bool, OutOfMemory> {
+    match row.split_once("----\n") {
+        Some((lines, text)) => {
+            let document = format!(in alloc; "{head}{lines}")?;
+            writes(alloc, document.as_bytes(), text)
+        }
+        None => Ok(false),
+    }
+}
+
+/// The number, from 1, of the first row that does not say what is written.
+///
+/// Lines `====` stand between the rows. Each row has the lines of a document behind the head, a
+/// line `----`, and what is written.
+pub(crate) fn first_wrong(
+    alloc: Global,
+    head: &str,
+    rows: &str,
+) -> Result<Option<usize>, OutOfMemory> {
+    for (place, row) in rows.split("====\n").enumerate() {
+        if !is_right(alloc, head, row)? {
+            return Ok(Some(place.saturating_add(1)));
+        }
+    }
+    Ok(None)
+}
+
+// Whether a line behind the head, which is refused on it, is refused as it says.
+fn is_right_refusal(alloc: Global, head: &str, row: &str) -> Result<bool, OutOfMemory> {
+    let number = head.split('\n').count();
+    match row.split_once(" | ") {
+        Some((kind, line)) => {
+            let document = format!(in alloc; "{head}{line}\n")?;
+            let text = format!(in alloc; "refused: line {number}: {kind}\n")?;
+            writes(alloc, document.as_bytes(), text.as_str())
+        }
+        None => Ok(false),
+    }
+}
+
+/// The number, from 1, of the first row that is not right.
+///
+/// Each row is a line: the kind by which the document's last line is refused, ` | `, and this line,
+/// which stands behind the head.
+pub(crate) fn first_wrong_refusal(
+    alloc: Global,
+    head: &str,
+    rows: &str,
+) -> Result<Option<usize>, OutOfMemory> {
+    for (place, row) in rows.lines().enumerate() {
+        if !is_right_refusal(alloc, head, row)? {
+            return Ok(Some(place.saturating_add(1)));
+        }
+    }
+    Ok(None)
+}
+
+// Whether a document is accepted whose weights are not built.
+fn is_accepted(alloc: Global, head: &str, line: &str) -> Result<bool, OutOfMemory> {
+    let document = format!(in alloc; "{head}{line}\nquery p: => p:\n")?;
+    writes(alloc, document.as_bytes(), "refused: line 0: 14 NotBuilt\n")
+}
+
+/// The number, from 1, of the first of the lines that is not accepted behind the head, whose
+/// weights are not built.
+pub(crate) fn first_not_accepted(
+    alloc: Global,
+    head: &str,
+    lines: &str,
+) -> Result<Option<usize>, OutOfMemory> {
+    for (place, line) in lines.lines().enumerate() {
+        if !is_accepted(alloc, head, line)? {
+            return Ok(Some(place.saturating_add(1)));
+        }
+    }
+    Ok(None)
+}

@@ -1,0 +1,437 @@
+//! Lines of rules: their form, weights, expressions and return maps.
+
+use crate::rows::{first_not_accepted, first_wrong_refusal};
+use wpds_base::OutOfMemory;
+
+const REACH: &str = "wpds 1\nweights reach\ncontrols p\nsymbols a b\n";
+
+const COST: &str = "wpds 1\nweights cost 9\ncontrols p\nsymbols a b\n";
+
+const FACTS: &str = "wpds 1\nweights genkill\ncontrols p\nsymbols a b\nfacts x y z\n";
+
+const COPIES: &str = "wpds 1\nweights copy\ncontrols p\nsymbols a b\nvariables x y z\n";
+
+const RELATIONS: &str = "wpds 1\nweights relation\ncontrols p\nsymbols a b\nvariables x y z\n";
+
+const RULES: &str = "4 Form | rule
+4 Form | rule p
+4 Form | rule p a
+4 Form | rule p a ->
+4 Form | rule p a -> 1
+4 Form | rule p a p
+4 Form | rule p a => p
+4 Form | rule p a -> p -> p
+4 Form | rule p a b -> p
+4 Form | rule p: a -> p
+4 Form | rule p -> p a
+4 Form | rule p a -> p a a a
+4 Form | rule p a -> p a a a : none
+4 Form | rule p a -> p b .
+4 Form | rule p a -> p a*
+4 Form | rule p a -> p {a}
+4 Form | rule p a -> p a, b
+4 Form | rule p a -> p a b return
+4 Form | rule p a -> p return
+4 Form | rule p a -> p a b return return plain
+4 Form | rule p a -> p a b return plain plain
+4 Form | rule p a -> p a b return plain : one
+4 Form | rule p a -> p a b return none
+4 Form | rule p a -> p a b return 5
+6 Unknown | rule q a -> p
+6 Unknown | rule p c -> p
+6 Unknown | rule p a -> q
+6 Unknown | rule p a -> p c
+6 Unknown | rule p a -> p a c
+6 Unknown | rule p a -> p c b return plain
+6 Unknown | rule return a -> p
+6 Unknown | rule p return -> p
+6 Unknown | rule p a -> return
+6 Unknown | rule return return -> return
+7 WeightText | rule p a -> p :
+7 WeightText | rule p a -> p : one one
+7 WeightText | rule p a -> p : one none
+7 WeightText | rule p a -> p : 3
+7 WeightText | rule p a -> p : p
+7 WeightText | rule p a -> p: a
+7 WeightText | rule p a -> p : : one
+7 WeightText | rule p a -> p : +f
+7 WeightText | rule p a -> p : x=1
+7 WeightText | rule p a -> p : assume x
+7 WeightText | rule p a -> p a b : return plain
+8 Return | rule p a -> p return plain
+8 Return | rule p a -> p a return plain
+8 Return | rule p a -> p a b return restore a
+8 Return | rule p a -> p a b return move a=b
+8 Return | rule p a -> p a b return restore a move b=c
+";
+
+#[test]
+fn rules_with_reachability(rt: HostRuntime) -> Result<(), OutOfMemory> {
+    assert_eq!(rt; first_wrong_refusal(rt.alloc(), REACH, RULES)?, None);
+    Ok(())
+}
+
+const COSTS: &str = "7 WeightText | rule p a -> p : 18446744073709551616
+7 WeightText | rule p a -> p : 99999999999999999999999999999999999999999
+7 WeightText | rule p a -> p : -1
+7 WeightText | rule p a -> p : +1
+7 WeightText | rule p a -> p : 1 2
+7 WeightText | rule p a -> p : 1, 2
+7 WeightText | rule p a -> p : x
+7 WeightText | rule p a -> p : +f
+7 WeightText | rule p a -> p : x=1
+7 WeightText | rule p a -> p : assume x
+7 WeightText | rule p a -> p : one 1
+7 WeightText | rule p a -> p : 3.5e$
+7 WeightText | rule p a -> p :
+4 Form | rule p a -> p : 03
+4 Form | rule p a -> p : 3$
+4 Form | rule p a -> p 3
+8 Return | rule p a -> p : 3 return plain
+8 Return | rule p a -> p a b : 3 return restore x
+8 Return | rule p a -> p a b : 3 return move x=y
+";
+
+#[test]
+fn rules_with_costs(rt: HostRuntime) -> Result<(), OutOfMemory> {
+    assert_eq!(rt; first_wrong_refusal(rt.alloc(), COST, COSTS)?, None);
+    Ok(())
+}
+
+const FACT_RULES: &str = "7 WeightText | rule p a -> p : x
+7 WeightText | rule p a -> p : +
+7 WeightText | rule p a -> p : +x -
+7 WeightText | rule p a -> p : +x, -y
+7 WeightText | rule p a -> p : + + x
+7 WeightText | rule p a -> p : +x +x
+7 WeightText | rule p a -> p : +x -y -x
+7 WeightText | rule p a -> p : 3
+7 WeightText | rule p a -> p : x=y
+7 WeightText | rule p a -> p : one +x
+7 WeightText | rule p a -> p : assume w
+6 Unknown | rule p a -> p : +w
+6 Unknown | rule p a -> p : +x -y +w
+6 Unknown | rule p a -> p : +one
+6 Unknown | rule p a -> p : -a
+6 Unknown | rule p a -> p a b return restore w
+6 Unknown | rule p a -> p a b return restore x y a
+6 Unknown | rule p a -> p a b return restore plain
+5 Twice | rule p a -> p a b return restore x x
+5 Twice | rule p a -> p a b return restore x y x
+8 Return | rule p a -> p a return restore x
+8 Return | rule p a -> p a b return move x=y
+8 Return | rule p a -> p a b return move w=w
+8 Return | rule p a -> p a b return restore x move w=w
+4 Form | rule p a -> p a b return restore
+4 Form | rule p a -> p a b return restore x, y
+4 Form | rule p a -> p a b return restore x=y
+4 Form | rule p a -> p a b return x
+4 Form | rule p a -> p a b return move
+4 Form | rule p a -> p a b : +x return +x
+";
+
+#[test]
+fn rules_with_facts(rt: HostRuntime) -> Result<(), OutOfMemory> {
+    assert_eq!(rt; first_wrong_refusal(rt.alloc(), FACTS, FACT_RULES)?, None);
+    Ok(())
+}
+
+const FACT_RULES_ACCEPTED: &str = "rule p a -> p : +x -y
+rule p a -> p : + x - y + z
+rule p a -> p:-x+y
+rule p a -> p : none
+rule p a -> p : one
+rule p a -> p a b : +x return restore x y z
+rule p a -> p a b return restore z
+rule p a -> p a b : none return plain";
+
+#[test]
+fn rules_with_facts_that_are_accepted(rt: HostRuntime) -> Result<(), OutOfMemory> {
+    assert_eq!(rt;
+        first_not_accepted(rt.alloc(), FACTS, FACT_RULES_ACCEPTED)?,
+        None
+    );
+    Ok(())
+}
+
+const COPY_RULES: &str = "7 WeightText | rule p a -> p : x
+7 WeightText | rule p a -> p : x=
+7 WeightText | rule p a -> p : x= y=1
+7 WeightText | rule p a -> p : =1
+7 WeightText | rule p a -> p : x=1 y
+7 WeightText | rule p a -> p : x=1, y=1
+7 WeightText | rule p a -> p : x=1,
+7 WeightText | rule p a -> p : x=?,1
+7 WeightText | rule p a -> p : x=? ?
+7 WeightText | rule p a -> p : x=1 2
+7 WeightText | rule p a -> p : x=+1
+7 WeightText | rule p a -> p : x=--1
+7 WeightText | rule p a -> p : x=*
+7 WeightText | rule p a -> p : x=9223372036854775808
+7 WeightText | rule p a -> p : x=-9223372036854775809
+7 WeightText | rule p a -> p : x=y,18446744073709551616
+7 WeightText | rule p a -> p : x=1 x=1
+7 WeightText | rule p a -> p : x=1 y=2 x=y
+7 WeightText | rule p a -> p : x:=1
+7 WeightText | rule p a -> p : +x
+7 WeightText | rule p a -> p : 3
+4 Form | rule p a -> p : x=07
+4 Form | rule p a -> p : x=-01
+4 Form | rule p a -> p a b return restore x move
+4 Form | rule p a -> p a b return restore move x=y
+6 Unknown | rule p a -> p : w=1
+6 Unknown | rule p a -> p : x=w
+6 Unknown | rule p a -> p : x=y,w,1
+6 Unknown | rule p a -> p : x=undef,y
+6 Unknown | rule p a -> p : x=y,undef
+6 Unknown | rule p a -> p : x=undef,undef
+6 Unknown | rule p a -> p : undef=1
+6 Unknown | rule p a -> p : none=1
+6 Unknown | rule p a -> p a b return restore w
+6 Unknown | rule p a -> p a b return restore w move x=y
+6 Unknown | rule p a -> p a b return restore none
+5 Twice | rule p a -> p a b return restore x x
+5 Twice | rule p a -> p a b return restore x move x=y
+5 Twice | rule p a -> p a b return move w=x w=y
+8 Return | rule p a -> p return restore x
+8 Return | rule p a -> p a b return move x=w
+8 Return | rule p a -> p a b return restore x move w=w
+";
+
+#[test]
+fn rules_with_copies(rt: HostRuntime) -> Result<(), OutOfMemory> {
+    assert_eq!(rt; first_wrong_refusal(rt.alloc(), COPIES, COPY_RULES)?, None);
+    Ok(())
+}
+
+const COPY_RULES_ACCEPTED: &str = "rule p a -> p : x=?
+rule p a -> p : x=undef
+rule p a -> p : x=y
+rule p a -> p : x=x y=? z=undef
+rule p a -> p : x = - 5 , y , 7 , x
+rule p a -> p : x=-0
+rule p a -> p : x=0,-0
+rule p a -> p : x=9223372036854775807
+rule p a -> p : x=-9223372036854775808
+rule p a -> p : x=y,y,z
+rule p a -> p:x=1,2y=z
+rule p a -> p a b : x=3 return restore x
+rule p a -> p a b return restore z y x";
+
+#[test]
+fn rules_with_copies_that_are_accepted(rt: HostRuntime) -> Result<(), OutOfMemory> {
+    assert_eq!(rt;
+        first_not_accepted(rt.alloc(), COPIES, COPY_RULES_ACCEPTED)?,
+        None
+    );
+    Ok(())
+}
+
+const ACTIONS: &str = "7 WeightText | rule p a -> p : x
+7 WeightText | rule p a -> p : assume
+7 WeightText | rule p a -> p : assume x y
+7 WeightText | rule p a -> p : choose
+7 WeightText | rule p a -> p : choose x, y
+7 WeightText | rule p a -> p : choose 1
+7 WeightText | rule p a -> p : assume := 1
+7 WeightText | rule p a -> p : choose := 1
+7 WeightText | rule p a -> p : x := 1;
+7 WeightText | rule p a -> p : ; x := 1
+7 WeightText | rule p a -> p : x := 1;; y := 0
+7 WeightText | rule p a -> p : x :=
+7 WeightText | rule p a -> p : := 1
+7 WeightText | rule p a -> p : x y := 1
+7 WeightText | rule p a -> p : x, := 1, 0
+7 WeightText | rule p a -> p : x := 1, 0
+7 WeightText | rule p a -> p : x, y := 1
+7 WeightText | rule p a -> p : x, y := *
+7 WeightText | rule p a -> p : x, x := 1, 0
+7 WeightText | rule p a -> p : x := y; y, z, y := 1, 0, *
+7 WeightText | rule p a -> p : x := * & y
+7 WeightText | rule p a -> p : x := (*)
+7 WeightText | rule p a -> p : x := 1 := 0
+7 WeightText | rule p a -> p : x=1
+7 WeightText | rule p a -> p : 3
+7 WeightText | rule p a -> p : one; x := 1
+6 Unknown | rule p a -> p : assume w
+6 Unknown | rule p a -> p : choose x w
+6 Unknown | rule p a -> p : choose tab2
+6 Unknown | rule p a -> p : w := 1
+6 Unknown | rule p a -> p : tab2 := 1
+6 Unknown | rule p a -> p : x := y & (z | !w)
+6 Unknown | rule p a -> p : x := assume
+6 Unknown | rule p a -> p : assume one
+6 Unknown | rule p a -> p : x := 1; assume choose
+6 Unknown | rule p a -> p : w, w := 1, 0
+6 Unknown | rule p a -> p : x, y := w
+6 Unknown | rule p a -> p : assume tab2 16 (x, w)
+";
+
+#[test]
+fn actions(rt: HostRuntime) -> Result<(), OutOfMemory> {
+    assert_eq!(rt; first_wrong_refusal(rt.alloc(), RELATIONS, ACTIONS)?, None);
+    Ok(())
+}
+
+const EXPRESSIONS: &str = "7 WeightText | rule p a -> p : assume 2
+7 WeightText | rule p a -> p : assume x & 2
+7 WeightText | rule p a -> p : assume 10
+7 WeightText | rule p a -> p : assume ()
+7 WeightText | rule p a -> p : assume (x
+7 WeightText | rule p a -> p : assume x)
+7 WeightText | rule p a -> p : assume x &
+7 WeightText | rule p a -> p : assume & x
+7 WeightText | rule p a -> p : assume x & | y
+7 WeightText | rule p a -> p : assume x !
+7 WeightText | rule p a -> p : assume x, y
+7 WeightText | rule p a -> p : assume x + y
+7 WeightText | rule p a -> p : assume x - y
+7 WeightText | rule p a -> p : assume x -> y
+7 WeightText | rule p a -> p : assume x == y
+7 WeightText | rule p a -> p : assume tab2
+7 WeightText | rule p a -> p : x := tab3
+7 WeightText | rule p a -> p : assume tab2 (x, y)
+7 WeightText | rule p a -> p : assume tab2 x (x, y)
+7 WeightText | rule p a -> p : assume tab2 8 x, y
+7 WeightText | rule p a -> p : assume tab2 8 (x)
+7 WeightText | rule p a -> p : assume tab2 8 (x, y, z)
+7 WeightText | rule p a -> p : assume tab3 8 (x, y)
+7 WeightText | rule p a -> p : assume tab3 8 (x, y, z, x)
+7 WeightText | rule p a -> p : assume tab2 16 (x, y)
+7 WeightText | rule p a -> p : assume tab3 256 (x, y, z)
+7 WeightText | rule p a -> p : x, y := x & y, tab2 99999999999999999999999 (x, y)
+7 WeightText | rule p a -> p : assume !(x & tab2 15 (tab2 16 (x, x), y))
+4 Form | rule p a -> p : assume tab2 08 (x, y)
+4 Form | rule p a -> p : assume 00
+4 Form | rule p a -> p : assume x & return
+4 Form | rule p a -> p : x := return
+4 Form | rule p a -> p : x := (return)
+4 Form | rule p a -> p : assume x ~ y
+";
+
+#[test]
+fn expressions(rt: HostRuntime) -> Result<(), OutOfMemory> {
+    assert_eq!(rt;
+        first_wrong_refusal(rt.alloc(), RELATIONS, EXPRESSIONS)?,
+        None
+    );
+    Ok(())
+}
+
+const ACTIONS_ACCEPTED: &str = "rule p a -> p : assume x
+rule p a -> p : assume 0
+rule p a -> p:assume!x=y!=z=>x|y^z&1
+rule p a -> p : assume x => y => z = x != y = z
+rule p a -> p : assume !!(!x)
+rule p a -> p : assume tab2 0 (x, y) & tab2 15 (x, y) | tab3 0 (x, y, z) ^ tab3 255 (x, y, z)
+rule p a -> p : assume tab2 8 ( x , tab3 202 ( 0 , 1 , ( z ) ) )
+rule p a -> p : choose x y z
+rule p a -> p : choose x x
+rule p a -> p : x := *
+rule p a -> p : x, y, z := *, y => z, tab3 7 (x, y, z)
+rule p a -> p : x := y; y := z; choose x; assume x = y; z := *
+rule p a -> p : x, y := y, x
+rule p a -> p : none
+rule p a -> p : one";
+
+#[test]
+fn actions_that_are_accepted(rt: HostRuntime) -> Result<(), OutOfMemory> {
+    assert_eq!(rt;
+        first_not_accepted(rt.alloc(), RELATIONS, ACTIONS_ACCEPTED)?,
+        None
+    );
+    Ok(())
+}
+
+const DEEP: &str =
+    "9 Count | rule p a -> p : assume ((((((((((((((((((((((((((((((((((((((((((((((((((((((((((((((((x))))))))))))))))))))))))))))))))))))))))))))))))))))))))))))))))
+9 Count | rule p a -> p : assume !!!!!!!!!!!!!!!!!!!!!!!!!!!!!!!!!!!!!!!!!!!!!!!!!!!!!!!!!!!!!!!!x
+9 Count | rule p a -> p : x := tab2 8 (tab2 8 (tab2 8 (tab2 8 (tab2 8 (tab2 8 (tab2 8 (tab2 8 (tab2 8 (tab2 8 (tab2 8 (tab2 8 (tab2 8 (tab2 8 (tab2 8 (tab2 8 (tab2 8 (tab2 8 (tab2 8 (tab2 8 (tab2 8 (tab2 8 (tab2 8 (tab2 8 (tab2 8 (tab2 8 (tab2 8 (tab2 8 (tab2 8 (tab2 8 (tab2 8 (tab2 8 (tab2 8 (tab2 8 (tab2 8 (tab2 8 (tab2 8 (tab2 8 (tab2 8 (tab2 8 (tab2 8 (tab2 8 (tab2 8 (tab2 8 (tab2 8 (tab2 8 (tab2 8 (tab2 8 (tab2 8 (tab2 8 (tab2 8 (tab2 8 (tab2 8 (tab2 8 (tab2 8 (tab2 8 (tab2 8 (tab2 8 (tab2 8 (tab2 8 (tab2 8 (tab2 8 (tab2 8 (tab2 8 (x, y), y), y), y), y), y), y), y), y), y), y), y), y), y), y), y), y), y), y), y), y), y), y), y), y), y), y), y), y), y), y), y), y), y), y), y), y), y), y), y), y), y), y), y), y), y), y), y), y), y), y), y), y), y), y), y), y), y), y), y), y), y), y), y)
+9 Count | rule p a -> p : assume tab3 202 (y, tab3 202 (y, tab3 202 (y, tab3 202 (y, tab3 202 (y, tab3 202 (y, tab3 202 (y, tab3 202 (y, tab3 202 (y, tab3 202 (y, tab3 202 (y, tab3 202 (y, tab3 202 (y, tab3 202 (y, tab3 202 (y, tab3 202 (y, tab3 202 (y, tab3 202 (y, tab3 202 (y, tab3 202 (y, tab3 202 (y, tab3 202 (y, tab3 202 (y, tab3 202 (y, tab3 202 (y, tab3 202 (y, tab3 202 (y, tab3 202 (y, tab3 202 (y, tab3 202 (y, tab3 202 (y, tab3 202 (y, tab3 202 (y, tab3 202 (y, tab3 202 (y, tab3 202 (y, tab3 202 (y, tab3 202 (y, tab3 202 (y, tab3 202 (y, tab3 202 (y, tab3 202 (y, tab3 202 (y, tab3 202 (y, tab3 202 (y, tab3 202 (y, tab3 202 (y, tab3 202 (y, tab3 202 (y, tab3 202 (y, tab3 202 (y, tab3 202 (y, tab3 202 (y, tab3 202 (y, tab3 202 (y, tab3 202 (y, tab3 202 (y, tab3 202 (y, tab3 202 (y, tab3 202 (y, tab3 202 (y, tab3 202 (y, tab3 202 (y, tab3 202 (y, x, z), z), z), z), z), z), z), z), z), z), z), z), z), z), z), z), z), z), z), z), z), z), z), z), z), z), z), z), z), z), z), z), z), z), z), z), z), z), z), z), z), z), z), z), z), z), z), z), z), z), z), z), z), z), z), z), z), z), z), z), z), z), z), z)
+9 Count | rule p a -> p : assume x & x & x & x & x & x & x & x & x & x & x & x & x & x & x & x & x & x & x & x & x & x & x & x & x & x & x & x & x & x & x & x & x & x & x & x & x & x & x & x & x & x & x & x & x & x & x & x & x & x & x & x & x & x & x & x & x & x & x & x & x & x & x & x & x
+9 Count | rule p a -> p : assume x => x => x => x => x => x => x => x => x => x => x => x => x => x => x => x => x => x => x => x => x => x => x => x => x => x => x => x => x => x => x => x => x => x => x => x => x => x => x => x => x => x => x => x => x => x => x => x => x => x => x => x => x => x => x => x => x => x => x => x => x => x => x => x => x
+9 Count | rule p a -> p : choose x; x, y := *, x = y != y = y != y = y != y = y != y = y != y = y != y = y != y = y != y = y != y = y != y = y != y = y != y = y != y = y != y = y != y = y != y = y != y = y != y = y != y = y != y = y != y = y != y = y != y = y != y = y != y = y != y = y != y = y != y = y != y = y != y = y != y = y != y
+7 WeightText | rule p a -> p : assume ((((((((((((((((((((((((((((((((((((((((((((((((((((((((((((((((x)))))))))))))))))))))))))))))))))))))))))))))))))))))))))))))))))
+7 WeightText | rule p a -> p : assume !!!!!!!!!!!!!!!!!!!!!!!!!!!!!!!!!!!!!!!!!!!!!!!!!!!!!!!!!!!!!!!!
+7 WeightText | rule p a -> p : assume !!!!!!!!!!!!!!!!!!!!!!!!!!!!!!!!!!!!!!!!!!!!!!!!!!!!!!!!!!!!!!!!tab2 16 (x, x)
+6 Unknown | rule p a -> p : assume !!!!!!!!!!!!!!!!!!!!!!!!!!!!!!!!!!!!!!!!!!!!!!!!!!!!!!!!!!!!!!!!w
+8 Return | rule p a -> p : assume !!!!!!!!!!!!!!!!!!!!!!!!!!!!!!!!!!!!!!!!!!!!!!!!!!!!!!!!!!!!!!!!x return restore x
+";
+
+#[test]
+fn deep_expressions(rt: HostRuntime) -> Result<(), OutOfMemory> {
+    assert_eq!(rt; first_wrong_refusal(rt.alloc(), RELATIONS, DEEP)?, None);
+    Ok(())
+}
+
+const DEEPEST: &str =
+    "rule p a -> p : assume (((((((((((((((((((((((((((((((((((((((((((((((((((((((((((((((x)))))))))))))))))))))))))))))))))))))))))))))))))))))))))))))))
+rule p a -> p : assume !!!!!!!!!!!!!!!!!!!!!!!!!!!!!!!!!!!!!!!!!!!!!!!!!!!!!!!!!!!!!!!x
+rule p a -> p : x := tab2 8 (tab2 8 (tab2 8 (tab2 8 (tab2 8 (tab2 8 (tab2 8 (tab2 8 (tab2 8 (tab2 8 (tab2 8 (tab2 8 (tab2 8 (tab2 8 (tab2 8 (tab2 8 (tab2 8 (tab2 8 (tab2 8 (tab2 8 (tab2 8 (tab2 8 (tab2 8 (tab2 8 (tab2 8 (tab2 8 (tab2 8 (tab2 8 (tab2 8 (tab2 8 (tab2 8 (tab2 8 (tab2 8 (tab2 8 (tab2 8 (tab2 8 (tab2 8 (tab2 8 (tab2 8 (tab2 8 (tab2 8 (tab2 8 (tab2 8 (tab2 8 (tab2 8 (tab2 8 (tab2 8 (tab2 8 (tab2 8 (tab2 8 (tab2 8 (tab2 8 (tab2 8 (tab2 8 (tab2 8 (tab2 8 (tab2 8 (tab2 8 (tab2 8 (tab2 8 (tab2 8 (tab2 8 (tab2 8 (x, y), y), y), y), y), y), y), y), y), y), y), y), y), y), y), y), y), y), y), y), y), y), y), y), y), y), y), y), y), y), y), y), y), y), y), y), y), y), y), y), y), y), y), y), y), y), y), y), y), y), y), y), y), y), y), y), y), y), y), y), y), y), y)
+rule p a -> p : assume tab3 202 (y, tab3 202 (y, tab3 202 (y, tab3 202 (y, tab3 202 (y, tab3 202 (y, tab3 202 (y, tab3 202 (y, tab3 202 (y, tab3 202 (y, tab3 202 (y, tab3 202 (y, tab3 202 (y, tab3 202 (y, tab3 202 (y, tab3 202 (y, tab3 202 (y, tab3 202 (y, tab3 202 (y, tab3 202 (y, tab3 202 (y, tab3 202 (y, tab3 202 (y, tab3 202 (y, tab3 202 (y, tab3 202 (y, tab3 202 (y, tab3 202 (y, tab3 202 (y, tab3 202 (y, tab3 202 (y, tab3 202 (y, tab3 202 (y, tab3 202 (y, tab3 202 (y, tab3 202 (y, tab3 202 (y, tab3 202 (y, tab3 202 (y, tab3 202 (y, tab3 202 (y, tab3 202 (y, tab3 202 (y, tab3 202 (y, tab3 202 (y, tab3 202 (y, tab3 202 (y, tab3 202 (y, tab3 202 (y, tab3 202 (y, tab3 202 (y, tab3 202 (y, tab3 202 (y, tab3 202 (y, tab3 202 (y, tab3 202 (y, tab3 202 (y, tab3 202 (y, tab3 202 (y, tab3 202 (y, tab3 202 (y, tab3 202 (y, tab3 202 (y, x, z), z), z), z), z), z), z), z), z), z), z), z), z), z), z), z), z), z), z), z), z), z), z), z), z), z), z), z), z), z), z), z), z), z), z), z), z), z), z), z), z), z), z), z), z), z), z), z), z), z), z), z), z), z), z), z), z), z), z), z), z), z), z)
+rule p a -> p : assume x & x & x & x & x & x & x & x & x & x & x & x & x & x & x & x & x & x & x & x & x & x & x & x & x & x & x & x & x & x & x & x & x & x & x & x & x & x & x & x & x & x & x & x & x & x & x & x & x & x & x & x & x & x & x & x & x & x & x & x & x & x & x & x
+rule p a -> p : assume x => x => x => x => x => x => x => x => x => x => x => x => x => x => x => x => x => x => x => x => x => x => x => x => x => x => x => x => x => x => x => x => x => x => x => x => x => x => x => x => x => x => x => x => x => x => x => x => x => x => x => x => x => x => x => x => x => x => x => x => x => x => x => x
+rule p a -> p : choose x; x, y := *, x = y != y = y != y = y != y = y != y = y != y = y != y = y != y = y != y = y != y = y != y = y != y = y != y = y != y = y != y = y != y = y != y = y != y = y != y = y != y = y != y = y != y = y != y = y != y = y != y = y != y = y != y = y != y = y != y = y != y = y != y = y != y = y";
+
+#[test]
+fn deepest_expressions(rt: HostRuntime) -> Result<(), OutOfMemory> {
+    assert_eq!(rt; first_not_accepted(rt.alloc(), RELATIONS, DEEPEST)?, None);
+    Ok(())
+}
+
+const RETURNS: &str = "5 Twice | rule p a -> p a b return restore x x
+5 Twice | rule p a -> p a b return restore x move x=y
+5 Twice | rule p a -> p a b return move x=y x=z
+5 Twice | rule p a -> p a return restore w w
+6 Unknown | rule p a -> p a b return restore w
+6 Unknown | rule p a -> p a b return move w=x
+6 Unknown | rule p a -> p a b return move x=w
+6 Unknown | rule p a -> p a b return restore x move y=none
+6 Unknown | rule p a -> p a b return restore x restore y
+6 Unknown | rule p a -> p a b return restore x return plain
+6 Unknown | rule p a -> p a return restore w
+8 Return | rule p a -> p return restore x
+8 Return | rule p a -> p a return move x=y
+8 Return | rule p a -> p a return plain
+4 Form | rule p a -> p a b return
+4 Form | rule p a -> p a b return x
+4 Form | rule p a -> p a b return restore
+4 Form | rule p a -> p a b return restore x move
+4 Form | rule p a -> p a b return restore move x=y
+4 Form | rule p a -> p a b return move
+4 Form | rule p a -> p a b return move x
+4 Form | rule p a -> p a b return move x=1
+4 Form | rule p a -> p a b return move x=y, z=x
+4 Form | rule p a -> p a b return move x=y z
+4 Form | rule p a -> p a b return move x=y restore z
+4 Form | rule p a -> p a b return move x=y move y=z
+4 Form | rule p a -> p a b return plain restore x
+4 Form | rule p a -> p a b return plain x
+";
+
+#[test]
+fn return_maps(rt: HostRuntime) -> Result<(), OutOfMemory> {
+    assert_eq!(rt; first_wrong_refusal(rt.alloc(), RELATIONS, RETURNS)?, None);
+    Ok(())
+}
+
+const RETURNS_ACCEPTED: &str = "rule p a -> p a b return plain
+rule p a -> p a b return restore x
+rule p a -> p a b return restore z y x
+rule p a -> p a b return move x=y
+rule p a -> p a b return move x=z y=z
+rule p a -> p a b return move x=x
+rule p a -> p a b return move x=y y=x
+rule p a -> p a b return restore x move y=x
+rule p a -> p a b return restore x y move z=x
+rule p a -> p a b : x := 1 return restore x
+rule p a->p a b:assume x return move x = y z = y";
+
+#[test]
+fn return_maps_that_are_accepted(rt: HostRuntime) -> Result<(), OutOfMemory> {
+    assert_eq!(rt;
+        first_not_accepted(rt.alloc(), RELATIONS, RETURNS_ACCEPTED)?,
+        None
+    );
+    Ok(())
+}
