@@ -1,7 +1,6 @@
 -- The item that comes next is not refused.
 use Rattle.std.proofs.Common.{◌≡◌, ℕ, suc, ◌+◌, ◌*◌, ◌<◌, ◌≤◌, Bool, true, false, List, [], ◌∷◌, ◌++◌, length, get_or, take, drop, map, refl, sym, ap, ◌∙◌, subst, append-nil, append_assoc, take-append-drop, arith}
-use Rattle.std.specs.Prelude.{nat_le, nat_lt, None, All, IsTrue, if◌then◌else◌}
-use Rattle.std.specs.List.{list_any}
+use Rattle.std.specs.Prelude.{nat_le, nat_lt, None, if◌then◌else◌}
 use Rattle.std.proofs.lemmas.Bool.Decides.{nat_tests}
 use Rattle.std.proofs.lemmas.List.{length-take-le, length-map, take_more, map-append}
 use Rattle.config_patterns.specs.declared.item.Item.{Item}

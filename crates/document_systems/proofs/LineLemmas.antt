@@ -1,6 +1,6 @@
 -- A line of a document is a rule that is not refused.
 use Rattle.std.proofs.Common.{◌≡◌, ℕ, ◌<◌, ◌≤◌, false, List, [], ◌∷◌, length, get_or, take, map, refl, sym, ◌∙◌, subst, arith}
-use Rattle.std.specs.Prelude.{nat_le, nat_lt, nat_eq, not, ◌&&◌, Option, Some, None, All, is_some, IsSome}
+use Rattle.std.specs.Prelude.{nat_le, nat_lt, nat_eq, not, ◌&&◌, Option, Some, None, All, is_some}
 use Rattle.std.specs.List.{list_any, AllByRecursion}
 use Rattle.std.proofs.lemmas.Bool.Decides.{nat_tests}
 use Rattle.std.proofs.lemmas.List.{length-take-le, length-map}

@@ -8,7 +8,7 @@ use Rattle.semiring_laws.specs.declared.reach.NoMap.{NoMap}
 use Rattle.semiring_laws.specs.declared.reach.NoMap.TheVariants.{Plain}
 use Rattle.cost_weights.specs.Cost.{cost_operations}
 use Rattle.document_forms.specs.declared.weight.WeightText.{WeightText}
-use Rattle.document_forms.specs.declared.weight.WeightText.TheVariants.{One, Zero, Number}
+use Rattle.document_forms.specs.declared.weight.WeightText.TheVariants.{Zero, Number}
 use Rattle.document_systems.specs.Kinds.{Kind}
 
 -- with reachability a rule leads on, unless its weight is `none`

@@ -1,6 +1,6 @@
 -- An input is accepted or refused, and not both.
 use Rattle.std.proofs.Common.{◌≡◌, inl, inr, ℕ, Bool, true, false, List, [], ◌∷◌, refl, sym, subst, ◌∙◌}
-use Rattle.std.specs.Prelude.{not, Option, None, Some, option_map, option_and_then, unwrap_or, if◌then◌else◌}
+use Rattle.std.specs.Prelude.{Option, None, Some, option_map, option_and_then, unwrap_or}
 use Rattle.wpds_port.specs.declared.Word.{Word}
 use Rattle.wpds_port.specs.declared.refusal.Refusal.{Refusal}
 use Rattle.wpds_port.specs.declared.refusal.Kind.TheVariants.{Header}
@@ -9,11 +9,11 @@ use Rattle.wpds_port.specs.declared.refusal.ReadFault.TheVariants.{Refused, Memo
 use Rattle.document_forms.specs.Documents.{Document, reads_as}
 use Rattle.document_forms.specs.FirstRefusal.{Counted, FirstRefusal, AreAccepted, all_symbols, counted_lines, is_header_line, missing}
 use Rattle.document_forms.specs.Forms.{is_header}
-use Rattle.document_forms.specs.Languages.{language_named, language_on, language_of}
+use Rattle.document_forms.specs.Languages.{language_named, language_on}
 use Rattle.document_forms.specs.declared.language.Language.TheVariants.{System as SystemLanguage, Program}
 use Rattle.wpds_app.specs.declared.input.Input.{Input}
 use Rattle.wpds_app.specs.declared.input.Input.TheVariants.{System}
-use Rattle.wpds_app.specs.Running.{Means, IsAnswerable, IsAccepted, IsProgram, IsRefused, IsUnread}
+use Rattle.wpds_app.specs.Running.{IsAnswerable, IsAccepted, IsProgram, IsRefused, IsUnread}
 
 -- what the law on documents says
 abbrev pub NeverBoth : Type 0

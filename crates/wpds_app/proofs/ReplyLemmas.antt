@@ -8,14 +8,13 @@ use Rattle.std.proofs.lemmas.List.{take_all}
 use Rattle.wpds_port.specs.Refusals.{refusal_text}
 use Rattle.wpds_port.specs.declared.refusal.Refusal.{Refusal}
 use Rattle.wpds_app.specs.declared.input.Input.{Input}
-use Rattle.wpds_app.specs.declared.input.Input.TheVariants.{System}
 use Rattle.wpds_app.specs.declared.words.Options.{Options}
 use Rattle.wpds_app.specs.declared.status.Status.{Status}
 use Rattle.wpds_app.specs.declared.status.Status.TheVariants.{Answered, WordsRefused, ReadFault, WriteFault, DocumentRefused, OutOfMemory}
 use Rattle.wpds_app.specs.declared.reply.Reply.{Reply}
 use Rattle.wpds_port.specs.declared.refusal.ReadFault.{ReadFault as ReadFaultValue}
 use Rattle.wpds_port.specs.declared.refusal.ReadFault.TheVariants.{Refused}
-use Rattle.wpds_app.specs.Running.{IsInput, Means, IsAccepted, IsRefused, IsUnread, IsReply, HasReply, IsDecided, IsDecidedBy}
+use Rattle.wpds_app.specs.Running.{IsInput, Means, IsRefused, IsUnread, IsReply, HasReply, IsDecided, IsDecidedBy}
 use Rattle.wpds_app.proofs.InputLemmas.{NeverBoth, OneDocument, accepted_not_refused}
 
 -- a refusal's line is the answer to an input that it refuses

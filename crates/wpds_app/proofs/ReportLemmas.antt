@@ -1,5 +1,5 @@
 -- Reports on reachability.
-use Rattle.std.proofs.Common.{◌≡◌, inl, inr, ℕ, zero, suc, Bool, true, false, ◌&&◌, ◌||◌, List, [], ◌∷◌, map, length, Option, Some, None, refl, sym, ap, subst, ◌∙◌}
+use Rattle.std.proofs.Common.{◌≡◌, inl, inr, ℕ, zero, suc, Bool, true, false, ◌&&◌, ◌||◌, List, [], ◌∷◌, map, Option, Some, None, refl, sym, ap, subst, ◌∙◌}
 use Rattle.std.specs.Prelude.{◌≢◌, IfSome, codes, slice_get, unwrap_or, if◌then◌else◌}
 use Rattle.std.specs.List.{AllByRecursion, cons_option}
 use Rattle.semiring_laws.specs.declared.reach.Reach.{Reach as ReachValue}
@@ -8,7 +8,6 @@ use Rattle.semiring_laws.specs.Reach.{reach_operations}
 use Rattle.semiring_laws.specs.Combination.{combination}
 use Rattle.pushdown_rules.specs.declared.rule.Rule.{Rule}
 use Rattle.pushdown_rules.specs.Pushdown.{Pushdown}
-use Rattle.pushdown_rules.specs.Firing.{Run}
 use Rattle.pushdown_rules.specs.RunValue.{Frame, Machine, starting, called, returned, machine_after, product, value_from}
 use Rattle.pushdown_rules.specs.Values.{rules_of, value_of}
 use Rattle.pushdown_rules.specs.Answers.{Answers, Leads}

@@ -1,5 +1,5 @@
 -- Reports over one semiring, and over that of a document.
-use Rattle.std.proofs.Common.{◌≡◌, ℕ, List, sym, ap, subst, ◌∙◌}
+use Rattle.std.proofs.Common.{◌≡◌, ℕ, List, ap, subst, ◌∙◌}
 use Rattle.std.specs.Prelude.{Result, Ok, Err, IfOk, ◌↔◌, codes}
 use Rattle.semiring_laws.specs.Semiring.{Operations}
 use Rattle.config_patterns.specs.Membership.{PatternValue}

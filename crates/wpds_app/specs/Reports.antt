@@ -5,7 +5,6 @@ use Rattle.semiring_laws.specs.declared.reach.NoMap.{NoMap}
 use Rattle.semiring_laws.specs.declared.reach.Reach.{Reach as ReachValue}
 use Rattle.semiring_laws.specs.Reach.{reach_operations}
 use Rattle.cost_weights.specs.Cost.{cost_operations}
-use Rattle.pushdown_rules.specs.Firing.{Run}
 use Rattle.pushdown_rules.specs.Pushdown.{Pushdown}
 use Rattle.pushdown_rules.specs.Values.{value_of}
 use Rattle.pushdown_rules.specs.Answers.{Leads, HasNoFeasibleRun}

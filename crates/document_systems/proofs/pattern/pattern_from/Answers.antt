@@ -1,4 +1,4 @@
-use Rattle.std.proofs.Common.{◌≡◌, ◌<◌, length, get_or, ap, sym, subst}
+use Rattle.std.proofs.Common.{◌≡◌, ◌<◌, length, get_or, sym, subst}
 use Rattle.std.specs.Prelude.{None, IsTrue}
 use Rattle.config_patterns.specs.Membership.{PatternValue}
 use Rattle.config_patterns.specs.Fault.{item_fault}

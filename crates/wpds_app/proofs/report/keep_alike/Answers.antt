@@ -1,4 +1,4 @@
-use Rattle.std.proofs.Common.{◌≡◌, length, get_or, set, sym, ap, subst, ◌∙◌, length-set}
+use Rattle.std.proofs.Common.{◌≡◌, length, get_or, sym, ap, subst, ◌∙◌, length-set}
 use Rattle.std.specs.Prelude.{Some}
 use Rattle.wpds_app.specs.private.Kept.{AreKept}
 use Rattle.wpds_app.proofs.KeptLemmas.{kept_more, told_at}

@@ -1,4 +1,4 @@
-use Rattle.std.proofs.Common.{◌≡◌, ◌<◌, length, get_or, set, sym, subst, ◌∙◌}
+use Rattle.std.proofs.Common.{◌≡◌, ◌<◌, get_or, set, sym, subst, ◌∙◌}
 use Rattle.document_forms.specs.Lawful.{IsQueryOf}
 use Rattle.pushdown_rules.specs.Pushdown.{Pushdown}
 use Rattle.wpds_app.specs.private.Kept.{TellsAt, AreKept}
