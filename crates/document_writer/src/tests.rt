@@ -39,6 +39,14 @@ fn costs_are_written(rt: HostRuntime) -> Result<(), OutOfMemory> {
 }
 
 #[test]
+fn a_call_is_written_as_it_is(rt: HostRuntime) -> Result<(), OutOfMemory> {
+    let text = b"wpds 1\nweights cost 100\ncontrols p q\nsymbols a b\n\
+        rule p a -> p b a : 2\nrule p b -> q : 1\nquery p: a => q: a\n";
+    assert!(rt; stays(rt.alloc(), text)?);
+    Ok(())
+}
+
+#[test]
 fn facts_are_written(rt: HostRuntime) -> Result<(), OutOfMemory> {
     let text = b"wpds 1\nweights genkill\ncontrols p\nsymbols a\nfacts x y z\n\
         rule p a -> p : +x -y\nrule p a -> p a a : -z return restore x z\n\
