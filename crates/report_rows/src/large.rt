@@ -1,10 +1,8 @@
-//! Documents at the limits of the format.
+//! Documents at the limits of the format, and past them.
 
 use crate::rows::{writes, written};
 use std::alloc::Global;
 use wpds_base::OutOfMemory;
-
-const HEAD: &str = "wpds 1\nweights reach\ncontrols p\nsymbols a\n";
 
 // A text so many times, between a front and an end.
 fn repeated(
@@ -32,190 +30,269 @@ fn numbered(alloc: Global, front: &str, count: u32, end: &str) -> Result<String,
     Ok(document)
 }
 
+/// A text that stands so many times in a document, and what is written on that.
+struct Repeats {
+    front: &'static str,
+    text: &'static str,
+    count: u32,
+    end: &'static str,
+    written: &'static str,
+}
+
+fn is_right(alloc: Global, row: &Repeats) -> Result<bool, OutOfMemory> {
+    let document = repeated(alloc, row.front, row.text, row.count, row.end)?;
+    writes(alloc, document.as_bytes(), row.written)
+}
+
+// The number of the first of the rows that is not right.
+fn first_wrong(alloc: Global, rows: &[Repeats]) -> Result<Option<usize>, OutOfMemory> {
+    for (place, row) in rows.iter().enumerate() {
+        if !is_right(alloc, row)? {
+            return Ok(Some(place));
+        }
+    }
+    Ok(None)
+}
+
+const BYTES: [Repeats; 4] = [
+    Repeats {
+        front: "",
+        text: "#",
+        count: 4_194_304,
+        end: "",
+        written: "refused: line 2: 3 Header\n",
+    },
+    Repeats {
+        front: "",
+        text: "#",
+        count: 4_194_305,
+        end: "",
+        written: "refused: line 0: 1 TooLong\n",
+    },
+    Repeats {
+        front: "bool 1\n",
+        text: "#",
+        count: 4_194_304,
+        end: "",
+        written: "refused: line 0: 1 TooLong\n",
+    },
+    // 48 bytes, these, and a line feed
+    Repeats {
+        front: "wpds 1\nweights reach\ncontrols p\nquery p: => p:\n#",
+        text: "#",
+        count: 4_194_255,
+        end: "\n",
+        written: "query 1: reachable\n",
+    },
+];
+
 #[test]
 fn bytes(rt: HostRuntime) -> Result<(), OutOfMemory> {
-    let most = repeated(rt.alloc(), "", "#", 4_194_304, "")?;
-    assert!(rt; writes(rt.alloc(), most.as_bytes(), "refused: line 2: 3 Header\n")?);
-    let more = repeated(rt.alloc(), "", "#", 4_194_305, "")?;
-    assert!(rt; writes(rt.alloc(), more.as_bytes(), "refused: line 0: 1 TooLong\n")?);
-    let program = repeated(rt.alloc(), "bool 1\n", "#", 4_194_304, "")?;
-    assert!(rt;
-        writes(
-            rt.alloc(),
-            program.as_bytes(),
-            "refused: line 0: 1 TooLong\n"
-        )?
-    );
+    assert_eq!(rt; first_wrong(rt.alloc(), &BYTES)?, None);
     Ok(())
 }
 
-#[test]
-fn a_document_as_long_as_it_may_be(rt: HostRuntime) -> Result<(), OutOfMemory> {
-    let front = "wpds 1\nweights reach\ncontrols p\nquery p: => p:\n#";
-    let most = repeated(rt.alloc(), front, "#", 4_194_255, "\n")?;
-    assert_eq!(rt; most.len(), 4_194_304);
-    assert!(rt; writes(rt.alloc(), most.as_bytes(), "query 1: reachable\n")?);
-    Ok(())
-}
-
-#[test]
-fn controls(rt: HostRuntime) -> Result<(), OutOfMemory> {
-    let front = "wpds 1\nweights reach\ncontrols";
-    let end = "\nquery n0: => n0:\n";
-    let most = numbered(rt.alloc(), front, 1_000, end)?;
-    assert!(rt; writes(rt.alloc(), most.as_bytes(), "query 1: reachable\n")?);
-    let more = numbered(rt.alloc(), front, 1_001, end)?;
-    assert!(rt; writes(rt.alloc(), more.as_bytes(), "refused: line 3: 9 Count\n")?);
-    let later = numbered(rt.alloc(), front, 1_000, "\ncontrols m\n")?;
-    assert!(rt; writes(rt.alloc(), later.as_bytes(), "refused: line 4: 9 Count\n")?);
-    // A name that stands twice is told first.
-    let twice = numbered(rt.alloc(), front, 1_001, " n7\n")?;
-    assert!(rt; writes(rt.alloc(), twice.as_bytes(), "refused: line 3: 5 Twice\n")?);
-    Ok(())
-}
-
-#[test]
-fn symbols(rt: HostRuntime) -> Result<(), OutOfMemory> {
-    let front = "wpds 1\nweights reach\ncontrols p\nsymbols";
-    let end = "\nrule p n0 -> p n39999\nquery p: n0 => p: n39999\n";
-    let most = numbered(rt.alloc(), front, 40_000, end)?;
-    assert!(rt; writes(rt.alloc(), most.as_bytes(), "query 1: reachable\n")?);
-    let more = numbered(rt.alloc(), front, 40_001, end)?;
-    assert!(rt; writes(rt.alloc(), more.as_bytes(), "refused: line 4: 9 Count\n")?);
-    let later = numbered(rt.alloc(), front, 40_000, "\nsymbols m\n")?;
-    assert!(rt; writes(rt.alloc(), later.as_bytes(), "refused: line 5: 9 Count\n")?);
-    Ok(())
-}
+const HEAD: &str = "wpds 1\nweights reach\ncontrols p\nsymbols a\n";
 
 // The first rule is on line 5.
+const RULES: [Repeats; 3] = [
+    Repeats {
+        front: HEAD,
+        text: "rule p a -> p\n",
+        count: 130_000,
+        end: "",
+        written: "refused: line 130005: 10 NothingAsked\n",
+    },
+    Repeats {
+        front: HEAD,
+        text: "rule p a -> p\n",
+        count: 130_001,
+        end: "",
+        written: "refused: line 130005: 9 Count\n",
+    },
+    Repeats {
+        front: HEAD,
+        text: "rule p a -> p\n",
+        count: 130_000,
+        end: "rule p a -> p a : 1 return plain\n",
+        written: "refused: line 130005: 7 WeightText\n",
+    },
+];
+
 #[test]
 fn rules(rt: HostRuntime) -> Result<(), OutOfMemory> {
-    let more = repeated(rt.alloc(), HEAD, "rule p a -> p\n", 130_001, "")?;
-    assert!(rt;
-        writes(
-            rt.alloc(),
-            more.as_bytes(),
-            "refused: line 130005: 9 Count\n"
-        )?
-    );
-    let end = "rule p a -> p a : 1 return plain\n";
-    let wrong = repeated(rt.alloc(), HEAD, "rule p a -> p\n", 130_000, end)?;
-    assert!(rt;
-        writes(
-            rt.alloc(),
-            wrong.as_bytes(),
-            "refused: line 130005: 7 WeightText\n"
-        )?
-    );
-    let most = repeated(rt.alloc(), HEAD, "rule p a -> p\n", 130_000, "")?;
-    assert!(rt;
-        writes(
-            rt.alloc(),
-            most.as_bytes(),
-            "refused: line 130005: 10 NothingAsked\n"
-        )?
-    );
+    assert_eq!(rt; first_wrong(rt.alloc(), &RULES)?, None);
     Ok(())
 }
+
+const QUERY: &str = "wpds 1\nweights reach\ncontrols p\nsymbols a\nquery p:";
+
+const QUERIES: [Repeats; 6] = [
+    Repeats {
+        front: HEAD,
+        text: "query p: a => p:\n",
+        count: 1_001,
+        end: "",
+        written: "refused: line 1005: 9 Count\n",
+    },
+    Repeats {
+        front: HEAD,
+        text: "query p: a => p:\n",
+        count: 1_000,
+        end: "query p: b => p:\n",
+        written: "refused: line 1005: 6 Unknown\n",
+    },
+    Repeats {
+        front: QUERY,
+        text: " a",
+        count: 1_000,
+        end: " => p:\n",
+        written: "query 1: unreachable\n",
+    },
+    Repeats {
+        front: QUERY,
+        text: " a",
+        count: 1_001,
+        end: " => p:\n",
+        written: "refused: line 5: 9 Count\n",
+    },
+    Repeats {
+        front: QUERY,
+        text: " a",
+        count: 1_001,
+        end: " => q:\n",
+        written: "refused: line 5: 6 Unknown\n",
+    },
+    Repeats {
+        front: QUERY,
+        text: " a",
+        count: 1_001,
+        end: " {b b} => q:\n",
+        written: "refused: line 5: 5 Twice\n",
+    },
+];
 
 #[test]
 fn queries(rt: HostRuntime) -> Result<(), OutOfMemory> {
-    let most = repeated(rt.alloc(), HEAD, "query p: a => p:\n", 1_000, "")?;
-    let text = written(rt.alloc(), most.as_bytes())?;
+    assert_eq!(rt; first_wrong(rt.alloc(), &QUERIES)?, None);
+    Ok(())
+}
+
+#[test]
+fn as_many_queries_as_there_may_be(rt: HostRuntime) -> Result<(), OutOfMemory> {
+    let document = repeated(rt.alloc(), HEAD, "query p: a => p:\n", 1_000, "")?;
+    let text = written(rt.alloc(), document.as_bytes())?;
     assert!(rt; text.starts_with(b"query 1: unreachable\nquery 2: unreachable\n"));
     assert!(rt; text.ends_with(b"query 999: unreachable\nquery 1000: unreachable\n"));
-    let more = repeated(rt.alloc(), HEAD, "query p: a => p:\n", 1_001, "")?;
-    assert!(rt; writes(rt.alloc(), more.as_bytes(), "refused: line 1005: 9 Count\n")?);
-    let unknown = repeated(
-        rt.alloc(),
-        HEAD,
-        "query p: a => p:\n",
-        1_000,
-        "query p: b => p:\n",
-    )?;
-    assert!(rt;
-        writes(
-            rt.alloc(),
-            unknown.as_bytes(),
-            "refused: line 1005: 6 Unknown\n"
-        )?
-    );
     Ok(())
 }
 
-// The pattern is that of line 5.
-#[test]
-fn items(rt: HostRuntime) -> Result<(), OutOfMemory> {
-    let front = format!(in rt.alloc(); "{HEAD}query p:")?;
-    let most = repeated(rt.alloc(), front.as_str(), " a", 1_000, " => p:\n")?;
-    assert!(rt; writes(rt.alloc(), most.as_bytes(), "query 1: unreachable\n")?);
-    let more = repeated(rt.alloc(), front.as_str(), " a", 1_001, " => p:\n")?;
-    assert!(rt; writes(rt.alloc(), more.as_bytes(), "refused: line 5: 9 Count\n")?);
-    let unknown = repeated(rt.alloc(), front.as_str(), " a", 1_001, " => q:\n")?;
-    assert!(rt;
-        writes(
-            rt.alloc(),
-            unknown.as_bytes(),
-            "refused: line 5: 6 Unknown\n"
-        )?
-    );
-    let twice = repeated(rt.alloc(), front.as_str(), " a", 1_001, " {b b} => q:\n")?;
-    assert!(rt; writes(rt.alloc(), twice.as_bytes(), "refused: line 5: 5 Twice\n")?);
-    Ok(())
-}
+// Line 5 asks for a pattern of 1,000 items, and line 6 follows. With one symbol they have 501,500
+// edges, and with two 1,003,000. Symbols of later lines count, each once, also those of a line that is
+// refused, but not those of one that has no form.
+const DOTS: &str = "wpds 1\nweights reach\ncontrols p\nsymbols a\nquery p: => p:";
 
-// What is written where the second pattern of the query on line 5 has 1,000 items `.*`, and such a line
-// 6 follows. With one symbol they have 501,500 edges, and with two 1,003,000.
-fn behind_many_dots(alloc: Global, line: &str, text: &str) -> Result<bool, OutOfMemory> {
-    let front = format!(in alloc; "{HEAD}query p: => p:")?;
-    let end = format!(in alloc; "\n{line}\n")?;
-    let document = repeated(alloc, front.as_str(), " .*", 1_000, end.as_str())?;
-    writes(alloc, document.as_bytes(), text)
-}
+const EDGES: [(&str, &str); 7] = [
+    ("\nsymbols b\n", "refused: line 5: 9 Count\n"),
+    ("\nsymbols b b\n", "refused: line 5: 9 Count\n"),
+    ("\nsymbols a b\n", "refused: line 5: 9 Count\n"),
+    ("\nsymbols a a\n", "refused: line 6: 5 Twice\n"),
+    ("\nsymbols b none\n", "refused: line 6: 4 Form\n"),
+    ("\nsymbols b é\n", "refused: line 6: 2 NotText\n"),
+    ("\nfacts b\n", "refused: line 6: 4 Form\n"),
+];
 
 #[test]
 fn edges(rt: HostRuntime) -> Result<(), OutOfMemory> {
-    let alloc = rt.alloc();
-    // Symbols of later lines count, also those of a line that is refused.
-    assert!(rt; behind_many_dots(alloc, "symbols b", "refused: line 5: 9 Count\n")?);
-    assert!(rt; behind_many_dots(alloc, "symbols b b", "refused: line 5: 9 Count\n")?);
-    assert!(rt; behind_many_dots(alloc, "symbols a b", "refused: line 5: 9 Count\n")?);
-    // Each counts once, and those of a line that has no form not at all.
-    assert!(rt; behind_many_dots(alloc, "symbols a a", "refused: line 6: 5 Twice\n")?);
-    assert!(rt; behind_many_dots(alloc, "symbols b none", "refused: line 6: 4 Form\n")?);
-    assert!(rt; behind_many_dots(alloc, "symbols b é", "refused: line 6: 2 NotText\n")?);
-    assert!(rt; behind_many_dots(alloc, "controls b\nfacts b", "refused: line 7: 4 Form\n")?);
+    for (end, text) in EDGES {
+        let document = repeated(rt.alloc(), DOTS, " .*", 1_000, end)?;
+        assert!(rt; writes(rt.alloc(), document.as_bytes(), text)?, "at {end}");
+    }
+    Ok(())
+}
+
+// Names on line 3 or 4, and what is written.
+const NAMES: [(&str, u32, &str, &str); 7] = [
+    (
+        "wpds 1\nweights reach\ncontrols",
+        1_000,
+        "\nquery n0: => n0:\n",
+        "query 1: reachable\n",
+    ),
+    (
+        "wpds 1\nweights reach\ncontrols",
+        1_001,
+        "\nquery n0: => n0:\n",
+        "refused: line 3: 9 Count\n",
+    ),
+    (
+        "wpds 1\nweights reach\ncontrols",
+        1_000,
+        "\ncontrols m\n",
+        "refused: line 4: 9 Count\n",
+    ),
+    // a name that stands twice is told first
+    (
+        "wpds 1\nweights reach\ncontrols",
+        1_001,
+        " n7\n",
+        "refused: line 3: 5 Twice\n",
+    ),
+    (
+        "wpds 1\nweights reach\ncontrols p\nsymbols",
+        40_000,
+        "\nrule p n0 -> p n39999\nquery p: n0 => p: n39999\n",
+        "query 1: reachable\n",
+    ),
+    (
+        "wpds 1\nweights reach\ncontrols p\nsymbols",
+        40_001,
+        "\nquery p: => p:\n",
+        "refused: line 4: 9 Count\n",
+    ),
+    (
+        "wpds 1\nweights reach\ncontrols p\nsymbols",
+        40_000,
+        "\nsymbols m\n",
+        "refused: line 5: 9 Count\n",
+    ),
+];
+
+#[test]
+fn names(rt: HostRuntime) -> Result<(), OutOfMemory> {
+    for (front, count, end, text) in NAMES {
+        let document = numbered(rt.alloc(), front, count, end)?;
+        assert!(rt;
+            writes(rt.alloc(), document.as_bytes(), text)?,
+            "at {count} names, {text}"
+        );
+    }
     Ok(())
 }
 
 const RELATIONS: &str =
     "wpds 1\nweights relation\ncontrols p\nsymbols a\nvariables x\nrule p a -> p : assume ";
 
-// A million brackets round a text, all of them closed or not.
+// A million brackets round a text, so many of them closed.
 fn in_brackets(alloc: Global, text: &str, closed: u32) -> Result<String, OutOfMemory> {
     let front = repeated(alloc, RELATIONS, "(", 1_000_000, text)?;
     repeated(alloc, front.as_str(), ")", closed, "\n")
 }
 
+const BRACKETS: [(&str, u32, &str); 3] = [
+    ("x", 1_000_000, "refused: line 6: 9 Count\n"),
+    ("x", 999_999, "refused: line 6: 7 WeightText\n"),
+    ("y", 1_000_000, "refused: line 6: 6 Unknown\n"),
+];
+
 #[test]
 fn brackets(rt: HostRuntime) -> Result<(), OutOfMemory> {
-    let deep = in_brackets(rt.alloc(), "x", 1_000_000)?;
-    assert!(rt; writes(rt.alloc(), deep.as_bytes(), "refused: line 6: 9 Count\n")?);
-    let open = in_brackets(rt.alloc(), "x", 999_999)?;
-    assert!(rt;
-        writes(
-            rt.alloc(),
-            open.as_bytes(),
-            "refused: line 6: 7 WeightText\n"
-        )?
-    );
-    let unknown = in_brackets(rt.alloc(), "y", 1_000_000)?;
-    assert!(rt;
-        writes(
-            rt.alloc(),
-            unknown.as_bytes(),
-            "refused: line 6: 6 Unknown\n"
-        )?
-    );
+    for (text, closed, wanted) in BRACKETS {
+        let document = in_brackets(rt.alloc(), text, closed)?;
+        assert!(rt;
+            writes(rt.alloc(), document.as_bytes(), wanted)?,
+            "at {closed} of {text}"
+        );
+    }
     Ok(())
 }

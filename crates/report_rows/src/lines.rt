@@ -347,71 +347,80 @@ rule p b -> q : 1
 
 const QUERY: &str = "query p: a => q: a\n";
 
-// The document with other bytes in place of each line feed.
-fn with_ends(alloc: Global, end: &str) -> Result<String, OutOfMemory> {
-    let mut text = String::new(alloc);
-    for line in SYSTEM.lines().chain(QUERY.lines()) {
-        text.push_str(line)?;
-        text.push_str(end)?;
-    }
-    Ok(text)
-}
+// The ends of lines, and those of documents.
+const ENDS: &str = "----
+refused: line 1: 3 Header
+====
+
+----
+refused: line 2: 3 Header
+====
+
+\r----
+refused: line 3: 3 Header
+====
+\r----
+refused: line 2: 3 Header
+====
+wpds 1----
+refused: line 2: 10 NothingAsked
+====
+wpds 1\r----
+refused: line 2: 10 NothingAsked
+====
+wpds 1
+\r----
+refused: line 3: 10 NothingAsked
+====
+wpds 1\r\r----
+refused: line 1: 2 NotText
+====
+wpds 1
+weights reach
+controls p
+symbols a
+rule p a -----
+refused: line 5: 4 Form
+====
+wpds 1\r
+weights cost 100\r
+controls p q\r
+symbols a b\r
+rule p a -> p b a : 2\r
+rule p b -> q : 1\r
+# x\r
+query p: a => q: a\r
+----
+query 1: 3
+====
+wpds 1
+weights cost 100\r
+controls p q
+symbols a b\r
+\r
+rule p a -> p b a : 2
+rule p b -> q : 1\r
+query p: a => q: a\r----
+query 1: 3
+====
+wpds 1\r
+weights reach\r
+controls p\r\r
+query p: => p:\r
+----
+refused: line 3: 2 NotText
+====
+wpds 1\r
+weights reach\r
+controls\rp
+query p: => p:
+----
+refused: line 3: 2 NotText
+";
 
 #[test]
 fn ends_of_lines(rt: HostRuntime) -> Result<(), OutOfMemory> {
-    let document = with_ends(rt.alloc(), "\r\n")?;
-    assert!(rt; writes(rt.alloc(), document.as_bytes(), "query 1: 3\n")?);
-    let document = with_ends(rt.alloc(), "\r\r\n")?;
-    assert!(rt;
-        writes(
-            rt.alloc(),
-            document.as_bytes(),
-            "refused: line 1: 2 NotText\n"
-        )?
-    );
-    let document = with_ends(rt.alloc(), "\n\r\n")?;
-    assert!(rt; writes(rt.alloc(), document.as_bytes(), "query 1: 3\n")?);
-    let document = with_ends(rt.alloc(), "\r")?;
-    assert!(rt;
-        writes(
-            rt.alloc(),
-            document.as_bytes(),
-            "refused: line 1: 2 NotText\n"
-        )?
-    );
-    Ok(())
-}
-
-#[test]
-fn ends_of_documents(rt: HostRuntime) -> Result<(), OutOfMemory> {
-    assert!(rt; writes(rt.alloc(), b"", "refused: line 1: 3 Header\n")?);
-    assert!(rt; writes(rt.alloc(), b"\n", "refused: line 2: 3 Header\n")?);
-    assert!(rt; writes(rt.alloc(), b"\n\r", "refused: line 3: 3 Header\n")?);
-    assert!(rt; writes(rt.alloc(), b"\r", "refused: line 2: 3 Header\n")?);
-    assert!(rt; writes(rt.alloc(), b"wpds 1", "refused: line 2: 10 NothingAsked\n")?);
-    assert!(rt;
-        writes(
-            rt.alloc(),
-            b"wpds 1\r",
-            "refused: line 2: 10 NothingAsked\n"
-        )?
-    );
-    assert!(rt;
-        writes(
-            rt.alloc(),
-            b"wpds 1\n\r",
-            "refused: line 3: 10 NothingAsked\n"
-        )?
-    );
-    assert!(rt; writes(rt.alloc(), b"wpds 1\r\r", "refused: line 1: 2 NotText\n")?);
-    Ok(())
-}
-
-// A line that counts in a document has no form without its line feed either.
-#[test]
-fn half_an_arrow(rt: HostRuntime) -> Result<(), OutOfMemory> {
-    let document = "wpds 1\nweights reach\ncontrols p\nsymbols a\nrule p a -";
-    assert!(rt; writes(rt.alloc(), document.as_bytes(), "refused: line 5: 4 Form\n")?);
+    assert_eq!(rt; first_wrong(rt.alloc(), "", ENDS)?, None);
     Ok(())
 }
 
