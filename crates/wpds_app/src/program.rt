@@ -47,7 +47,7 @@ fn finish<W: Sink>(sink: &mut W, status: Status, text: &[u8]) -> Status
 /// Does all that the program does: takes the words after its name, reads a document, and writes the answer to it.
 ///
 /// The only words so far are `check` and `check --brief`, which leaves out the listings. The document is read to its
-/// end, or to one byte more than a document has. It is refused whole unless it has the first form (docs/FORMATS.md).
+/// end, or to one byte more than a document has, and refused by its first refusal (docs/FORMATS.md).
 /// The report stands in memory before its first byte is written.
 pub fn run<R: Source, W: Sink>(
     alloc: Global,
