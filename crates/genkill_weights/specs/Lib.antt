@@ -1,0 +1,6 @@
+pub mod Masks
+pub mod GenKill
+pub mod GenKillLaws
+pub mod FactSets
+pub mod Making
+pub mod private
