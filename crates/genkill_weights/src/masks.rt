@@ -73,7 +73,8 @@ pub(crate) fn mask_of<const N: usize>(facts: &[u32]) -> [u64; N]
 fn add_fact<const N: usize>(mask: &mut [u64; N], number: u32)
     requires number { number < 64 * N }
     ensures mask { IsTrue (is_mask N mask.old) → IsTrue (is_mask N mask.new) }
-    ensures facts { IsTrue (is_mask N mask.old) → (f : ℕ) → fact mask.new f ≡ (fact mask.old f || nat_eq number f) }
+    ensures facts { IsTrue (is_mask N mask.old) → (f : ℕ) →
+        fact mask.new f ≡ (fact mask.old f || nat_eq number f) }
 {
     let at = number as usize / 64;
     mask[at] |= 1 << (number % 64);
