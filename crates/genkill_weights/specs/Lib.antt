@@ -3,4 +3,5 @@ pub mod GenKill
 pub mod GenKillLaws
 pub mod FactSets
 pub mod Making
+pub mod Restoring
 pub mod private

@@ -1,6 +1,7 @@
 ghost use Rattle.std.specs.Prelude.{◌≡◌, ◌<◌, ◌*◌, ◌↔◌, ℕ, All, IsTrue};
-ghost use Rattle.semiring_laws.specs.Semiring.{Fits};
+ghost use Rattle.semiring_laws.specs.Semiring.{Fits, FitsMap};
 ghost use Rattle.genkill_weights.specs.Making.{AreApart, Makes};
+ghost use Rattle.genkill_weights.specs.Restoring.{Restores};
 ghost use Rattle.genkill_weights.specs.GenKill.{genkill_operations};
 ghost use Rattle.genkill_weights.specs.GenKillLaws.{genkill_laws};
 
@@ -28,6 +29,17 @@ impl<const N: usize> GenKill<N> {
         GenKillW::Map {
             keep: not_in(&[u64::MAX; N], &killed),
             gens: mask_of(gens),
+        }
+    }
+
+    /// The return map that restores these facts.
+    pub fn restore(&self, facts: &[u32]) -> MaskMap<N>
+        requires { All (λ f. f < 64 * N) facts.now }
+        ensures facts { Restores N facts.now result }
+        ensures fits { FitsMap (genkill_operations N) result }
+    {
+        MaskMap::Restore {
+            facts: mask_of(facts),
         }
     }
 }

@@ -164,11 +164,11 @@ fn restored(rt: HostRuntime) -> Result<(), Fail> {
     let alloc = rt.alloc();
     let semiring = GenKill::<1>;
     let callee = semiring.make(&[0], &[1, 2]);
-    let restore = MaskMap::Restore { facts: [0b011] };
+    let restore = semiring.restore(&[0, 1]);
     let returned = semiring.after(alloc, &restore, &callee)?;
     let row = [Effect::Keep, Effect::Keep, Effect::Kill];
     assert!(rt; is_composed(&returned, row, [Effect::Keep; 3]));
-    assert!(rt; !semiring.same_map(&restore, &MaskMap::Plain));
+    assert!(rt; !semiring.same_map(&restore, &semiring.plain()));
     Ok(())
 }
 
