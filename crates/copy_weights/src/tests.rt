@@ -1,5 +1,6 @@
-ghost use Rattle.std.specs.Prelude.{IfOk, IsTrue};
+ghost use Rattle.std.specs.Prelude.{◌≡◌, IfOk, IsTrue, Some};
 ghost use Rattle.semiring_laws.specs.Semiring.{Fits};
+ghost use Rattle.copy_weights.specs.declared.form.Form.TheVariants.{Meet};
 ghost use Rattle.copy_weights.specs.Forms.{form_fits};
 ghost use Rattle.copy_weights.specs.CopyConst.{copy_operations};
 
@@ -34,7 +35,9 @@ const X_OR_Y: Form = Form::Meet {
     from: 3,
 };
 
-fn number(n: i64) -> Form {
+fn number(n: i64) -> Form
+    ensures { result ≡ Meet (Some n) 0 }
+{
     Form::Meet {
         constant: Some(n),
         from: 0,
