@@ -1,5 +1,5 @@
 -- What weights say of values, by forms without sources in place of what is known.
-use Rattle.std.proofs.Common.{◌≡◌, ◌≢◌, ℕ, zero, suc, ◌<◌, ◌≤◌, ◌^◌, ℤ, Bool, true, false, ◌&&◌, List, length, refl, sym, ap, ap₂, ◌∙◌, inl, inr, arith}
+use Rattle.std.proofs.Common.{◌≡◌, ◌≢◌, ℕ, zero, suc, ◌<◌, ◌≤◌, ◌^◌, ℤ, Bool, true, false, refl, sym, ap, ap₂, ◌∙◌, inl, inr, arith}
 use Rattle.std.specs.Prelude.{IsTrue, Option, None, Some, nat_eq, cond}
 use Rattle.std.specs.Ordering.{int_eq}
 use Rattle.std.proofs.lemmas.Bool.{cases_eq, cond-true, cond-false, false_from_ne_true, ltb-true, eqb-true, eq-eqb}
@@ -9,8 +9,8 @@ use Rattle.copy_weights.specs.declared.form.Form.TheVariants.{Varying, Meet}
 use Rattle.copy_weights.specs.declared.form.CopyW.{CopyW}
 use Rattle.copy_weights.specs.declared.form.CopyW.TheVariants.{Zero, Map}
 use Rattle.copy_weights.specs.declared.form.CopyMap.TheVariants.{Restore}
-use Rattle.copy_weights.specs.Forms.{joined, with_constant, meet, undefined, itself, has, meet_over, put, form, identity, meets, composed, restored, form_fits}
-use Rattle.copy_weights.specs.CopyConst.{combined, extended, returned, copy_operations}
+use Rattle.copy_weights.specs.Forms.{joined, with_constant, meet, undefined, itself, has, meet_over, put, form, form_fits}
+use Rattle.copy_weights.specs.CopyConst.{copy_operations}
 use Rattle.copy_weights.specs.Values.{Known, either, constant, one_of, value, values}
 use Rattle.copy_weights.specs.Values.Known.{Undefined, Number, Varies}
 use Rattle.copy_weights.specs.private.SetLaws.{sets_same_below}

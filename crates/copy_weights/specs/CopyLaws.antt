@@ -1,12 +1,12 @@
 -- Copy constants are a semiring, whatever the number of variables.
 use Rattle.std.proofs.Common.{◌≡◌, ◌≢◌, ℕ, zero, suc, ◌+◌, ◌*◌, ◌^◌, ◌<◌, ◌≤◌, ◌↔◌, Bool, true, false, ◌&&◌, List, [], ◌∷◌, ◌++◌, length, set, get_or, length-set, get_or-set_same, get_or-set_other, pow_pos, pow_mono, pow-suc, suc-mul, refl, sym, ap, ap₂, ◌∙◌, inl, inr, arith}
-use Rattle.std.specs.Prelude.{IsTrue, nat_eq, nat_lt, cond}
+use Rattle.std.specs.Prelude.{IsTrue, nat_eq, cond}
 use Rattle.std.specs.List.{AllByRecursion}
 use Rattle.std.proofs.lemmas.List.Elements.{recursion_from_All}
 use Rattle.std.proofs.lemmas.Bool.{cases_lt, cases_eq, cases_Bool, cond-true, cond-false, false_from_ne_true, and_parts, and_from, eqb-true, eq-eqb, lt-ltb}
 use Rattle.semiring_laws.specs.Semiring.{IsSemiring}
 use Rattle.copy_weights.specs.declared.form.Form.{Form}
-use Rattle.copy_weights.specs.declared.form.Form.TheVariants.{Varying, Meet}
+use Rattle.copy_weights.specs.declared.form.Form.TheVariants.{Varying}
 use Rattle.copy_weights.specs.declared.form.CopyW.{CopyW}
 use Rattle.copy_weights.specs.declared.form.CopyW.TheVariants.{Zero, Map}
 use Rattle.copy_weights.specs.declared.form.CopyMap.{CopyMap}

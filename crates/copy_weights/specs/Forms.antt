@@ -1,5 +1,5 @@
 -- Forms of variables: constants and copies of old values, their meet, and substitution.
-use Rattle.std.specs.Prelude.{ℕ, ◌<◌, All, IsTrue, zero, suc, ◌^◌, ℤ, Bool, true, false, ◌&&◌, nat_eq, nat_lt, List, [], ◌∷◌, Option, None, Some, slice_index_or, bit_or, if◌then◌else◌}
+use Rattle.std.specs.Prelude.{ℕ, ◌<◌, All, IsTrue, zero, suc, ◌^◌, ℤ, Bool, true, nat_eq, nat_lt, List, [], ◌∷◌, Option, None, Some, slice_index_or, bit_or, if◌then◌else◌}
 use Rattle.std.specs.Int.{bit_at}
 use Rattle.std.specs.Ordering.{int_eq}
 use Rattle.copy_weights.specs.declared.form.Form.{Form}

@@ -1,6 +1,6 @@
 -- Meets and substitution of forms.
-use Rattle.std.proofs.Common.{◌≡◌, ◌≢◌, ℕ, zero, suc, ◌+◌, ◌*◌, ◌/◌, ◌%◌, ◌^◌, ◌<◌, ◌≤◌, ℤ, Bool, true, false, ◌&&◌, ◌||◌, refl, sym, ap, ap₂, ◌∙◌, inl, inr, pow_pos, arith}
-use Rattle.std.specs.Prelude.{IsTrue, Option, None, Some, ◌↔◌, ◌⊎◌, nat_eq, nat_lt, cond, bit_or, bit_and, option_and_then}
+use Rattle.std.proofs.Common.{◌≡◌, ℕ, zero, suc, ◌+◌, ◌/◌, ◌%◌, ◌^◌, ◌<◌, ◌≤◌, ℤ, Bool, true, false, ◌&&◌, ◌||◌, refl, sym, ap, ap₂, ◌∙◌, inl, inr, pow_pos, arith}
+use Rattle.std.specs.Prelude.{IsTrue, Option, None, Some, ◌↔◌, ◌⊎◌, nat_eq, cond, bit_or, bit_and, option_and_then}
 use Rattle.std.specs.Ordering.{int_eq}
 use Rattle.std.proofs.lemmas.Bool.Decides.{Decides-int_eq}
 use Rattle.std.proofs.lemmas.Bool.{cases_Bool, cases_eq, cases_lt, cond-true, cond-false, and_parts, and_from, ltb-true, lt-ltb, eqb-true, eq-eqb, false_from_ne_true}
@@ -9,7 +9,7 @@ use Rattle.std.proofs.lemmas.Nat.Bits.{shr_and_one}
 use Rattle.copy_weights.specs.declared.form.Form.{Form}
 use Rattle.copy_weights.specs.declared.form.Form.TheVariants.{Varying, Meet}
 use Rattle.copy_weights.specs.Forms.{joined, with_constant, meet, undefined, itself, has, meet_over, put, form_fits}
-use Rattle.copy_weights.specs.CopyConst.{absent, constant_rank, form_rank, same_constant, same_form}
+use Rattle.copy_weights.specs.CopyConst.{absent, form_rank, same_constant, same_form}
 use Rattle.copy_weights.specs.private.SetLaws.{has_or, has_zero, has_pow_same, has_pow_other, has_above, sets_same, set_or_comm, set_or_assoc, set_or_same, set_or_none, set_none_or, set_or_below, absent_within, absent_at_most, union_same}
 
 -- ---- constants

@@ -1,5 +1,5 @@
 use Rattle.std.proofs.Common.{length, sym, ◌∙◌}
-use Rattle.copy_weights.specs.Forms.{meet, put, itself, form}
+use Rattle.copy_weights.specs.Forms.{put, form}
 use Rattle.copy_weights.specs.CopyLaws.{tabulate_none, tabulate_pushed}
 use Rattle.copy_weights.proofs.lists.composed.Goals as goal
 

@@ -1,5 +1,5 @@
-use Rattle.std.proofs.Common.{◌≡◌, length, cond}
-use Rattle.copy_weights.specs.Forms.{meet, put, itself, has, form, tabulate}
+use Rattle.std.proofs.Common.{◌≡◌}
+use Rattle.copy_weights.specs.Forms.{meet, form, tabulate}
 use Rattle.copy_weights.proofs.lists.meets.Given as goal
 
 abbrev pub invariant-loop-k : goal.invariant-loop-k
