@@ -1,5 +1,5 @@
 -- What reading words as an expression answers.
-use Rattle.std.proofs.Common.{◌≡◌, ℕ, Bool, true, false, not, ◌||◌, cond, List, Option, Some, None, option_map, refl, sym, ap, ◌∙◌, subst, arith}
+use Rattle.std.proofs.Common.{◌≡◌, ℕ, ◌<◌, Bool, true, false, not, ◌||◌, cond, List, Option, Some, None, option_map, refl, sym, ap, ◌∙◌, subst, arith}
 use Rattle.std.specs.Prelude.{IsTrue, Result, Ok, Err, nat_lt}
 use Rattle.std.specs.List.{list_all}
 use Rattle.std.proofs.lemmas.Bool.{ltb-true, ltb-false, lt-ltb, or_parts, not-true}
@@ -17,6 +17,8 @@ use Rattle.truth_tables.specs.declared.raw.RawExpr.{RawExpr}
 use Rattle.truth_tables.specs.declared.reading.ExprRead.{ExprRead}
 use Rattle.truth_tables.specs.declared.reading.ExprRead.TheVariants.{Read, Form, Table as TableAnswer, Deep as DeepAnswer}
 use Rattle.truth_tables.specs.Texts.{IsAnswer, IfRead, answer_on}
+use Rattle.truth_tables.specs.declared.reading.Building.TheVariants.{TooMuchOpen}
+use Rattle.truth_tables.specs.private.Buildings.{IsBuilding, unbuilt_answer}
 use Rattle.truth_tables.proofs.Readings.{is_tree}
 use Rattle.truth_tables.proofs.MachineLemmas.{made_of_tree}
 use Rattle.truth_tables.proofs.OutcomeLemmas.{outcome, made_so}
@@ -140,3 +142,18 @@ answer_small limit ws (Read e) h = subst (λ f. has_small_tables f ≡ true) (sy
 answer_small limit ws Form h = tt
 answer_small limit ws TableAnswer h = tt
 answer_small limit ws DeepAnswer h = tt
+
+-- ---- what is not built
+
+unbuilt_so : (limit : ℕ) (ws : List Word) (t : Option Tree) (large : Option Bool) → list_all is_lawful_word ws ≡ true → tree_of ws ≡ t → large ≡ option_map has_large_table t → ((e : Tree) → tree_of ws ≡ Some e → limit < depth e)
+    → IsAnswer ws limit (unbuilt_answer large)
+unbuilt_so limit ws None None lawful is same deep = λ e x. let some = (is_tree ws e).1 x.1 in cc
+unbuilt_so limit ws None (Some b) lawful is same deep = cc
+unbuilt_so limit ws (Some e) None lawful is same deep = cc
+unbuilt_so limit ws (Some e) (Some true) lawful is same deep = let large : has_large_table e ≡ true = cc in (e, (lawful, (is_tree ws e).0 is), large)
+unbuilt_so limit ws (Some e) (Some false) lawful is same deep =
+    let small : has_large_table e ≡ false = cc in (e, (lawful, (is_tree ws e).0 is), ap not small, deep e is)
+
+pub answer_unbuilt : (limit : ℕ) (ws : List Word) (large : Option Bool) → list_all is_lawful_word ws ≡ true → large ≡ option_map has_large_table (tree_of ws) → IsBuilding limit ws TooMuchOpen
+    → IsAnswer ws limit (unbuilt_answer large)
+answer_unbuilt limit ws large lawful same deep = unbuilt_so limit ws (tree_of ws) large lawful refl same deep

@@ -1,8 +1,10 @@
 mod AnswerLemmas
+mod DepthLemmas
 mod MachineLemmas
 mod OperandLemmas
 mod OutcomeLemmas
 mod Readings
+mod ShapeLemmas
 mod StackLemmas
 mod Trees
 mod VariableLemmas

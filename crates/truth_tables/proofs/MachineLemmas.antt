@@ -10,7 +10,7 @@ use Rattle.truth_tables.specs.Stacks.{constant_of, Pending, AfterNot, AfterOpera
 use Rattle.truth_tables.specs.Machine.{Parts, Unclosed, NotOpen, OperatorOpen, BracketOpen, First2Open, Second2Open, First3Open, Second3Open, Third3Open, Progress, Wanted, Behind2, Behind3, Counted2, Counted3, Operand, folded, closed, behind_comma, behind_close, operator_waits, behind_mark, behind_name, progress, only, at_last, made_from, made_of}
 
 module _ {X N : Type 0} (p : Parts X N) where
-  abbrev unclosed : Pending → Unclosed X N
+  abbrev pub unclosed : Pending → Unclosed X N
   unclosed AfterNot = NotOpen
   unclosed (AfterOperator o a) = OperatorOpen o (folded p a)
   unclosed InBracket = BracketOpen
@@ -20,14 +20,14 @@ module _ {X N : Type 0} (p : Parts X N) where
   unclosed (Second3 n a) = Second3Open (p.number3 n) (folded p a)
   unclosed (Third3 n a b) = Third3Open (p.number3 n) (folded p a) (folded p b)
 
-  abbrev stack : List Pending → List (Unclosed X N)
+  abbrev pub stack : List Pending → List (Unclosed X N)
   stack [] = []
   stack (q ∷ qs) = unclosed q ∷ stack qs
 
   abbrev both : List Pending × Tree → List (Unclosed X N) × X
   both r = (stack r.0, folded p r.1)
 
-  abbrev reached : Reading → Progress X N
+  abbrev pub reached : Reading → Progress X N
   reached (Wants ps) = Wanted (stack ps)
   reached (Word2 ps) = Behind2 (stack ps)
   reached (Word3 ps) = Behind3 (stack ps)
@@ -100,7 +100,7 @@ module _ {X N : Type 0} (p : Parts X N) where
   number_so ps None = refl
   number_so ps (Some b) = refl
 
-  step_so : (r : Reading) (w : Word) → progress p (reached r) w ≡ option_map reached (next_reading r w)
+  pub step_so : (r : Reading) (w : Word) → progress p (reached r) w ≡ option_map reached (next_reading r w)
   step_so (Wants ps) (Name x) = name_so ps x
   step_so (Wants ps) (Number n) = number_so ps (constant_of n)
   step_so (Has ps e) (Sign m) = mark_so m ps e
@@ -112,7 +112,7 @@ module _ {X N : Type 0} (p : Parts X N) where
   step_so (Number3 ps n) (Sign Open) = refl
   step_so _ _ = refl
 
-  end_so : (r : Reading) → at_last p (reached r) ≡ option_map (folded p) (at_end r)
+  pub end_so : (r : Reading) → at_last p (reached r) ≡ option_map (folded p) (at_end r)
   end_so (Has ps e) = ap (λ q. only p q.0 q.1) (closes_so 1 ps e) ∙ only_so (joined 1 ps e).0 (joined 1 ps e).1
     where
       only_so : (qs : List Pending) (f : Tree) → only p (stack qs) (folded p f) ≡ option_map (folded p) (alone qs f)

@@ -8,6 +8,7 @@ mod operand;
 mod operator;
 mod raw;
 mod reading;
+mod shape;
 mod stack;
 mod steps;
 mod tables;

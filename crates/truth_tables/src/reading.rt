@@ -1,11 +1,12 @@
-ghost use Rattle.std.specs.Prelude.{◌≡◌, IfOk, IsTrue, option_map};
+ghost use Rattle.std.specs.Prelude.{◌≡◌, IfOk, IsTrue};
 ghost use Rattle.truth_tables.specs.Formulas.{has_small_tables};
-ghost use Rattle.truth_tables.specs.Machine.{made_of};
-ghost use Rattle.truth_tables.specs.Operands.{operand_of, parts, raw_formula};
+ghost use Rattle.truth_tables.specs.Operands.{raw_formula};
 ghost use Rattle.truth_tables.specs.Texts.{IsAnswer, IfRead, answer_on};
+ghost use Rattle.truth_tables.specs.private.Buildings.{IsBuilding, unbuilt_answer};
 
 use crate::RawExpr;
 use crate::operand::{Operand, Unread};
+use crate::shape::large_table;
 use crate::stack::Position;
 use crate::steps::{finish, step};
 use std::alloc::Global;
@@ -24,13 +25,19 @@ pub enum ExprRead<'t> {
     Deep,
 }
 
-// What is made of the words, if they are an expression.
-fn make_operand<'t>(
-    alloc: Global,
-    limit: u32,
-    words: Words<'t>,
-) -> Result<Option<Operand<'t>>, OutOfMemory>
-    ensures { IfOk result (λ o. option_map operand_of o ≡ made_of (parts limit) words.entry) }
+// What came of building an expression.
+#[derive(Drop)]
+enum Building<'t> {
+    /// The operand that the words are, if they are an expression.
+    Ended(Option<Operand<'t>>),
+    /// More was open than an expression may be deep, and the rest was not read.
+    TooMuchOpen,
+}
+
+// Builds the expression that the words are, as long as it can be one that is not too deep. So no
+// more is open at once than `limit`.
+fn build<'t>(alloc: Global, limit: u32, words: Words<'t>) -> Result<Building<'t>, OutOfMemory>
+    ensures { IfOk result (IsBuilding limit words.entry) }
 {
     let mut stack = Vec::new(alloc);
     let mut position = Position::Wanted;
@@ -38,11 +45,14 @@ fn make_operand<'t>(
     while let Some((lexeme, rest)) = left.split_first() {
         match step(alloc, limit, &mut stack, position, lexeme)? {
             Some(next) => position = next,
-            None => return Ok(None),
+            None => return Ok(Building::Ended(None)),
+        }
+        if stack.len() > limit as usize {
+            return Ok(Building::TooMuchOpen);
         }
         left = rest;
     }
-    finish(alloc, limit, stack, position)
+    Ok(Building::Ended(finish(alloc, limit, stack, position)?))
 }
 
 // The answer where this was made of the words.
@@ -53,6 +63,18 @@ fn answer<'t>(made: Option<Operand<'t>>) -> ExprRead<'t>
         Some(Ok(built)) => ExprRead::Read(built.expr),
         Some(Err(Unread::Table)) => ExprRead::Table,
         Some(Err(Unread::Deep)) => ExprRead::Deep,
+        None => ExprRead::Form,
+    }
+}
+
+// The answer where the words are no expression that is not too deep, by its large table if they are
+// an expression.
+fn unbuilt<'t>(large: Option<bool>) -> ExprRead<'t>
+    ensures { result ≡ unbuilt_answer large }
+{
+    match large {
+        Some(true) => ExprRead::Table,
+        Some(false) => ExprRead::Deep,
         None => ExprRead::Form,
     }
 }
@@ -72,6 +94,8 @@ pub fn read_expr<'t>(
     ensures answer { IfOk result (IsAnswer words.now depth) }
     ensures tables { IfOk result (λ r. IfRead r (λ e. IsTrue (has_small_tables (raw_formula e)))) }
 {
-    let made = make_operand(alloc, depth, words.reborrow())?;
-    Ok(answer(made))
+    match build(alloc, depth, words.reborrow())? {
+        Building::Ended(made) => Ok(answer(made)),
+        Building::TooMuchOpen => Ok(unbuilt(large_table(alloc, words.reborrow())?)),
+    }
 }

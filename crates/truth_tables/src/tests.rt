@@ -127,6 +127,39 @@ tab2 16 (!!!a, b) ~ table
 !!!a & tab2 16 (a, b) ~ table
 !!!a & tab2 16 (a) ~ form";
 
+// Texts that may be three deep, and have more than three parts open at once: they are not built.
+const UNBUILT: &str = "\
+!!!!a ~ deep
+!!!!1 ~ deep
+!!!!2 ~ form
+!!!!return ~ form
+!!!!a b ~ form
+!!!!a : b ~ form
+!!!! ~ form
+((((a)))) ~ deep
+((((a))) ~ form
+((((a))))) ~ form
+a => b => c => d => e ~ deep
+a => b => c => d => ~ form
+!!!!(a & b) | c = d ~ deep
+!!!!(a, b) ~ form
+!!!!tab2 1 (a, !b) ~ deep
+!!!!tab2 1 (a) ~ form
+!!!!tab2 1 (a, b, c) ~ form
+!!!!tab2 1 (a, (b, c)) ~ form
+!!!!tab2 1 a ~ form
+!!!!tab2 (a, b) ~ form
+!!!!tab3 1 (a, b, c ^ d) ~ deep
+!!!!tab3 1 (a, b) ~ form
+!!!!tab2 1 (tab3 1 (a, b, c), d) ~ deep
+!!!!tab2 15 (a, b) ~ deep
+!!!!tab2 16 (a, b) ~ table
+!!!!tab3 255 (a, b, c) ~ deep
+!!!!tab3 256 (a, b, c) ~ table
+tab2 16 (a, !!!!b) ~ table
+!!!!tab2 16 (a, tab2 1 (b, c)) ~ table
+!!!!tab2 16 (a, b ~ form";
+
 // Whether each line of a table is a text and its answer.
 fn answers_are(rt: &impl Abort, alloc: Global, table: &str, depth: u32) -> Result<(), OutOfMemory> {
     for line in table.lines() {
@@ -149,6 +182,7 @@ fn texts_are_refused(rt: HostRuntime) -> Result<(), Fail> {
     let alloc = rt.alloc();
     answers_are(&rt, alloc, REFUSED, 64)?;
     answers_are(&rt, alloc, DEPTHS, 3)?;
+    answers_are(&rt, alloc, UNBUILT, 3)?;
     for (text, depth, want) in [("", 64, "form"), ("a", 1, "a"), ("a", 0, "deep")] {
         assert_eq!(rt;
             answer(alloc, text.as_bytes(), depth)?.as_str(),
