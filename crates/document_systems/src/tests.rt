@@ -10,11 +10,10 @@ use wpds_base::OutOfMemory;
 fn values(rt: HostRuntime) -> Result<(), Fail> {
     let alloc = rt.alloc();
     let none = Names::from_vec(Vec::new(alloc));
-    assert_eq!(rt; Reach.text_of(alloc, &none, &true)?.as_str(), "reachable");
-    assert_eq!(rt;
-        Reach.text_of(alloc, &none, &false)?.as_str(),
-        "unreachable"
-    );
+    let text = Reach.text_of(alloc, &none, &true)?;
+    assert_eq!(rt; text.as_bytes(), b"reachable".as_slice());
+    let text = Reach.text_of(alloc, &none, &false)?;
+    assert_eq!(rt; text.as_bytes(), b"unreachable".as_slice());
     let cost = Cost::new(5)?;
     for (value, text) in [
         (None, "unreachable"),
@@ -22,11 +21,8 @@ fn values(rt: HostRuntime) -> Result<(), Fail> {
         (Some(4), "4"),
         (Some(5), "5 or more"),
     ] {
-        assert_eq!(rt;
-            cost.text_of(alloc, &none, &value)?.as_str(),
-            text,
-            "{value:?}"
-        );
+        let found = cost.text_of(alloc, &none, &value)?;
+        assert_eq!(rt; found.as_bytes(), text.as_bytes(), "{value:?}");
     }
     Ok(())
 }

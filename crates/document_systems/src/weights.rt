@@ -1,5 +1,4 @@
 ghost use Rattle.std.specs.Prelude.{◌≡◌, ◌↔◌, ℕ, List, IfOk, codes, refl};
-ghost use Rattle.std.specs.String.{string_bytes};
 ghost use Rattle.semiring_laws.specs.Semiring.{Fits, FitsMap};
 ghost use Rattle.document_forms.specs.declared.weight.WeightText.{WeightText as WeightTextValue};
 ghost use Rattle.document_forms.specs.declared.document.MapText.{MapText as MapTextValue};
@@ -33,8 +32,8 @@ pub trait DocumentWeights: Semiring {
         ensures fits { IfOk result (λ m. FitsMap (Self.operations self.now) m) };
 
     /// The text of a value, by the names of the document's facts or variables.
-    fn text_of(&self, alloc: Global, items: &Names, value: &Self::W) -> Result<String, OutOfMemory>
-        ensures { IfOk result (λ t. string_bytes t ≡ kind.written self.now items.now value.now) };
+    fn text_of(&self, alloc: Global, items: &Names, value: &Self::W) -> Result<Text, OutOfMemory>
+        ensures { IfOk result (λ t. t ≡ kind.written self.now items.now value.now) };
 
     /// The operations are those of the semiring.
     ghost computes: { kind.operations ≡ Self.Semiring.operations };
@@ -82,9 +81,9 @@ impl DocumentWeights for Reach {
         Ok(NoMap::Plain)
     }
 
-    fn text_of(&self, alloc: Global, _items: &Names, value: &bool) -> Result<String, OutOfMemory> {
+    fn text_of(&self, alloc: Global, _items: &Names, value: &bool) -> Result<Text, OutOfMemory> {
         let text = if *value { "reachable" } else { "unreachable" };
-        Ok(String::from_str(alloc, text)?)
+        Text::of(alloc, text.as_bytes())
     }
 }
 
@@ -118,11 +117,12 @@ impl DocumentWeights for Cost {
         alloc: Global,
         _items: &Names,
         value: &Option<u64>,
-    ) -> Result<String, OutOfMemory> {
+    ) -> Result<Text, OutOfMemory> {
         let Some(cost) = *value else {
-            return Ok(String::from_str(alloc, "unreachable")?);
+            return Text::of(alloc, b"unreachable");
         };
         let more = if cost == self.cap() { " or more" } else { "" };
-        Ok(format!(in alloc; "{cost}{more}")?)
+        let text = format!(in alloc; "{cost}{more}")?;
+        Ok(Text::from_vec(text.into_bytes()))
     }
 }

@@ -5,6 +5,7 @@ ghost use Rattle.report_text.specs.Listings as listings;
 use std::alloc::{AllocError, Global};
 use witness_graph::{Listing, Node, Side};
 use wpds_base::OutOfMemory;
+use wpds_port::Text;
 
 // Adds a rule by its number in the text, if there is one.
 fn add_rule(alloc: Global, texts: &mut Vec<String>, rule: Option<u32>) -> Result<(), OutOfMemory>
@@ -116,8 +117,11 @@ pub fn listing_text(alloc: Global, listing: &Listing) -> Result<String, OutOfMem
 }
 
 /// The line of a query by its number, from 1, and the text of its value.
-pub fn query_line(alloc: Global, number: u64, value: &str) -> Result<String, OutOfMemory>
-    ensures { IfOk result (λ t. string_bytes t ≡ listings.query_line number value.now) }
+pub fn query_line(alloc: Global, number: u64, value: &Text) -> Result<Text, OutOfMemory>
+    ensures { IfOk result (λ t. t ≡ listings.query_line number value.now) }
 {
-    Ok(format!(in alloc; "query {number}: {value}\n")?)
+    let mut line = format!(in alloc; "query {number}: ")?.into_bytes();
+    line.extend_from_slice(value.as_bytes())?;
+    line.push(b'\n')?;
+    Ok(Text::from_vec(line))
 }

@@ -3,6 +3,7 @@ use std::alloc::Global;
 use std::test::Fail;
 use witness_graph::{Graph, Node, Side};
 use wpds_base::OutOfMemory;
+use wpds_port::Text;
 
 const fn lower(
     before: Option<u64>,
@@ -69,10 +70,13 @@ fn listings(rt: HostRuntime) -> Result<(), Fail> {
 #[test]
 fn lines_of_queries(rt: HostRuntime) -> Result<(), Fail> {
     let alloc = rt.alloc();
-    assert_eq!(rt; query_line(alloc, 1, "3")?.as_str(), "query 1: 3\n");
-    assert_eq!(rt;
-        query_line(alloc, 12, "unreachable")?.as_str(),
-        "query 12: unreachable\n"
-    );
+    for (number, value, line) in [
+        (1, "3", "query 1: 3\n"),
+        (12, "unreachable", "query 12: unreachable\n"),
+    ] {
+        let value = Text::of(alloc, value.as_bytes())?;
+        let found = query_line(alloc, number, &value)?;
+        assert_eq!(rt; found.as_bytes(), line.as_bytes());
+    }
     Ok(())
 }

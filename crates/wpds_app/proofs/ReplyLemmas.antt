@@ -3,7 +3,6 @@ use Rattle.std.proofs.Common.{◌≡◌, ◌≢◌, ℕ, Bool, true, false, nat_
 use Rattle.std.proofs.lemmas.Bool.{ltb-true, ltb-false}
 use Rattle.std.proofs.Math.Seq.{take-append_seam}
 use Rattle.std.specs.Prelude.{Result, Ok, Err, IfOk, MatchResult, Option, None, Some}
-use Rattle.std.specs.String.{string_bytes}
 use Rattle.std.proofs.lemmas.List.{take_all}
 use Rattle.wpds_port.specs.Refusals.{refusal_text}
 use Rattle.wpds_port.specs.declared.refusal.Refusal.{Refusal}
@@ -19,8 +18,8 @@ use Rattle.wpds_app.proofs.InputLemmas.{NeverBoth, OneDocument, accepted_not_ref
 
 -- a refusal's line is the answer to an input that it refuses
 pub refused_replies : {E : Type 0} (input : List ℕ) (options : Options) (refusal : Refusal) (r : Result Reply E) → IfOk r (λ x. x.status ≡ DocumentRefused)
-    → IfOk r (λ x. string_bytes x.text ≡ refusal_text refusal ++ 10 ∷ []) → IsRefused input refusal → IfOk r (λ x. IsReply input options x.status (string_bytes x.text))
-refused_replies input options refusal (Ok x) status text refused = subst (λ s. IsReply input options s (string_bytes x.text)) (sym status) (refusal, refused, text)
+    → IfOk r (λ x. x.text ≡ refusal_text refusal ++ 10 ∷ []) → IsRefused input refusal → IfOk r (λ x. IsReply input options x.status x.text)
+refused_replies input options refusal (Ok x) status text refused = subst (λ s. IsReply input options s x.text) (sym status) (refusal, refused, text)
 refused_replies input options refusal (Err e) status text refused = tt
 
 decided : NeverBoth → OneDocument → (input : List ℕ) (options : Options) (text : List ℕ) (status : Status) → IsReply input options status text → IsDecidedBy input status

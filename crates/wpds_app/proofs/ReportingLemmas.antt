@@ -15,7 +15,7 @@ use Rattle.report_text.specs.Listings.{query_line}
 use Rattle.path_sum.specs.declared.answer.Answer.{Answer}
 use Rattle.query_answers.specs.Answering.{IsAnswer}
 use Rattle.wpds_app.specs.declared.words.Options.{Options}
-use Rattle.wpds_app.specs.Reports.{ByQuery, query_text, IsQueryText, IsReported, BySemiring, IsBuilt, IsInfeasible}
+use Rattle.wpds_app.specs.Reports.{ByQuery, query_text, IsQueryText, IsReported, BySemiring, ByDocument, IsBuilt, IsInfeasible}
 
 -- an answer between two patterns is one between equal patterns
 pub between_equals : {S W Map : Type 0} (operations : S → Operations W Map) (p : Pushdown S W Map) (a : Answer S W Map) (f from t to : PatternValue) → f ≡ from → t ≡ to
@@ -26,12 +26,12 @@ between_equals {S} {W} {Map} operations p a f from t to first second is =
     subst F first (subst T second is)
 
 -- the lines of an answer are the text of its query
-pub lines_told : {S W Map T E : Type 0} (kind : Kind S W Map) (options : Options) (p : Pushdown S W Map) (items : List (List ℕ)) (i : ℕ) (from to : PatternValue) (bytes : T → List ℕ) (a : Answer S W Map) (r : Result T E)
-    (kept : S) → IsAnswer kind.operations p from to a → kept ≡ p.semiring → IfOk r (λ t. bytes t ≡ query_text i options (kind.written kept items a.value) a.listing)
-    → IfOk r (λ t. IsQueryText kind options p items i from to (bytes t))
-lines_told kind options p items i from to bytes a (Ok t) kept is same text =
+pub lines_told : {S W Map E : Type 0} (kind : Kind S W Map) (options : Options) (p : Pushdown S W Map) (items : List (List ℕ)) (i : ℕ) (from to : PatternValue) (a : Answer S W Map) (r : Result (List ℕ) E)
+    (kept : S) → IsAnswer kind.operations p from to a → kept ≡ p.semiring → IfOk r (λ t. t ≡ query_text i options (kind.written kept items a.value) a.listing)
+    → IfOk r (IsQueryText kind options p items i from to)
+lines_told kind options p items i from to a (Ok t) kept is same text =
     record { answer = a; is_answer = is; told = text ∙ ap (λ s. query_text i options (kind.written s items a.value) a.listing) same }
-lines_told kind options p items i from to bytes a (Err e) kept is same text = tt
+lines_told kind options p items i from to a (Err e) kept is same text = tt
 
 -- ---- the semiring that weights name
 

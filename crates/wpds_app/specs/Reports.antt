@@ -52,20 +52,27 @@ module _ {S W Map : Type 0} (kind : Kind S W Map) (options : Options) where
   abbrev pub IsReported : S → Document → List ℕ → Type 0
   IsReported semiring d report = ByQuery (TellsQuery semiring d) 1 d.queries report
 
--- This holds of the semiring that these weights name, if it is built.
-abbrev pub BySemiring : ((S W Map : Type 0) → Kind S W Map → S → Type 0) → WeightsLine → Type 0
-BySemiring holds Reach = holds ReachValue Bool NoMap reach_kind (record {})
-BySemiring holds (Cost most) = holds ℕ (Option ℕ) NoMap cost_kind most
-BySemiring holds _ = ⊥
+-- This holds of the semiring that these weights name over so many facts or variables, if it is built.
+abbrev pub BySemiring : ((S W Map : Type 0) → Kind S W Map → S → Type 0) → WeightsLine → ℕ → Type 0
+BySemiring holds Reach items = holds ReachValue Bool NoMap reach_kind (record {})
+BySemiring holds (Cost most) items = holds ℕ (Option ℕ) NoMap cost_kind most
+BySemiring holds GenKill facts =
+    let n = words_of facts in holds (GenKillValue n) (GenKillW n) (MaskMap n) (genkill_kind n) (record {})
+BySemiring holds Copy variables = holds ℕ CopyW CopyMap copy_kind variables
+BySemiring holds Relation items = ⊥
 
--- the semiring of these weights is built
-abbrev pub IsBuilt : WeightsLine → Type 0
-IsBuilt weights = BySemiring (λ S W Map kind semiring. Unit {0}) weights
+-- and of the semiring that a document names
+abbrev pub ByDocument : ((S W Map : Type 0) → Kind S W Map → S → Type 0) → Document → Type 0
+ByDocument holds d = BySemiring holds d.weights (length d.items)
+
+-- the semiring of a document's weights is built
+abbrev pub IsBuilt : Document → Type 0
+IsBuilt d = ByDocument (λ S W Map kind semiring. Unit {0}) d
 
 -- the report on a document, over the semiring that its weights name
 abbrev pub IsReport : Options → Document → List ℕ → Type 0
 IsReport options d report =
-    BySemiring (λ S W Map kind semiring. IsReported kind options semiring d report) d.weights
+    ByDocument (λ S W Map kind semiring. IsReported kind options semiring d report) d
 
 -- ---- what the text of a query tells
 
@@ -78,7 +85,7 @@ IsInfeasible kind semiring d q =
 abbrev pub TellsFeasibility : Document → ℕ → QueryLine → List ℕ → Type 0
 TellsFeasibility d i q text =
     (text ≡ query_line i (codes "unreachable"))
-    ↔ BySemiring (λ S W Map kind semiring. IsInfeasible kind semiring d q) d.weights
+    ↔ ByDocument (λ S W Map kind semiring. IsInfeasible kind semiring d q) d
 
 -- no rule of the run has the weight `none`
 abbrev pub LeadsOn : Document → List ℕ → Type 0

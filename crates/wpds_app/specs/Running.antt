@@ -33,7 +33,7 @@ Means input (System d) = reads_as input d
 
 -- what is needed to answer it is built
 abbrev pub IsAnswerable : Input → Type 0
-IsAnswerable (System d) = IsBuilt d.weights
+IsAnswerable (System d) = IsBuilt d
 
 -- the input is answered, and what it means
 pub record IsAccepted (input : List ℕ) (meaning : Input) : Type 0 where

@@ -1,5 +1,4 @@
 ghost use Rattle.std.specs.Prelude.{◌≡◌, ◌≤◌, ◌+◌, ◌++◌, ◌∷◌, [], IfOk, IsErrOf};
-ghost use Rattle.std.specs.String.{string_bytes};
 ghost use Rattle.wpds_base.specs.Limits.{most_bytes};
 ghost use Rattle.wpds_port.specs.Causes.{Rose};
 ghost use Rattle.wpds_port.specs.Reading.{ConsumesPart};
@@ -14,25 +13,25 @@ use document_forms::{Document, documents_are_lawful};
 use document_systems::Names;
 use std::alloc::Global;
 use wpds_base::OutOfMemory;
-use wpds_port::{InputFault, ReadFault, Refusal, Source, read_up_to};
+use wpds_port::{InputFault, ReadFault, Refusal, Source, Text, read_up_to};
 
 /// A status and the text that is written with it.
 #[derive(Drop)]
 pub(crate) struct Reply {
     pub(crate) status: Status,
-    pub(crate) text: String,
+    pub(crate) text: Text,
 }
 
 // The line of a refusal.
 fn refused(alloc: Global, refusal: Refusal) -> Result<Reply, OutOfMemory>
     ensures status { IfOk result (λ r. r.status ≡ Status.DocumentRefused) }
-    ensures text { IfOk result (λ r. string_bytes r.text ≡ refusal_text refusal ++ 10 ∷ []) }
+    ensures text { IfOk result (λ r. r.text ≡ refusal_text refusal ++ 10 ∷ []) }
 {
-    let mut text = refusal.text(alloc)?;
-    text.push_str("\n")?;
+    let mut text = refusal.text(alloc)?.into_bytes();
+    text.push(b'\n')?;
     Ok(Reply {
         status: Status::DocumentRefused,
-        text,
+        text: Text::from_vec(text),
     })
 }
 
@@ -44,7 +43,7 @@ fn reply_on_system(
     options: Options,
 ) -> Result<Reply, OutOfMemory>
     requires { reads_as input.now document.now }
-    ensures { IfOk result (λ r. IsReply input.now options r.status (string_bytes r.text)) }
+    ensures { IfOk result (λ r. IsReply input.now options r.status r.text) }
 {
     documents_are_lawful();
     match report(alloc, document, options)? {
@@ -58,7 +57,7 @@ fn reply_on_system(
 
 // What is answered to an input.
 fn reply_to(alloc: Global, input: &[u8], options: Options) -> Result<Reply, OutOfMemory>
-    ensures { IfOk result (λ r. IsReply input.now options r.status (string_bytes r.text)) }
+    ensures { IfOk result (λ r. IsReply input.now options r.status r.text) }
 {
     match meaning_of(alloc, input) {
         Ok(Input::System(document)) => reply_on_system(alloc, input, &document, options),
@@ -74,7 +73,7 @@ pub(crate) fn read_and_reply<R: Source>(
     options: Options,
 ) -> Result<Reply, InputFault>
     ensures reply { IfOk result (λ r.
-        HasReply (R.left source.old) (R.left source.new) options r.status (string_bytes r.text)) }
+        HasReply (R.left source.old) (R.left source.new) options r.status r.text) }
     ensures fault { IsErrOf result InputFault.Read
         → Rose (R.faults source.old) (R.faults source.new) }
     ensures read_at_most { ConsumesPart (R.left source.old) (R.left source.new) (most_bytes + 1) }

@@ -1,5 +1,4 @@
 ghost use Rattle.std.specs.Prelude.{◌≡◌, ◌<◌, ◌≤◌, All, IfOk, OnOk, MatchOption, None, Some, length, slice_set};
-ghost use Rattle.std.specs.String.{string_bytes};
 ghost use Rattle.wpds_base.specs.Limits.{most_cost};
 ghost use Rattle.document_forms.specs.Lawful.{IsDocument, IsQueryOf};
 ghost use Rattle.document_systems.specs.Systems.{system_of, side_of};
@@ -20,6 +19,7 @@ use report_text::{listing_text, query_line};
 use semiring_laws::Reach;
 use std::alloc::Global;
 use wpds_base::OutOfMemory;
+use wpds_port::Text;
 
 // The lines of an answer to the query with a number.
 fn answer_lines<S: DocumentWeights>(
@@ -29,19 +29,20 @@ fn answer_lines<S: DocumentWeights>(
     number: u64,
     answer: &Answer<S>,
     options: Options,
-) -> Result<String, OutOfMemory>
+) -> Result<Text, OutOfMemory>
     ensures { let value = S.kind.written semiring.now items.now answer.now.value in
-        IfOk result (λ t. string_bytes t ≡ query_text number options value answer.now.listing) }
+        IfOk result (λ t. t ≡ query_text number options value answer.now.listing) }
 {
     let value = semiring.text_of(alloc, items, &answer.value)?;
-    let mut text = query_line(alloc, number, value.as_str())?;
+    let line = query_line(alloc, number, &value)?;
     if options.brief {
-        return Ok(text);
+        return Ok(line);
     }
+    let mut text = line.into_vec();
     if let Some(listing) = &answer.listing {
-        text.push_str(listing_text(alloc, listing)?.as_str())?;
+        text.extend_from_slice(listing_text(alloc, listing)?.as_bytes())?;
     }
-    Ok(text)
+    Ok(Text::from_vec(text))
 }
 
 // The lines of the query with a number, over the saturation from its second pattern.
@@ -52,7 +53,7 @@ fn query_lines<S: DocumentWeights>(
     options: Options,
     number: u64,
     query: &QueryLine,
-) -> Result<String, OutOfMemory>
+) -> Result<Text, OutOfMemory>
     requires system { let p = saturation.now.system in
         p ≡ system_of S.kind p.semiring document.now }
     requires query { IsQueryOf document.now query.now }
@@ -60,8 +61,7 @@ fn query_lines<S: DocumentWeights>(
         IsSaturatedFrom S.operations (pre_way S.operations) saturation.now.system to
         saturation.now }
     ensures { let semiring = saturation.now.system.semiring in
-        IfOk result (λ t.
-        TellsQuery S.kind options semiring document.now number query.now (string_bytes t)) }
+        IfOk result (TellsQuery S.kind options semiring document.now number query.now) }
 {
     let system = saturation.system();
     let from = pattern_from(alloc, system, &query.from)?;
@@ -77,7 +77,7 @@ fn query_lines<S: DocumentWeights>(
 }
 
 // Keeps lines at a place.
-fn keep(kept: &mut [Option<String>], place: usize, lines: String)
+fn keep(kept: &mut [Option<Text>], place: usize, lines: Text)
     requires { place < length kept.old }
     ensures { kept.new ≡ slice_set kept.old place (Some lines) }
 {
@@ -92,7 +92,7 @@ fn keep_alike<S: DocumentWeights>(
     options: Options,
     to: &PatternText,
     place: usize,
-    kept: &mut [Option<String>],
+    kept: &mut [Option<Text>],
 ) -> Result<(), OutOfMemory>
     requires document { IsDocument document.now }
     requires system { let p = saturation.now.system in
@@ -127,15 +127,15 @@ fn lines_at<S: DocumentWeights>(
     document: &Document<Names>,
     options: Options,
     place: usize,
-    kept: &mut [Option<String>],
-) -> Result<String, OutOfMemory>
+    kept: &mut [Option<Text>],
+) -> Result<Text, OutOfMemory>
     requires document { IsDocument document.now }
     requires system { system.now ≡ system_of S.kind system.now.semiring document.now }
     requires place { place < length document.now.queries }
     requires room { length kept.old ≡ length document.now.queries }
     requires kept { AreKept S.kind options system.now.semiring document.now kept.old }
     ensures lines { let semiring = system.now.semiring in
-        IfOk result (λ t. TellsAt S.kind options semiring document.now place t) }
+        IfOk result (TellsAt S.kind options semiring document.now place) }
     ensures kept { let semiring = system.now.semiring in
         OnOk result (AreKept S.kind options semiring document.now kept.new) }
     ensures room { length kept.new ≡ length kept.old }
@@ -161,7 +161,7 @@ fn lines_at<S: DocumentWeights>(
 }
 
 // As many places for lines, where nothing is kept yet.
-fn nothing_kept(alloc: Global, count: usize) -> Result<Vec<Option<String>>, OutOfMemory>
+fn nothing_kept(alloc: Global, count: usize) -> Result<Vec<Option<Text>>, OutOfMemory>
     ensures room { IfOk result (λ kept. length kept.items ≡ count) }
     ensures empty { IfOk result (λ kept. All (λ lines. lines ≡ None) kept.items) }
 {
@@ -178,19 +178,19 @@ fn report_over<S: DocumentWeights>(
     semiring: S,
     document: &Document<Names>,
     options: Options,
-) -> Result<String, OutOfMemory>
+) -> Result<Text, OutOfMemory>
     requires { IsDocument document.now }
-    ensures { IfOk result (λ t. IsReported S.kind options semiring document.now (string_bytes t)) }
+    ensures { IfOk result (IsReported S.kind options semiring document.now) }
 {
     let system = system_from(alloc, semiring, document)?;
     let count = document.queries.len();
     let mut kept = nothing_kept(alloc, count)?;
-    let mut text = String::new(alloc);
+    let mut text = Vec::new(alloc);
     for place in 0..count {
         let lines = lines_at(alloc, &system, document, options, place, &mut kept)?;
-        text.push_str(lines.as_str())?;
+        text.extend_from_slice(lines.as_bytes())?;
     }
-    Ok(text)
+    Ok(Text::from_vec(text))
 }
 
 // The costs up to a cap that a document names.
@@ -210,11 +210,11 @@ pub(crate) fn report(
     alloc: Global,
     document: &Document<Names>,
     options: Options,
-) -> Result<Option<String>, OutOfMemory>
+) -> Result<Option<Text>, OutOfMemory>
     requires { IsDocument document.now }
     ensures { IfOk result (λ found. MatchOption found
-        (IsBuilt document.now.weights → ⊥)
-        (λ t. IsReport options document.now (string_bytes t))) }
+        (IsBuilt document.now → ⊥)
+        (IsReport options document.now)) }
 {
     let text = match document.weights {
         WeightsLine::Reach => report_over(alloc, Reach, document, options)?,

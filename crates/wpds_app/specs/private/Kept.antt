@@ -1,7 +1,5 @@
 -- The lines of queries that are answered before their turn.
-use Rattle.std.specs.Prelude.{◌≡◌, ℕ, ◌+◌, List, Option, Some, String, slice_get}
-use Rattle.std.specs.String.{string_bytes}
-use Rattle.std.specs.declared.alloc.Global.{Global}
+use Rattle.std.specs.Prelude.{◌≡◌, ℕ, ◌+◌, List, Option, Some, slice_get}
 use Rattle.document_forms.specs.Documents.{Document}
 use Rattle.document_forms.specs.declared.document.QueryLine.{QueryLine}
 use Rattle.document_systems.specs.Kinds.{Kind}
@@ -10,11 +8,11 @@ use Rattle.wpds_app.specs.Reports.{TellsQuery}
 
 module _ {S W Map : Type 0} (kind : Kind S W Map) (options : Options) (semiring : S) (d : Document) where
   -- the lines tell the query at this place; queries are numbered from 1
-  abbrev pub TellsAt : ℕ → String Global → Type 0
+  abbrev pub TellsAt : ℕ → List ℕ → Type 0
   TellsAt k lines =
       (q : QueryLine) → slice_get d.queries k ≡ Some q
-      → TellsQuery kind options semiring d (k + 1) q (string_bytes lines)
+      → TellsQuery kind options semiring d (k + 1) q lines
 
   -- what is kept at a place tells the query there
-  abbrev pub AreKept : List (Option (String Global)) → Type 0
-  AreKept kept = (k : ℕ) (lines : String Global) → slice_get kept k ≡ Some (Some lines) → TellsAt k lines
+  abbrev pub AreKept : List (Option (List ℕ)) → Type 0
+  AreKept kept = (k : ℕ) (lines : List ℕ) → slice_get kept k ≡ Some (Some lines) → TellsAt k lines

@@ -1,6 +1,5 @@
 use Rattle.std.proofs.Common.{inr, subst}
 use Rattle.std.specs.Prelude.{MatchOption}
-use Rattle.std.specs.String.{string_bytes}
 use Rattle.wpds_app.specs.declared.input.Input.TheVariants.{System}
 use Rattle.wpds_app.specs.Reports.{IsBuilt, IsReport}
 use Rattle.wpds_app.proofs.ReplyLemmas.{refused_replies}
@@ -13,13 +12,13 @@ report-requires c = c.documents_are_lawful.ensures c.args.input.now c.args.docum
 pub returns-in-Some : goal.returns-in-Some
 returns-in-Some c =
     let d = c.args.document.now in
-    let text = string_bytes c.in-Some.text in
-    let told = subst (λ found. MatchOption found (IsBuilt d.weights → ⊥) (λ t. IsReport c.args.options d (string_bytes t))) c.in-Some.is c.in_ok-text.ensures in
+    let text = c.in-Some.text in
+    let told = subst (λ found. MatchOption found (IsBuilt d → ⊥) (λ t. IsReport c.args.options d t)) c.in-Some.is c.in_ok-text.ensures in
     (System d, record { means = c.requires; answerable = is_built d.weights d c.args.options text told }, told)
 
 pub returns-in-None : goal.returns-in-None
 returns-in-None c =
     let d = c.args.document.now in
-    let unbuilt = subst (λ found. MatchOption found (IsBuilt d.weights → ⊥) (λ t. IsReport c.args.options d (string_bytes t))) c.in-None.is c.in_ok-text.ensures in
+    let unbuilt = subst (λ found. MatchOption found (IsBuilt d → ⊥) (λ t. IsReport c.args.options d t)) c.in-None.is c.in_ok-text.ensures in
     refused_replies c.args.input.now c.args.options c.not_built.result c.refused.result c.refused.ensures.status c.refused.ensures.text
     (inr (inr (System d, c.requires, unbuilt, c.not_built.ensures)))

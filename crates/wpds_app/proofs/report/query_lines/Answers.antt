@@ -1,6 +1,5 @@
 use Rattle.std.proofs.Common.{◌<◌, refl, sym, ap, ◌∙◌, subst}
 use Rattle.std.specs.Prelude.{IfOk}
-use Rattle.std.specs.String.{string_bytes}
 use Rattle.pushdown_rules.specs.Pushdown.{Pushdown}
 use Rattle.document_systems.specs.Systems.{pattern_of, side_of}
 use Rattle.query_answers.specs.Answering.{IsAnswer}
@@ -26,5 +25,5 @@ returns g c =
     let is = between_equals operations p a c.in_ok-from.from from to to first refl (c.in_ok-answer.ensures p to below c.requires.saturated) in
     let over_kind = subst (λ o. IsAnswer o p from to a) (sym g.met.S.DocumentWeights.computes) is in
     let semiring = c.semiring.ensures.value ∙ ap (λ (s : Pushdown _ _ _). s.semiring) value in
-    let told = lines_told kind c.args.options p d.items c.args.number from to string_bytes a c.answer_lines.result c.semiring.result.now over_kind semiring c.answer_lines.ensures in
-    subst (λ s. IfOk c.answer_lines.result (λ t. IsQueryText kind c.args.options s d.items c.args.number from to (string_bytes t))) over told
+    let told = lines_told kind c.args.options p d.items c.args.number from to a c.answer_lines.result c.semiring.result.now over_kind semiring c.answer_lines.ensures in
+    subst (λ s. IfOk c.answer_lines.result (IsQueryText kind c.args.options s d.items c.args.number from to)) over told

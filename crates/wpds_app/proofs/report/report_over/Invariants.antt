@@ -1,5 +1,4 @@
 use Rattle.std.proofs.Common.{◌≡◌, length, take}
-use Rattle.std.specs.String.{string_bytes}
 use Rattle.wpds_app.specs.Reports.{ByQuery, TellsQuery}
 use Rattle.wpds_app.specs.private.Kept.{AreKept}
 use Rattle.wpds_app.proofs.report.report_over.Given as goal
@@ -10,4 +9,4 @@ invariant-loop-place g l =
     let d = l.document in
     (length l.kept.items ≡ length d.queries)
     × AreKept kind l.options l.fn.semiring d l.kept.items
-    × ByQuery (TellsQuery kind l.options l.fn.semiring d) 1 (take l.place d.queries) (string_bytes l.text)
+    × ByQuery (TellsQuery kind l.options l.fn.semiring d) 1 (take l.place d.queries) l.text
