@@ -1,23 +1,22 @@
 -- What weights do to sets of facts.
-use Rattle.std.proofs.Common.{◌≡◌, ℕ, zero, suc, ◌+◌, ◌-◌, ◌*◌, ◌/◌, ◌%◌, ◌^◌, ◌<◌, ◌≤◌, ◌↔◌, Bool, true, false, not, ◌&&◌, ◌||◌, List, [], ◌∷◌, length, refl, sym, ap, ap₂, ◌∙◌, inl, inr, arith}
-use Rattle.std.specs.Prelude.{IsTrue, nat_lt, cond, bit_and, bit_or, Option, None, Some, option_and_then}
+use Rattle.std.proofs.Common.{◌≡◌, ℕ, zero, suc, ◌-◌, ◌*◌, ◌/◌, ◌%◌, ◌^◌, ◌<◌, ◌≤◌, ◌↔◌, Bool, true, false, not, ◌&&◌, ◌||◌, List, [], ◌∷◌, length, refl, sym, ap, ap₂, ◌∙◌, inl, inr, arith}
+use Rattle.std.specs.Prelude.{IsTrue, nat_lt, cond, bit_and, bit_or, Some, option_and_then}
 use Rattle.std.proofs.lemmas.Bool.{cases_lt, false_from_ne_true, ltb-true, lt-ltb}
 use Rattle.std.proofs.lemmas.Option.{same_Some}
-use Rattle.semiring_laws.specs.Semiring.{Fits, FitsMap}
+use Rattle.semiring_laws.specs.Semiring.{Fits}
 use Rattle.genkill_weights.specs.declared.weight.GenKillW.{GenKillW}
 use Rattle.genkill_weights.specs.declared.weight.GenKillW.TheVariants.{Zero, Map}
-use Rattle.genkill_weights.specs.declared.weight.MaskMap.{MaskMap}
-use Rattle.genkill_weights.specs.declared.weight.MaskMap.TheVariants.{Plain, Restore}
+use Rattle.genkill_weights.specs.declared.weight.MaskMap.TheVariants.{Restore}
 use Rattle.genkill_weights.specs.Masks.{tabulate, word, has, fact, is_mask, is_within}
-use Rattle.genkill_weights.specs.GenKill.{or_mask, gens_word, keep_word, gens_then, keep_then, without, all_facts, no_facts, united, followed, after_of, weight_fits, map_fits, genkill_operations}
+use Rattle.genkill_weights.specs.GenKill.{or_mask, gens_word, keep_word, gens_then, keep_then, without, all_facts, no_facts, united, followed, after_of, weight_fits, genkill_operations}
 use Rattle.genkill_weights.specs.FactSets.{IsFactSet, passed, facts_after, union, restored}
 use Rattle.genkill_weights.specs.GenKillLaws.{keep_mask, gens_mask, gens_kept, maps_same}
-use Rattle.genkill_weights.specs.private.MaskLaws.{alike, alike_is, at3, at6, has_or, has_and, has_not, word_tabulate, mask_length, mask_word, within_word, masks_by_facts}
+use Rattle.genkill_weights.specs.private.MaskLaws.{alike, alike_is, at6, has_or, has_and, has_not, word_tabulate, mask_length, mask_word, within_word, masks_by_facts}
 use Rattle.genkill_weights.specs.private.WordLaws.{has_zero, has_all, has_within, absorbed, and_zero}
 
 -- ---- masks beyond their words
 
-word_outside : (mask : List ℕ) (i : ℕ) → length mask ≤ i → word mask i ≡ 0
+pub word_outside : (mask : List ℕ) (i : ℕ) → length mask ≤ i → word mask i ≡ 0
 unfolding word
 word_outside [] i h = refl
 word_outside (x ∷ xs) zero h = absurd (omega (arith, h))
@@ -50,7 +49,7 @@ module _ (n : ℕ) (mask : List ℕ) (fit : IsTrue (is_mask n mask)) where
 
 -- ---- functions on sets
 
-some_same : (x y : ℕ → Bool) → ((f : ℕ) → x f ≡ y f) → Some x ≡ Some y
+pub some_same : (x y : ℕ → Bool) → ((f : ℕ) → x f ≡ y f) → Some x ≡ Some y
 some_same x y same = let e : x ≡ y = λ i f. same f i in ap Some e
 
 module _ (n : ℕ) (k g l h : List ℕ) (fa : IsTrue (weight_fits n (Map k g))) (fb : IsTrue (weight_fits n (Map l h))) where
@@ -162,7 +161,7 @@ module _ (n : ℕ) (k g l h : List ℕ) (fa : IsTrue (weight_fits n (Map k g))) 
   one_gens : (f : ℕ) → fact g f ≡ fact h f
   one_gens f = one_passed (λ _. false) (λ _ _. refl) f
 
-within_fact : (n : ℕ) (k g : List ℕ) → IsTrue (is_within n g k) → (f : ℕ) → f < 64 * n → (fact k f || fact g f) ≡ fact k f
+pub within_fact : (n : ℕ) (k g : List ℕ) → IsTrue (is_within n g k) → (f : ℕ) → f < 64 * n → (fact k f || fact g f) ≡ fact k f
 within_fact n k g w f below =
     absorbed (fact g f) (fact k f) (has_within (word g (f / 64)) (word k (f / 64)) (within_word n g k w (f / 64) (omega (arith, below))) (f % 64))
 

@@ -1,5 +1,5 @@
 -- Facts that runs keep and generate are a semiring, whatever the width.
-use Rattle.std.proofs.Common.{◌≡◌, ◌≢◌, ℕ, ◌+◌, ◌-◌, ◌*◌, ◌/◌, ◌%◌, ◌^◌, ◌<◌, ◌≤◌, ◌↔◌, Bool, true, false, ◌&&◌, ◌||◌, List, [], refl, sym, ap, ap₂, ◌∙◌, inl, inr, arith}
+use Rattle.std.proofs.Common.{◌≡◌, ◌≢◌, ℕ, ◌-◌, ◌*◌, ◌/◌, ◌%◌, ◌^◌, ◌<◌, ◌≤◌, ◌↔◌, ◌&&◌, List, [], refl, sym, ap, ap₂, ◌∙◌, inl, inr, arith}
 use Rattle.std.specs.Prelude.{IsTrue, bit_and, bit_or}
 use Rattle.std.proofs.lemmas.Nat.{or_comm}
 use Rattle.std.proofs.lemmas.Bool.{cases_lt, and_parts, and_from, or_left}
@@ -10,7 +10,7 @@ use Rattle.genkill_weights.specs.declared.weight.MaskMap.{MaskMap}
 use Rattle.genkill_weights.specs.declared.weight.MaskMap.TheVariants.{Plain, Restore}
 use Rattle.genkill_weights.specs.Masks.{tabulate, word, has, fact, is_mask, is_within, same_mask, outside}
 use Rattle.genkill_weights.specs.private.MaskLaws.{has_or, word_tabulate, tabulate_same, mask_tabulate, mask_by_words, mask_word, within_word, within_tabulate, same_masks, outside_at_most, outside_same, outside_within, masks_by_facts}
-use Rattle.genkill_weights.specs.private.WordLaws.{word_or_assoc, word_or_same, gens_assoc, keep_assoc, gens_right, keep_right, gens_left, keep_left, or_or, and-or_left, gens_within, or_within, union_within, restored_within, gens_one_left, keep_one_left, gens_one_right, keep_one_right, or_below, and_below}
+use Rattle.genkill_weights.specs.private.WordLaws.{word_or_assoc, word_or_same, gens_assoc, keep_assoc, gens_right, keep_right, gens_left, keep_left, or_or, and-or_left, gens_within, union_within, restored_within, gens_one_left, keep_one_left, gens_one_right, keep_one_right, or_below, and_below}
 use Rattle.genkill_weights.specs.GenKill.{or_mask, gens_word, keep_word, gens_then, keep_then, without, all_facts, no_facts, united, followed, after_of, same_weight, weight_fits, map_fits, weight_rank, genkill_operations}
 
 abbrev pub map_of : (n : ℕ) → List ℕ → List ℕ → GenKillW n
@@ -31,7 +31,7 @@ module _ (n : ℕ) (k g : List ℕ) (fit : IsTrue (is_mask n k && (is_mask n g &
   pub gens_kept : IsTrue (is_within n g k)
   gens_kept = (and_parts (is_mask n g) (is_within n g k) (and_parts (is_mask n k) (is_mask n g && is_within n g k) fit).1).1
 
-fits_from : (n : ℕ) (k g : ℕ → ℕ) → ((i : ℕ) → i < n → k i < 2 ^ 64) → ((i : ℕ) → i < n → g i < 2 ^ 64) → ((i : ℕ) → i < n → bit_and (g i) (k i) ≡ g i)
+pub fits_from : (n : ℕ) (k g : ℕ → ℕ) → ((i : ℕ) → i < n → k i < 2 ^ 64) → ((i : ℕ) → i < n → g i < 2 ^ 64) → ((i : ℕ) → i < n → bit_and (g i) (k i) ≡ g i)
     → IsTrue (weight_fits n (Map (tabulate n k) (tabulate n g)))
 fits_from n k g hk hg w =
     and_from (is_mask n (tabulate n k)) (is_mask n (tabulate n g) && is_within n (tabulate n g) (tabulate n k)) (mask_tabulate n k hk)

@@ -2,6 +2,7 @@ pub mod Masks
 pub mod GenKill
 pub mod GenKillLaws
 pub mod FactSets
+pub mod Effects
 pub mod Making
-pub mod Restoring
+pub mod Widths
 pub mod private

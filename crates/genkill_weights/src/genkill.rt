@@ -1,7 +1,6 @@
-ghost use Rattle.std.specs.Prelude.{◌≡◌, ◌<◌, ◌*◌, ◌↔◌, ℕ, All, IsTrue};
+ghost use Rattle.std.specs.Prelude.{◌≡◌, ◌↔◌, IsTrue, IsOk, IfOk};
 ghost use Rattle.semiring_laws.specs.Semiring.{Fits, FitsMap};
-ghost use Rattle.genkill_weights.specs.Making.{AreApart, Makes};
-ghost use Rattle.genkill_weights.specs.Restoring.{Restores};
+ghost use Rattle.genkill_weights.specs.Making.{is_listed, weight_where, Makes, map_where, Restores};
 ghost use Rattle.genkill_weights.specs.GenKill.{genkill_operations};
 ghost use Rattle.genkill_weights.specs.GenKillLaws.{genkill_laws};
 
@@ -17,24 +16,25 @@ use wpds_base::OutOfMemory;
 pub struct GenKill<const N: usize>;
 
 impl<const N: usize> GenKill<N> {
-    /// The weight that generates the facts of `gens`, kills those of `kills`, and keeps the others.
+    /// The weight that kills the facts of `kills`, then generates those of `gens`, and keeps the others. Numbers of facts
+    /// that the width has no room for are left out.
     pub fn make(&self, gens: &[u32], kills: &[u32]) -> GenKillW<N>
-        requires gens { All (λ f. f < 64 * N) gens.now }
-        requires kills { All (λ f. f < 64 * N) kills.now }
-        requires apart { AreApart gens.now kills.now }
-        ensures facts { Makes N gens.now kills.now result }
+        ensures value { result ≡ weight_where N (is_listed gens.now) (is_listed kills.now) }
+        ensures effects { Makes N gens.now kills.now result }
         ensures fits { Fits (genkill_operations N) result }
     {
+        let generated = mask_of(gens);
         let killed = mask_of(kills);
+        let others = not_in(&[u64::MAX; N], &killed);
         GenKillW::Map {
-            keep: not_in(&[u64::MAX; N], &killed),
-            gens: mask_of(gens),
+            keep: either(&generated, &others),
+            gens: generated,
         }
     }
 
-    /// The return map that restores these facts.
+    /// The return map that restores these facts. Numbers of facts that the width has no room for are left out.
     pub fn restore(&self, facts: &[u32]) -> MaskMap<N>
-        requires { All (λ f. f < 64 * N) facts.now }
+        ensures value { result ≡ map_where N (is_listed facts.now) }
         ensures facts { Restores N facts.now result }
         ensures fits { FitsMap (genkill_operations N) result }
     {
@@ -53,11 +53,17 @@ impl<const N: usize> Semiring for GenKill<N> {
 
     ghost laws = { λ _. genkill_laws N };
 
-    fn zero(&self, _alloc: Global) -> Result<GenKillW<N>, OutOfMemory> {
+    fn zero(&self, _alloc: Global) -> Result<GenKillW<N>, OutOfMemory>
+        ensures value { IfOk result (λ w. w ≡ (genkill_operations N).zero) }
+        ensures always { IsOk result }
+    {
         Ok(GenKillW::Zero)
     }
 
-    fn one(&self, _alloc: Global) -> Result<GenKillW<N>, OutOfMemory> {
+    fn one(&self, _alloc: Global) -> Result<GenKillW<N>, OutOfMemory>
+        ensures value { IfOk result (λ w. w ≡ (genkill_operations N).one) }
+        ensures always { IsOk result }
+    {
         Ok(GenKillW::Map {
             keep: [u64::MAX; N],
             gens: [0; N],
@@ -69,7 +75,10 @@ impl<const N: usize> Semiring for GenKill<N> {
         _alloc: Global,
         a: &GenKillW<N>,
         b: &GenKillW<N>,
-    ) -> Result<GenKillW<N>, OutOfMemory> {
+    ) -> Result<GenKillW<N>, OutOfMemory>
+        ensures value { IfOk result (λ w. w ≡ (genkill_operations N).combine a.now b.now) }
+        ensures always { IsOk result }
+    {
         Ok(match (a, b) {
             (GenKillW::Zero, _) => *b,
             (_, GenKillW::Zero) => *a,
@@ -91,7 +100,10 @@ impl<const N: usize> Semiring for GenKill<N> {
         _alloc: Global,
         a: &GenKillW<N>,
         b: &GenKillW<N>,
-    ) -> Result<GenKillW<N>, OutOfMemory> {
+    ) -> Result<GenKillW<N>, OutOfMemory>
+        ensures value { IfOk result (λ w. w ≡ (genkill_operations N).extend a.now b.now) }
+        ensures always { IsOk result }
+    {
         Ok(match (a, b) {
             (
                 GenKillW::Map { keep, gens },
@@ -107,7 +119,10 @@ impl<const N: usize> Semiring for GenKill<N> {
         })
     }
 
-    fn copy(&self, _alloc: Global, a: &GenKillW<N>) -> Result<GenKillW<N>, OutOfMemory> {
+    fn copy(&self, _alloc: Global, a: &GenKillW<N>) -> Result<GenKillW<N>, OutOfMemory>
+        ensures value { IfOk result (λ w. w ≡ a.now) }
+        ensures always { IsOk result }
+    {
         Ok(*a)
     }
 
@@ -116,7 +131,10 @@ impl<const N: usize> Semiring for GenKill<N> {
         _alloc: Global,
         map: &MaskMap<N>,
         w: &GenKillW<N>,
-    ) -> Result<GenKillW<N>, OutOfMemory> {
+    ) -> Result<GenKillW<N>, OutOfMemory>
+        ensures value { IfOk result (λ v. v ≡ (genkill_operations N).after map.now w.now) }
+        ensures always { IsOk result }
+    {
         Ok(match (map, w) {
             (MaskMap::Restore { facts }, GenKillW::Map { keep, gens }) => GenKillW::Map {
                 keep: either(keep, facts),

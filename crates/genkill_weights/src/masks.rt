@@ -1,6 +1,6 @@
-ghost use Rattle.std.specs.Prelude.{◌≡◌, ◌<◌, ◌*◌, ◌||◌, ℕ, All, IsTrue, nat_eq};
-ghost use Rattle.genkill_weights.specs.Masks.{fact, is_mask};
-ghost use Rattle.genkill_weights.specs.Making.{is_listed, HasFacts};
+ghost use Rattle.std.specs.Prelude.{◌≡◌, ◌<◌, ◌*◌, ◌||◌, ℕ, IsTrue, nat_eq};
+ghost use Rattle.genkill_weights.specs.Masks.{fact, is_mask, mask_where};
+ghost use Rattle.genkill_weights.specs.Making.{is_listed};
 ghost use Rattle.genkill_weights.specs.GenKill.{or_mask, gens_then, keep_then, without};
 
 /// The facts of either mask.
@@ -56,11 +56,20 @@ pub(crate) fn not_in<const N: usize>(a: &[u64; N], b: &[u64; N]) -> [u64; N]
     made
 }
 
-/// The mask of these facts.
+/// Whether a fact is in a mask. A mask has none beyond its words.
+pub(crate) fn is_in<const N: usize>(mask: &[u64; N], number: u32) -> bool
+    ensures { result ≡ fact mask.now number }
+{
+    let at = number as usize / 64;
+    if at >= N {
+        return false;
+    }
+    mask[at] >> (number % 64) & 1 == 1
+}
+
+/// The mask of these facts, but for those that it has no room for.
 pub(crate) fn mask_of<const N: usize>(facts: &[u32]) -> [u64; N]
-    requires { All (λ f. f < 64 * N) facts.now }
-    ensures mask { IsTrue (is_mask N result) }
-    ensures facts { HasFacts N result (is_listed facts.now) }
+    ensures { result ≡ mask_where N (is_listed facts.now) }
 {
     let mut made = [0; N];
     for number in facts {
@@ -69,13 +78,15 @@ pub(crate) fn mask_of<const N: usize>(facts: &[u32]) -> [u64; N]
     made
 }
 
-// Adds a fact to a mask.
+// Adds a fact to a mask that has room for it.
 fn add_fact<const N: usize>(mask: &mut [u64; N], number: u32)
-    requires number { number < 64 * N }
     ensures mask { IsTrue (is_mask N mask.old) → IsTrue (is_mask N mask.new) }
-    ensures facts { IsTrue (is_mask N mask.old) → (f : ℕ) →
+    ensures facts { IsTrue (is_mask N mask.old) → (f : ℕ) → f < 64 * N →
         fact mask.new f ≡ (fact mask.old f || nat_eq number f) }
 {
     let at = number as usize / 64;
+    if at >= N {
+        return;
+    }
     mask[at] |= 1 << (number % 64);
 }

@@ -1,71 +1,16 @@
-ghost use Rattle.std.specs.Prelude.{◌<◌, ◌≤◌, ◌*◌};
 ghost use Rattle.semiring_laws.specs.Semiring.{Fits, FitsMap};
-ghost use Rattle.genkill_weights.specs.GenKill.{genkill_operations};
 
 use crate::{
     GenKill, GenKillW, MaskMap, equal_weights_are_equal_functions, restored_facts_are_the_callers,
-    weights_are_functions, with_width, words_for,
+    weights_are_functions, weights_are_their_effects, weights_have_their_facts, widths_are_least,
+    with_width, words_for,
 };
 use semiring_laws::Semiring;
 use std::alloc::Global;
 use std::test::Fail;
 use wpds_base::OutOfMemory;
 
-// What a run does to one fact.
-#[derive(Clone, Copy, Debug, PartialEq, Eq)]
-enum Effect {
-    Keep,
-    Generate,
-    Kill,
-}
-
-// Whether a fact holds after a run that does so.
-fn holds_after(effect: Effect, before: bool) -> bool {
-    match effect {
-        Effect::Keep => before,
-        Effect::Generate => true,
-        Effect::Kill => false,
-    }
-}
-
-fn bit(set: u64, fact: u64) -> bool {
-    set >> (fact % 64) & 1 == 1
-}
-
-// Whether a fact holds after runs of a weight from a set of facts, and none after no run.
-fn holds(weight: &GenKillW<1>, set: u64, fact: u64) -> Option<bool> {
-    match weight {
-        GenKillW::Zero => None,
-        GenKillW::Map { keep, gens } => Some(bit(set & keep[0] | gens[0], fact)),
-    }
-}
-
-// Whether a weight makes of each set of three facts what a run makes of it, and then another.
-fn is_composed(weight: &GenKillW<1>, first: [Effect; 3], second: [Effect; 3]) -> bool {
-    for case in 0..24 {
-        let (set, fact) = (case % 8, case / 8);
-        let middle = holds_after(first[fact as usize], bit(set, fact));
-        let wanted = holds_after(second[fact as usize], middle);
-        if holds(weight, set, fact) != Some(wanted) {
-            return false;
-        }
-    }
-    true
-}
-
-// Whether a weight makes of each set of three facts what one of two runs makes of it.
-fn is_either(weight: &GenKillW<1>, one: [Effect; 3], other: [Effect; 3]) -> bool {
-    for case in 0..24 {
-        let (set, fact) = (case % 8, case / 8);
-        let before = bit(set, fact);
-        let wanted = holds_after(one[fact as usize], before)
-            | holds_after(other[fact as usize], before);
-        if holds(weight, set, fact) != Some(wanted) {
-            return false;
-        }
-    }
-    true
-}
+// None of these tests takes memory: each passes where its first allocation fails (`rt try --test --fail-alloc 1`).
 
 // What a semiring makes of two weights: their combine, their extend, whether they are equal, whether the first is zero.
 fn answers_for<S: Semiring>(
@@ -99,30 +44,84 @@ fn alike<S: Semiring>(one: &S, other: &S, map: &S::Ret) -> (bool, bool)
     (one.same_kind(other), one.same_map(map, &one.plain()))
 }
 
-// What a weight that generates fact 1 and kills fact 2 makes with another.
-fn is_right(alloc: Global, b: &GenKillW<1>, effects: [Effect; 3]) -> Result<bool, OutOfMemory>
-    requires { Fits (genkill_operations 1) b.now }
-{
-    let a = GenKill::<1>.make(&[1], &[2]);
-    let first = [Effect::Keep, Effect::Generate, Effect::Kill];
-    let (combined, extended, same, is_zero) = answers_for(alloc, &GenKill::<1>, &a, b)?;
-    let composed = is_composed(&extended, first, effects);
-    let either = is_either(&combined, first, effects);
-    Ok(composed & either & (same == (first == effects)) & !is_zero)
+// What the function of a weight makes of each set of the facts 0, 1 and 2, and of no other fact. A set is a number: bit `f`
+// says whether fact `f` is in it.
+fn on_all_sets(weight: &GenKillW<1>) -> [u64; 8] {
+    let mut after = [0; 8];
+    if let GenKillW::Map { keep, gens } = weight {
+        for set in 0..8 {
+            after[set] = set as u64 & keep[0] | gens[0];
+        }
+    }
+    after
 }
 
+// Two weights, by the facts that they generate and kill, and facts that are restored.
+#[derive(Clone, Copy)]
+struct Row<'a> {
+    first: (&'a [u32], &'a [u32]),
+    second: (&'a [u32], &'a [u32]),
+    restored: &'a [u32],
+    // What the first and then the second make of each set, what one or the other makes of it, and what a call of the first
+    // makes of it where these facts are restored.
+    extended: [u64; 8],
+    combined: [u64; 8],
+    returned: [u64; 8],
+}
+
+// Each fact that is kept, generated and killed by one weight is kept, generated and killed by another in some row. The sets
+// were computed by a program of another make, a dozen lines of Python over its own sets of numbers, which takes the killed
+// facts from a set and then adds the generated.
 #[test]
 fn three_facts(rt: HostRuntime) -> Result<(), Fail> {
     let alloc = rt.alloc();
     let semiring = GenKill::<1>;
-    let row = [Effect::Keep, Effect::Generate, Effect::Kill];
-    assert!(rt; is_right(alloc, &semiring.make(&[1], &[2]), row)?);
-    let row = [Effect::Generate, Effect::Kill, Effect::Keep];
-    assert!(rt; is_right(alloc, &semiring.make(&[0], &[1]), row)?);
-    let row = [Effect::Kill, Effect::Keep, Effect::Generate];
-    assert!(rt; is_right(alloc, &semiring.make(&[2], &[0]), row)?);
-    let row = [Effect::Keep, Effect::Keep, Effect::Keep];
-    assert!(rt; is_right(alloc, &semiring.make(&[], &[]), row)?);
+    let rows = [
+        Row {
+            first: (&[1], &[2]),
+            second: (&[1], &[2]),
+            restored: &[0, 1, 2],
+            extended: [2, 3, 2, 3, 2, 3, 2, 3],
+            combined: [2, 3, 2, 3, 2, 3, 2, 3],
+            returned: [0, 1, 2, 3, 4, 5, 6, 7],
+        },
+        Row {
+            first: (&[1], &[2]),
+            second: (&[0], &[1]),
+            restored: &[],
+            extended: [1, 1, 1, 1, 1, 1, 1, 1],
+            combined: [3, 3, 3, 3, 7, 7, 7, 7],
+            returned: [2, 3, 2, 3, 2, 3, 2, 3],
+        },
+        Row {
+            first: (&[1], &[2]),
+            second: (&[2], &[0]),
+            restored: &[1],
+            extended: [6, 6, 6, 6, 6, 6, 6, 6],
+            combined: [6, 7, 6, 7, 6, 7, 6, 7],
+            returned: [0, 1, 2, 3, 0, 1, 2, 3],
+        },
+        Row {
+            first: (&[0], &[1]),
+            second: (&[], &[]),
+            restored: &[0, 1],
+            extended: [1, 1, 1, 1, 5, 5, 5, 5],
+            combined: [1, 1, 3, 3, 5, 5, 7, 7],
+            returned: [0, 1, 2, 3, 4, 5, 6, 7],
+        },
+    ];
+    for row in &rows {
+        let first = semiring.make(row.first.0, row.first.1);
+        let second = semiring.make(row.second.0, row.second.1);
+        let (combined, extended, same, is_zero) = answers_for(alloc, &semiring, &first, &second)?;
+        let restore = semiring.restore(row.restored);
+        let returned = semiring.after(alloc, &restore, &first)?;
+        assert_eq!(rt; on_all_sets(&extended), row.extended);
+        assert_eq!(rt; on_all_sets(&combined), row.combined);
+        assert_eq!(rt; on_all_sets(&returned), row.returned);
+        assert_eq!(rt; (same, is_zero), (row.first == row.second, false));
+        assert_eq!(rt; alike(&semiring, &semiring, &restore), (true, false));
+    }
     Ok(())
 }
 
@@ -135,6 +134,7 @@ fn no_run_and_the_empty_run(rt: HostRuntime) -> Result<(), Fail> {
     assert_eq!(rt; zero, GenKillW::Zero);
     assert_eq!(rt; one, GenKillW::Map { keep, gens });
     assert_eq!(rt; alike(&semiring, &semiring, &MaskMap::Plain), (true, true));
+    assert_eq!(rt; (zero.generates(0), zero.kills(0)), (false, false));
     Ok(())
 }
 
@@ -158,18 +158,23 @@ fn zero_absorbs(rt: HostRuntime) -> Result<(), Fail> {
     Ok(())
 }
 
-// The callee generates fact 0, kills facts 1 and 2, and facts 0 and 1 are restored.
+// Fact 1 is killed and then generated, and there is no room for the facts 64 and 4294967295.
 #[test]
-fn restored(rt: HostRuntime) -> Result<(), Fail> {
-    let alloc = rt.alloc();
+fn facts_in_both_lists_and_beyond_the_width(rt: HostRuntime) {
     let semiring = GenKill::<1>;
-    let callee = semiring.make(&[0], &[1, 2]);
-    let restore = semiring.restore(&[0, 1]);
-    let returned = semiring.after(alloc, &restore, &callee)?;
-    let row = [Effect::Keep, Effect::Keep, Effect::Kill];
-    assert!(rt; is_composed(&returned, row, [Effect::Keep; 3]));
-    assert!(rt; !semiring.same_map(&restore, &semiring.plain()));
-    Ok(())
+    let made = semiring.make(&[1, 64], &[1, 2, u32::MAX]);
+    assert_eq!(rt; made, semiring.make(&[1], &[2]));
+    assert_eq!(rt; semiring.restore(&[3, 64]), semiring.restore(&[3]));
+    for (fact, generated, killed) in [
+        (0, false, false),
+        (1, true, false),
+        (2, false, true),
+        (64, false, false),
+        (u32::MAX, false, false),
+    ] {
+        assert_eq!(rt; made.generates(fact), generated, "{fact}");
+        assert_eq!(rt; made.kills(fact), killed, "{fact}");
+    }
 }
 
 #[test]
@@ -177,25 +182,23 @@ fn laws() {
     weights_are_functions();
     equal_weights_are_equal_functions();
     restored_facts_are_the_callers();
+    weights_are_their_effects();
+    weights_have_their_facts();
+    widths_are_least();
 }
 
-// Whether the last of so many facts is killed alone, at the width that the facts have.
-fn last_is_killed<const N: usize>(facts: u32) -> bool
-    requires least { 0 < facts }
-    requires room { facts ≤ 64 * N }
-{
-    let last = facts - 1;
-    match GenKill::<N>.make(&[], &[last]) {
-        GenKillW::Zero => false,
-        GenKillW::Map { keep, gens } => {
-            let at = last as usize / 64;
-            keep[at] == !(1 << (last % 64)) && gens[at] == 0
+// Whether a weight kills the last of so many facts, and no other.
+fn kills_last_alone<const N: usize>(weight: &GenKillW<N>, facts: u32) -> bool {
+    for fact in 0..facts {
+        if weight.kills(fact) != (fact + 1 == facts) {
+            return false;
         }
     }
+    !weight.kills(facts)
 }
 
 #[test]
-fn widths(rt: HostRuntime) -> Result<(), Fail> {
+fn widths(rt: HostRuntime) {
     let rows = [
         (0, 1),
         (1, 1),
@@ -210,9 +213,10 @@ fn widths(rt: HostRuntime) -> Result<(), Fail> {
         (1024, 16),
     ];
     for (facts, width) in rows {
-        assert!(rt; facts <= 1024);
         assert_eq!(rt; words_for(facts), width, "at {facts}");
-        assert!(rt; facts == 0 || with_width!(facts, last_is_killed(facts)));
+        let last = u32::saturating_sub(facts, 1);
+        let is_killed =
+            with_width!(facts, genkill => kills_last_alone(&genkill.make(&[], &[last]), facts));
+        assert_eq!(rt; is_killed, facts > 0, "at {facts}");
     }
-    Ok(())
 }

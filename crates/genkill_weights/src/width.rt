@@ -1,35 +1,52 @@
-ghost use Rattle.std.specs.Prelude.{◌≡◌, ◌≤◌, ◌*◌, ◌<◌, ◌⊎◌};
+ghost use Rattle.std.specs.Prelude.{◌≡◌, ◌≤◌};
+ghost use Rattle.wpds_base.specs.Limits.{most_facts};
+ghost use Rattle.genkill_weights.specs.Widths.{width_for, IsLeastWidth};
 
-use crate::with_width;
+use crate::{GenKill, with_width};
 
-/// Takes a number of facts, at most 1,024, to the least width that has room for them: `with_width!(facts, f(a, b))` is
-/// `f::<N>(a, b)` for `N` of 1, 2, 4, 8 or 16.
+/// Takes a number of facts, at most 1,024, to the semiring of the least width that has room for them:
+/// `with_width!(facts, genkill => report(genkill))` is `report(GenKill::<N>)` for `N` of 1, 2, 4, 8 or 16.
 ///
-/// The call stands once for each width, and one of them is made.
+/// The expression stands once for each width, and one of them is computed.
 #[macro_export]
 macro_rules! with_width {
-    ($facts:expr, $function:ident $arguments:tt) => {
+    ($facts:expr, $genkill:ident => $answer:expr) => {
         match $facts {
-            0..=64 => $function::<1> $arguments,
-            65..=128 => $function::<2> $arguments,
-            129..=256 => $function::<4> $arguments,
-            257..=512 => $function::<8> $arguments,
-            _ => $function::<16> $arguments,
+            0..=64 => {
+                let $genkill = $crate::GenKill::<1>;
+                $answer
+            }
+            65..=128 => {
+                let $genkill = $crate::GenKill::<2>;
+                $answer
+            }
+            129..=256 => {
+                let $genkill = $crate::GenKill::<4>;
+                $answer
+            }
+            257..=512 => {
+                let $genkill = $crate::GenKill::<8>;
+                $answer
+            }
+            _ => {
+                let $genkill = $crate::GenKill::<16>;
+                $answer
+            }
         }
     };
 }
 
-fn words<const N: usize>() -> usize
+// The width of a semiring.
+fn words<const N: usize>(_genkill: GenKill<N>) -> usize
     ensures { result ≡ N }
 {
     N
 }
 
-/// The width for so many facts, in words of 64 facts.
+/// The width that `with_width!` takes for so many facts, in words of 64 facts.
 pub fn words_for(facts: u32) -> usize
-    requires { facts ≤ 1024 }
-    ensures room { facts ≤ 64 * result }
-    ensures least { (result ≡ 1) ⊎ (32 * result < facts) }
+    ensures value { result ≡ width_for facts }
+    ensures least { facts ≤ most_facts → IsLeastWidth facts result }
 {
-    with_width!(facts, words())
+    with_width!(facts, genkill => words(genkill))
 }

@@ -1,7 +1,6 @@
 -- What words keep and generate, word by word.
-use Rattle.std.proofs.Common.{◌≡◌, ℕ, ◌+◌, ◌-◌, ◌*◌, ◌%◌, ◌^◌, ◌<◌, ◌≤◌, Bool, true, false, ◌&&◌, ◌||◌, refl, sym, ap, ap₂, ◌∙◌, mod-eq_of_lt, arith}
-use Rattle.std.specs.Prelude.{IsTrue, nat_eq, bit_and, bit_or}
-use Rattle.std.specs.Int.{bit_at}
+use Rattle.std.proofs.Common.{◌≡◌, ℕ, ◌-◌, ◌^◌, ◌<◌, Bool, true, false, ◌&&◌, ◌||◌, refl, sym, ap, ap₂, ◌∙◌, mod-eq_of_lt, arith}
+use Rattle.std.specs.Prelude.{nat_eq, bit_and, bit_or}
 use Rattle.std.proofs.lemmas.Nat.{and_comm, and_mask, and_le_l, or_lt}
 use Rattle.std.proofs.lemmas.Nat.Bits.{bit_at-zero, bit_at_ones}
 use Rattle.genkill_weights.specs.Masks.{has}
@@ -20,7 +19,7 @@ has_all i h = ap (λ b. nat_eq b 1) (bit_at_ones 64 i h)
 
 pub word_or_assoc : (a b c : ℕ) → bit_or (bit_or a b) c ≡ bit_or a (bit_or b c)
 word_or_assoc a b c = words_same (bit_or (bit_or a b) c) (bit_or a (bit_or b c)) (λ i.
-    simp (has_or, has_and) (alike_is _ _ (at3 (λ x y z. alike ((x || y) || z) (x || (y || z))) refl (has a i) (has b i) (has c i))))
+    simp has_or (alike_is _ _ (at3 (λ x y z. alike ((x || y) || z) (x || (y || z))) refl (has a i) (has b i) (has c i))))
 
 pub word_or_same : (a : ℕ) → bit_or a a ≡ a
 word_or_same a = words_same (bit_or a a) a (λ i. has_or a a i ∙ alike_is _ _ (at (λ x. alike (x || x) x) refl (has a i)))
@@ -55,7 +54,7 @@ keep_left k k2 g g2 l h = words_same (keep_word (bit_or k k2) (bit_or g g2) l h)
 
 pub or_or : (k l f : ℕ) → bit_or (bit_or k l) f ≡ bit_or (bit_or k f) (bit_or l f)
 or_or k l f = words_same (bit_or (bit_or k l) f) (bit_or (bit_or k f) (bit_or l f)) (λ i.
-    simp (has_or, has_and) (alike_is _ _ (at3 (λ x y z. alike ((x || y) || z) ((x || z) || (y || z))) refl (has k i) (has l i) (has f i))))
+    simp has_or (alike_is _ _ (at3 (λ x y z. alike ((x || y) || z) ((x || z) || (y || z))) refl (has k i) (has l i) (has f i))))
 
 pub and-or_left : (g h f : ℕ) → bit_and (bit_or g h) f ≡ bit_or (bit_and g f) (bit_and h f)
 and-or_left g h f = words_same (bit_and (bit_or g h) f) (bit_or (bit_and g f) (bit_and h f)) (λ i.

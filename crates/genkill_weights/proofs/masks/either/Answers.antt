@@ -1,6 +1,5 @@
-use Rattle.std.proofs.Common.{◌-◌, ◌^◌, bit_and, bit_or, arith}
+use Rattle.std.proofs.Common.{bit_or, arith}
 use Rattle.genkill_weights.specs.Masks.{word}
-use Rattle.genkill_weights.specs.GenKill.{gens_word, keep_word}
 use Rattle.genkill_weights.specs.private.MaskLaws.{tabulate_is}
 use Rattle.genkill_weights.proofs.masks.either.Goals as goal
 

@@ -1,5 +1,4 @@
-use Rattle.std.proofs.Common.{◌≡◌, ℕ, ◌<◌, ◌-◌, ◌^◌, length, get_or, bit_and, bit_or}
-use Rattle.genkill_weights.specs.GenKill.{gens_word, keep_word}
+use Rattle.std.proofs.Common.{◌≡◌, ℕ, ◌<◌, length, get_or, bit_or}
 use Rattle.genkill_weights.proofs.masks.either.Given as goal
 
 abbrev pub invariant-loop-i : goal.invariant-loop-i

@@ -1,5 +1,5 @@
-use Rattle.std.proofs.Common.{◌≡◌, ℕ, ◌<◌, ◌-◌, ◌^◌, length, get_or, bit_and, bit_or}
-use Rattle.genkill_weights.specs.GenKill.{gens_word, keep_word}
+use Rattle.std.proofs.Common.{◌≡◌, ℕ, ◌<◌, length, get_or}
+use Rattle.genkill_weights.specs.GenKill.{keep_word}
 use Rattle.genkill_weights.proofs.masks.kept.Given as goal
 
 abbrev pub invariant-loop-i : goal.invariant-loop-i

@@ -1,25 +1,16 @@
-use Rattle.std.proofs.Common.{ℕ, Bool, not, List, ◌&&◌, IsTrue, sym, subst, ◌∙◌}
-use Rattle.std.proofs.lemmas.Bool.{and_from}
-use Rattle.genkill_weights.specs.Masks.{is_mask, is_within}
-use Rattle.genkill_weights.specs.Making.{is_listed, HasFacts}
-use Rattle.genkill_weights.proofs.MakingLemmas.{rest_facts, rest_mask, rest_within}
+use Rattle.std.proofs.Common.{ap, ◌∙◌}
+use Rattle.genkill_weights.specs.GenKill.{or_mask}
+use Rattle.genkill_weights.specs.Making.{is_listed}
+use Rattle.genkill_weights.proofs.MakingLemmas.{made_where, made_fits, made_makes}
 use Rattle.genkill_weights.proofs.genkill.GenKill.make.Goals as goal
 
-pub returns-clause-facts : goal.returns-clause-facts
-returns-clause-facts g c =
-    let P : List ℕ → Type 0 = λ m. HasFacts g.row.N m (λ f. not (is_listed c.args.kills.now f)) in (
-      subst P (sym c.not_in.ensures) (rest_facts g.row.N c.mask_of-killed.result c.mask_of-killed.ensures.mask c.args.kills.now c.mask_of-killed.ensures.facts),
-      c.mask_of.ensures.facts,
-    )
+pub returns-clause-value : goal.returns-clause-value
+returns-clause-value g c =
+    made_where g.row.N (is_listed c.args.gens.now) (is_listed c.args.kills.now) c.mask_of-generated.result c.mask_of-killed.result c.either.result
+    c.mask_of-generated.ensures c.mask_of-killed.ensures (c.either.ensures ∙ ap (or_mask g.row.N c.mask_of-generated.result) c.not_in-others.ensures)
+
+pub returns-clause-effects : goal.returns-clause-effects
+returns-clause-effects g c = made_makes g.row.N c.args.gens.now c.args.kills.now c.either.result c.mask_of-generated.result (returns-clause-value g c)
 
 pub returns-clause-fits : goal.returns-clause-fits
-returns-clause-fits g c =
-    let n : ℕ = g.row.N in
-    let killed : List ℕ = c.mask_of-killed.result in
-    let gens : List ℕ = c.mask_of.result in
-    let P : List ℕ → Type 0 = λ m. IsTrue (is_mask n m && (is_mask n gens && is_within n gens m)) in
-    subst P (sym c.not_in.ensures)
-    (and_from (is_mask n _) (is_mask n gens && is_within n gens _) (rest_mask n killed c.mask_of-killed.ensures.mask)
-    (and_from (is_mask n gens) (is_within n gens _) c.mask_of.ensures.mask
-    (rest_within n killed c.mask_of-killed.ensures.mask gens c.mask_of.ensures.mask (λ f b e.
-    c.mask_of-killed.ensures.facts f b ∙ c.requires.apart f (sym (c.mask_of.ensures.facts f b) ∙ e)))))
+returns-clause-fits g c = made_fits g.row.N (is_listed c.args.gens.now) (is_listed c.args.kills.now) c.either.result c.mask_of-generated.result (returns-clause-value g c)
