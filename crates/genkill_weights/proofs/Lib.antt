@@ -1,0 +1,4 @@
+mod MakingLemmas
+mod FunctionLemmas
+mod EffectLemmas
+mod WidthLemmas

@@ -1,0 +1,47 @@
+ghost use Rattle.std.specs.Prelude.{◌≡◌};
+
+use crate::masks::is_in;
+
+/// A weight: what runs do to sets of `64 * N` facts. Fact `f` is bit `f % 64` of word `f / 64`.
+#[derive(Clone, Copy, Debug, PartialEq, Eq)]
+pub enum GenKillW<const N: usize> {
+    /// No run.
+    Zero,
+    /// The function `x -> (x & keep) | gens`, in which no fact is generated that is not kept.
+    Map { keep: [u64; N], gens: [u64; N] },
+}
+
+impl<const N: usize> GenKillW<N> {
+    ghost use Rattle.genkill_weights.specs.Effects.{generates, kills};
+
+    /// Whether a fact holds after these runs, whatever held before. No run generates a fact, and no fact beyond the width
+    /// is generated.
+    pub fn generates(&self, fact: u32) -> bool
+        ensures { result ≡ generates N self.now fact }
+    {
+        match self {
+            GenKillW::Zero => false,
+            GenKillW::Map { gens, .. } => is_in(gens, fact),
+        }
+    }
+
+    /// Whether a fact does not hold after these runs, whatever held before. No run kills a fact, and no fact beyond the
+    /// width is killed.
+    pub fn kills(&self, fact: u32) -> bool
+        ensures { result ≡ kills N self.now fact }
+    {
+        match self {
+            GenKillW::Zero => false,
+            GenKillW::Map { keep, .. } => fact as usize / 64 < N && !is_in(keep, fact),
+        }
+    }
+}
+
+/// A return map: what a return makes of the facts after a call.
+#[derive(Clone, Copy, Debug, PartialEq, Eq)]
+pub enum MaskMap<const N: usize> {
+    /// All facts are as after the call.
+    Plain,
+    /// These facts are as before the call, the others as after it.
+    Restore { facts: [u64; N] },
+}
