@@ -1,17 +1,14 @@
 -- Copy constants are a semiring, whatever the number of variables.
-use Rattle.std.proofs.Common.{◌≡◌, ◌≢◌, ℕ, zero, suc, ◌+◌, ◌*◌, ◌^◌, ◌<◌, ◌≤◌, ◌↔◌, Bool, true, false, ◌&&◌, List, [], ◌∷◌, ◌++◌, length, set, get_or, length-set, get_or-set_same, get_or-set_other, pow_pos, pow_mono, pow-suc, suc-mul, refl, sym, ap, ap₂, ◌∙◌, inl, inr, arith}
+use Rattle.std.proofs.Common.{◌≡◌, ◌≢◌, ℕ, zero, suc, ◌+◌, ◌*◌, ◌^◌, ◌<◌, ◌≤◌, ◌↔◌, Bool, true, false, ◌&&◌, List, [], ◌∷◌, length, pow_pos, pow_mono, pow-suc, suc-mul, refl, sym, ap, ap₂, ◌∙◌, inl, inr, arith}
 use Rattle.std.specs.Prelude.{IsTrue, nat_eq, cond}
-use Rattle.std.specs.List.{AllByRecursion}
-use Rattle.std.proofs.lemmas.List.Elements.{recursion_from_All}
-use Rattle.std.proofs.lemmas.Bool.{cases_lt, cases_eq, cases_Bool, cond-true, cond-false, false_from_ne_true, and_parts, and_from, eqb-true, eq-eqb, lt-ltb}
+use Rattle.std.proofs.lemmas.Bool.{cases_lt, cases_eq, and_parts, and_from, eqb-true, eq-eqb, lt-ltb}
 use Rattle.semiring_laws.specs.Semiring.{IsSemiring}
 use Rattle.copy_weights.specs.declared.form.Form.{Form}
-use Rattle.copy_weights.specs.declared.form.Form.TheVariants.{Varying}
 use Rattle.copy_weights.specs.declared.form.CopyW.{CopyW}
 use Rattle.copy_weights.specs.declared.form.CopyW.TheVariants.{Zero, Map}
 use Rattle.copy_weights.specs.declared.form.CopyMap.{CopyMap}
 use Rattle.copy_weights.specs.declared.form.CopyMap.TheVariants.{Plain, Restore}
-use Rattle.copy_weights.specs.Forms.{meet, itself, has, put, tabulate, form, form_fits, changed, AreChanges}
+use Rattle.copy_weights.specs.Forms.{meet, itself, has, put, tabulate, form, form_fits}
 use Rattle.copy_weights.specs.private.SetLaws.{each_gives, each_from}
 use Rattle.copy_weights.specs.private.FormLaws.{meet_comm, meet_assoc, meet_same, put_meet, put_of_meets, put_put, put_same, put_itself, put_of_itself, fits_meet, fits_put, rank_within, rank_at_most, rank_same, same_form_is, same_form_itself}
 use Rattle.copy_weights.specs.CopyConst.{combined, extended, returned, each_below, form_rank, rank_sum, same_form, same_forms, same_weight, weight_fits, weight_rank, copy_operations}
@@ -58,7 +55,7 @@ count n fs h = eqb-true (length fs) n (and_parts (nat_eq (length fs) n) (each_be
 pub each_fits : (n : ℕ) (fs : List Form) → FitsForms n fs → (i : ℕ) → i < n → IsTrue (form_fits n (form fs i))
 each_fits n fs h i below = each_gives n (λ k. form_fits n (form fs k)) (and_parts (nat_eq (length fs) n) (each_below n (λ k. form_fits n (form fs k))) h).1 i below
 
-fits_tabulate : (n : ℕ) (f : ℕ → Form) → ((i : ℕ) → i < n → IsTrue (form_fits n (f i))) → FitsForms n (tabulate n f)
+pub fits_tabulate : (n : ℕ) (f : ℕ → Form) → ((i : ℕ) → i < n → IsTrue (form_fits n (f i))) → FitsForms n (tabulate n f)
 fits_tabulate n f h =
     and_from (nat_eq (length (tabulate n f)) n) (each_below n (λ k. form_fits n (form (tabulate n f) k))) (eq-eqb (length (tabulate n f)) n (length_tabulate n f))
     (each_from n (λ k. form_fits n (form (tabulate n f) k)) (λ i below. ap (form_fits n) (form_tabulate n f i below) ∙ h i below))
@@ -66,7 +63,7 @@ fits_tabulate n f h =
 pow_below : (k n : ℕ) → k < n → 2 ^ k < 2 ^ n
 pow_below k n h = let p = pow_pos k in let m : 2 ^ suc k ≤ 2 ^ n = pow_mono (let less : suc k ≤ n = omega arith in less) in let t : 2 ^ suc k ≡ 2 ^ k * 2 = pow-suc 2 k in omega (arith, p, m, t)
 
-itself_fits : (n k : ℕ) → k < n → IsTrue (form_fits n (itself k))
+pub itself_fits : (n k : ℕ) → k < n → IsTrue (form_fits n (itself k))
 itself_fits n k h = lt-ltb (2 ^ k) (2 ^ n) (pow_below k n h)
 
 fits-combined : (n : ℕ) (a b : CopyW) → IsTrue (weight_fits n a) → IsTrue (weight_fits n b) → IsTrue (weight_fits n (combined n a b))
@@ -284,55 +281,3 @@ copy_laws n = record {
   after-combine = λ h a b _ _ _. after-combined n h a b;
   after-plain = λ a _. refl;
 }
-
-tabulate_suc : (k : ℕ) (f : ℕ → Form) → tabulate (suc k) f ≡ tabulate k f ++ f k ∷ []
-unfolding tabulate
-tabulate_suc zero f = refl
-tabulate_suc (suc k) f = ap (λ fs. f 0 ∷ fs) (tabulate_suc k (λ i. f (suc i)))
-
--- one more form
-pub tabulate_next : (k : ℕ) (f : ℕ → Form) → tabulate (k + 1) f ≡ tabulate k f ++ f k ∷ []
-tabulate_next k f = ap (λ m. tabulate m f) (let is : k + 1 ≡ suc k = omega arith in is) ∙ tabulate_suc k f
-
-pub tabulate_none : (f : ℕ → Form) → tabulate 0 f ≡ []
-unfolding tabulate
-tabulate_none f = refl
-
--- one more form behind the others
-pub tabulate_pushed : (k : ℕ) (f : ℕ → Form) (old new : List Form) (g : Form) → old ≡ tabulate k f → g ≡ f k → new ≡ old ++ g ∷ [] → new ≡ tabulate (k + 1) f
-tabulate_pushed k f old new g e h is = is ∙ ap₂ (λ l x. l ++ x ∷ []) e h ∙ sym (tabulate_next k f)
-
--- ---- changes
-
-changed_at : (c : ℕ × Form) (cs : List (ℕ × Form)) (k : ℕ) → nat_eq c.0 k ≡ true → changed (c ∷ cs) k ≡ c.1
-changed_at c cs k e = cond-true (nat_eq c.0 k) c.1 (changed cs k) e
-
-changed_other : (c : ℕ × Form) (cs : List (ℕ × Form)) (k : ℕ) → nat_eq c.0 k ≡ false → changed (c ∷ cs) k ≡ changed cs k
-changed_other c cs k e = cond-false (nat_eq c.0 k) c.1 (changed cs k) e
-
--- one more change in front
-pub change_set : (n : ℕ) (c : ℕ × Form) (cs : List (ℕ × Form)) (list : List Form) → list ≡ tabulate n (changed cs) → c.0 < n → set list c.0 c.1 ≡ tabulate n (changed (c ∷ cs))
-unfolding form
-change_set n c cs list e below =
-    let count : length list ≡ n = ap length e ∙ length_tabulate n (changed cs) in
-    sym (forms_by_places n (changed (c ∷ cs)) (set list c.0 c.1) (length-set list c.0 c.1 ∙ count) (λ i b. elim (cases_eq i c.0) [
-      | inl is ↦
-          changed_at c cs i (eq-eqb c.0 i (sym is))
-          ∙ sym (get_or-set_same list c.0 c.1 Varying (omega arith))
-          ∙ ap (λ j. get_or (set list c.0 c.1) j Varying) (sym is)
-      | inr apart ↦
-          changed_other c cs i (false_from_ne_true (nat_eq c.0 i) (λ h. apart (sym (eqb-true c.0 i h))))
-          ∙ sym (form_tabulate n (changed cs) i b)
-          ∙ ap (λ l. get_or l i Varying) (sym e)
-          ∙ sym (get_or-set_other list c.0 i c.1 Varying apart)
-    ]))
-
-pub changed_fits : (n : ℕ) (cs : List (ℕ × Form)) → AllByRecursion (λ c. (c.0 < n) × IsTrue (form_fits n c.1)) cs → (k : ℕ) → k < n → IsTrue (form_fits n (changed cs k))
-changed_fits n [] all k below = itself_fits n k below
-changed_fits n (c ∷ cs) all k below = elim (cases_Bool (nat_eq c.0 k)) [
-  | inl is ↦ ap (form_fits n) (changed_at c cs k is) ∙ all.0.1
-  | inr apart ↦ ap (form_fits n) (changed_other c cs k apart) ∙ changed_fits n cs all.1 k below
-]
-
-pub made_fits : (n : ℕ) (cs : List (ℕ × Form)) → AreChanges n cs → IsTrue (weight_fits n (Map (tabulate n (changed cs))))
-made_fits n cs all = fits_tabulate n (changed cs) (changed_fits n cs (recursion_from_All (λ c. (c.0 < n) × IsTrue (form_fits n c.1)) cs all))

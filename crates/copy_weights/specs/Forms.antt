@@ -1,6 +1,7 @@
 -- Forms of variables: constants and copies of old values, their meet, and substitution.
-use Rattle.std.specs.Prelude.{ℕ, ◌<◌, All, IsTrue, zero, suc, ◌^◌, ℤ, Bool, true, nat_eq, nat_lt, List, [], ◌∷◌, Option, None, Some, slice_index_or, bit_or, if◌then◌else◌}
+use Rattle.std.specs.Prelude.{ℕ, ◌<◌, All, IsTrue, zero, suc, ◌%◌, ◌^◌, ℤ, Bool, true, nat_eq, nat_lt, List, [], ◌∷◌, Option, None, Some, slice_index_or, bit_or, if◌then◌else◌}
 use Rattle.std.specs.Int.{bit_at}
+use Rattle.std.specs.List.{list_any}
 use Rattle.std.specs.Ordering.{int_eq}
 use Rattle.copy_weights.specs.declared.form.Form.{Form}
 use Rattle.copy_weights.specs.declared.form.Form.TheVariants.{Varying, Meet}
@@ -73,19 +74,39 @@ restored n vars fs = tabulate n (λ k. if has vars k then itself k else form fs 
 
 -- ---- changes
 
--- the form of a variable by its change, or else itself
-abbrev pub changed : List (ℕ × Form) → ℕ → Form
-changed [] k = itself k
-changed (c ∷ cs) k = if nat_eq c.0 k then c.1 else changed cs k
-
-abbrev pub changes_of : ℕ → List (ℕ × Form) → List Form
-changes_of n cs = tabulate n (changed cs)
-
 -- the sources are below n
 abbrev pub form_fits : ℕ → Form → Bool
 form_fits n Varying = true
 form_fits n (Meet c s) = nat_lt s (2 ^ n)
 
+-- a form without its sources from n on
+abbrev pub over : ℕ → Form → Form
+over n Varying = Varying
+over n (Meet c s) = Meet c (s % 2 ^ n)
+
+-- the form of a variable by its first change, or else itself
+abbrev pub changed : List (ℕ × Form) → ℕ → Form
+changed [] k = itself k
+changed (c ∷ cs) k = if nat_eq c.0 k then c.1 else changed cs k
+
+-- Each of n variables changed, by forms over them. What is said of other variables is left out.
+abbrev pub changes_of : ℕ → List (ℕ × Form) → List Form
+changes_of n cs = tabulate n (λ k. over n (changed cs k))
+
 -- changes of variables below n, by forms over n variables
 abbrev pub AreChanges : ℕ → List (ℕ × Form) → Type 0
 AreChanges n cs = All (λ c. (c.0 < n) × IsTrue (form_fits n c.1)) cs
+
+-- ---- sets of variables
+
+abbrev pub is_listed : List ℕ → ℕ → Bool
+is_listed ks k = list_any (λ j. nat_eq j k) ks
+
+-- the set of the numbers below n that pass a test
+unfoldable pub set_below : ℕ → (ℕ → Bool) → ℕ
+set_below zero test = 0
+set_below (suc k) test = if test k then bit_or (2 ^ k) (set_below k test) else set_below k test
+
+-- the set of the listed variables, without those from n on
+abbrev pub set_of : ℕ → List ℕ → ℕ
+set_of n ks = set_below n (is_listed ks)

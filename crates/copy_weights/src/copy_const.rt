@@ -1,11 +1,14 @@
-ghost use Rattle.std.specs.Prelude.{◌≡◌, ◌≤◌, ◌↔◌, IsTrue, IfOk};
+ghost use Rattle.std.specs.Prelude.{◌≡◌, ◌≤◌, ◌<◌, ◌↔◌, ℕ, IsTrue, IfOk};
+ghost use Rattle.wpds_base.specs.Limits.{most_copied};
 ghost use Rattle.semiring_laws.specs.Semiring.{Fits};
-ghost use Rattle.copy_weights.specs.Forms.{changes_of, AreChanges};
+ghost use Rattle.copy_weights.specs.Forms.{has, tabulate, changed, changes_of, AreChanges, is_listed, set_of};
 ghost use Rattle.copy_weights.specs.declared.form.CopyW.TheVariants.{Map};
+ghost use Rattle.copy_weights.specs.declared.form.CopyMap.TheVariants.{Restore};
 ghost use Rattle.copy_weights.specs.CopyConst.{copy_operations};
 ghost use Rattle.copy_weights.specs.CopyLaws.{copy_laws};
 
-use crate::lists::{composed, identity, meets, restored, with_changes};
+use crate::changes::{set_of, with_changes};
+use crate::lists::{composed, identity, meets, restored};
 use crate::{CopyMap, CopyW, Form, Forms};
 use semiring_laws::Semiring;
 use std::alloc::Global;
@@ -23,12 +26,13 @@ pub struct CopyConst {
 
 impl Model for CopyConst {
     ghost use Rattle.std.specs.Prelude.{ℕ, ◌≤◌};
+    ghost use Rattle.wpds_base.specs.Limits.{most_copied};
 
     ghost Value = { ℕ };
 
     ghost view = { λ c. c.vars };
 
-    ghost invariant = { λ c. c.vars ≤ 64 };
+    ghost invariant = { λ c. c.vars ≤ most_copied };
 
     ghost inverse = { λ n. record { vars = n } };
 }
@@ -36,21 +40,32 @@ impl Model for CopyConst {
 impl CopyConst {
     /// The copy constants over so many variables.
     pub fn new(vars: u32) -> CopyConst
-        requires { vars ≤ 64 }
+        requires { vars ≤ most_copied }
         ensures { result ≡ vars }
     {
         CopyConst { vars }
     }
 
     /// The weight of these changes; the other variables keep their value. Of two changes of one variable the first
-    /// counts.
+    /// counts. A change of a variable that is not there is left out, and so is a source that is not there.
     pub fn make(&self, alloc: Global, changes: &[(u32, Form)]) -> Result<CopyW, OutOfMemory>
-        requires { AreChanges self.now changes.now }
         ensures forms { IfOk result (λ w. w ≡ Map (changes_of self.now changes.now)) }
+        ensures whole { AreChanges self.now changes.now →
+            IfOk result (λ w. w ≡ Map (tabulate self.now (changed changes.now))) }
         ensures fits { IfOk result (λ w. Fits (copy_operations self.now) w) }
     {
         let forms = with_changes(alloc, self.vars as usize, changes)?;
         map_of(forms)
+    }
+
+    /// The return map that restores these variables. One that is not there is left out.
+    pub fn restore(&self, vars: &[u32]) -> CopyMap
+        ensures map { result ≡ Restore (set_of self.now vars.now) }
+        ensures variables { (k : ℕ) → k < self.now →
+            has (set_of self.now vars.now) k ≡ is_listed vars.now k }
+    {
+        let vars = set_of(self.vars, vars);
+        CopyMap::Restore { vars }
     }
 }
 

@@ -1,6 +1,7 @@
 //! Copy constants as weights: what each variable holds after runs, by what the variables held before them.
 #![tactic(auto)]
 
+mod changes;
 mod copy_const;
 mod form;
 mod laws;

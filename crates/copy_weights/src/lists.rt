@@ -65,21 +65,3 @@ fn restored_form(vars: u64, k: usize, f: Form) -> Form
     }
     f
 }
-
-/// Each variable itself, but for these changes.
-pub(crate) fn with_changes(
-    alloc: Global,
-    n: usize,
-    changes: &[(u32, Form)],
-) -> Result<Vec<Form>, OutOfMemory>
-    requires few { n ≤ 64 }
-    requires changes { spec.AreChanges n changes.now }
-    ensures { IfOk result (λ v. v.items ≡ spec.changes_of n changes.now) }
-{
-    let mut list = identity(alloc, n)?;
-    for k in 0..changes.len() {
-        let change = changes[changes.len() - 1 - k];
-        list[change.0 as usize] = change.1;
-    }
-    Ok(list)
-}

@@ -1,16 +1,15 @@
 -- Meets and substitution of forms.
-use Rattle.std.proofs.Common.{◌≡◌, ℕ, zero, suc, ◌+◌, ◌/◌, ◌%◌, ◌^◌, ◌<◌, ◌≤◌, ℤ, Bool, true, false, ◌&&◌, ◌||◌, refl, sym, ap, ap₂, ◌∙◌, inl, inr, pow_pos, arith}
-use Rattle.std.specs.Prelude.{IsTrue, Option, None, Some, ◌↔◌, ◌⊎◌, nat_eq, cond, bit_or, bit_and, option_and_then}
+use Rattle.std.proofs.Common.{◌≡◌, ℕ, zero, suc, ◌+◌, ◌^◌, ◌<◌, ◌≤◌, ℤ, Bool, true, false, ◌||◌, refl, sym, ap, ap₂, ◌∙◌, inl, inr, pow_pos, arith}
+use Rattle.std.specs.Prelude.{IsTrue, Option, None, Some, ◌↔◌, ◌⊎◌, nat_eq, cond, bit_or, option_and_then}
 use Rattle.std.specs.Ordering.{int_eq}
 use Rattle.std.proofs.lemmas.Bool.Decides.{Decides-int_eq}
-use Rattle.std.proofs.lemmas.Bool.{cases_Bool, cases_eq, cases_lt, cond-true, cond-false, and_parts, and_from, ltb-true, lt-ltb, eqb-true, eq-eqb, false_from_ne_true}
+use Rattle.std.proofs.lemmas.Bool.{cases_Bool, cases_eq, cond-true, cond-false, and_parts, and_from, ltb-true, lt-ltb, eqb-true, eq-eqb, false_from_ne_true}
 use Rattle.std.proofs.lemmas.Option.{same_Some}
-use Rattle.std.proofs.lemmas.Nat.Bits.{shr_and_one}
 use Rattle.copy_weights.specs.declared.form.Form.{Form}
 use Rattle.copy_weights.specs.declared.form.Form.TheVariants.{Varying, Meet}
-use Rattle.copy_weights.specs.Forms.{joined, with_constant, meet, undefined, itself, has, meet_over, put, form_fits}
+use Rattle.copy_weights.specs.Forms.{joined, with_constant, meet, undefined, itself, has, meet_over, put, form_fits, set_below}
 use Rattle.copy_weights.specs.CopyConst.{absent, form_rank, same_constant, same_form}
-use Rattle.copy_weights.specs.private.SetLaws.{has_or, has_zero, has_pow_same, has_pow_other, has_above, sets_same, set_or_comm, set_or_assoc, set_or_same, set_or_none, set_none_or, set_or_below, absent_within, absent_at_most, union_same}
+use Rattle.copy_weights.specs.private.SetLaws.{has_or, has_zero, has_pow_same, has_pow_other, set_or_comm, set_or_assoc, set_or_same, set_or_none, set_none_or, set_or_below, set_below_members, absent_within, absent_at_most, union_same}
 
 -- ---- constants
 
@@ -234,69 +233,20 @@ put_same n f g (Meet c s) e = ap (meet (Meet c 0)) (meet_over_same n f g s e)
 
 -- ---- variables themselves
 
--- the sources below k
-low : ℕ → ℕ → ℕ
-low zero s = 0
-low (suc k) s = cond (has s k) (bit_or (2 ^ k) (low k s)) (low k s)
-
-choice_low : (b : Bool) (k m : ℕ) → choice b (itself k) (Meet None m) ≡ Meet None (cond b (bit_or (2 ^ k) m) m)
+choice_set : (b : Bool) (k m : ℕ) → choice b (itself k) (Meet None m) ≡ Meet None (cond b (bit_or (2 ^ k) m) m)
 unfolding choice
-choice_low true k m = refl
-choice_low false k m = refl
+choice_set true k m = refl
+choice_set false k m = refl
 
-meet_over_itself : (k s : ℕ) → meet_over k itself s ≡ Meet None (low k s)
-unfolding meet_over low
+meet_over_itself : (k s : ℕ) → meet_over k itself s ≡ Meet None (set_below k (has s))
+unfolding meet_over set_below
 meet_over_itself zero s = refl
-meet_over_itself (suc k) s = meet_over_step k itself s ∙ ap (choice (has s k) (itself k)) (meet_over_itself k s) ∙ choice_low (has s k) k (low k s)
-
-below_or : (b : Bool) (k m i : ℕ) → has (cond b (bit_or (2 ^ k) m) m) i ≡ ((b && has (2 ^ k) i) || has m i)
-below_or true k m i = has_or (2 ^ k) m i
-below_or false k m i = refl
-
-and_true : (b : Bool) → (b && true) ≡ b
-and_true true = refl
-and_true false = refl
-
-and_false : (b : Bool) → (b && false) ≡ false
-and_false true = refl
-and_false false = refl
-
-or_same : (b : Bool) → (b || b) ≡ b
-or_same true = refl
-or_same false = refl
-
-or_false : (b : Bool) → (b || false) ≡ b
-or_false true = refl
-or_false false = refl
-
-low_above : (k s i : ℕ) → k ≤ i → has (low k s) i ≡ false
-unfolding low
-low_above zero s i past = has_zero i
-low_above (suc k) s i past =
-    below_or (has s k) k (low k s) i
-    ∙ ap₂ (λ a b. (has s k && a) || b) (has_pow_other k i (λ e. absurd (omega arith))) (low_above k s i (omega arith))
-    ∙ or_false (has s k && false) ∙ and_false (has s k)
-
-low_has : (k s i : ℕ) → i < k → has (low k s) i ≡ has s i
-unfolding low
-low_has zero s i below = absurd (omega arith)
-low_has (suc k) s i below = below_or (has s k) k (low k s) i ∙ elim (cases_eq i k) [
-  | inl is ↦
-      ap₂ (λ a b. (has s k && a) || b) (ap (has (2 ^ k)) is ∙ has_pow_same k) (low_above k s i (omega arith))
-      ∙ or_false (has s k && true) ∙ and_true (has s k) ∙ ap (has s) (sym is)
-  | inr apart ↦ ap₂ (λ a b. (has s k && a) || b) (has_pow_other k i apart) (low_has k s i (omega arith)) ∙ ap (λ b. b || has s i) (and_false (has s k))
-]
-
-low_is : (n s : ℕ) → s < 2 ^ n → low n s ≡ s
-low_is n s h = sets_same (low n s) s (λ i. elim (cases_lt i n) [
-  | inl below ↦ low_has n s i below
-  | inr past ↦ low_above n s i past ∙ sym (has_above s n i h past)
-])
+meet_over_itself (suc k) s = meet_over_step k itself s ∙ ap (choice (has s k) (itself k)) (meet_over_itself k s) ∙ choice_set (has s k) k (set_below k (has s))
 
 pub put_itself : (n : ℕ) (f : Form) → IsTrue (form_fits n f) → put n itself f ≡ f
 put_itself n Varying h = refl
 put_itself n (Meet c s) h =
-    ap (meet (Meet c 0)) (meet_over_itself n s ∙ ap (Meet None) (low_is n s (ltb-true s (2 ^ n) h)))
+    ap (meet (Meet c 0)) (meet_over_itself n s ∙ ap (Meet None) (set_below_members n s (ltb-true s (2 ^ n) h)))
     ∙ ap₂ with_constant (set_none_or s) (joined_none c)
 
 choice_one : (b : Bool) (f g : Form) → b ≡ false → choice b f g ≡ g
@@ -412,29 +362,3 @@ same_form_is (Meet c s) (Meet d t) h =
 pub same_form_itself : (f : Form) → IsTrue (same_form f f)
 same_form_itself Varying = refl
 same_form_itself (Meet c s) = and_from (same_constant c c) (nat_eq s s) ((same_constants c c).1 refl) (eq-eqb s s refl)
-
--- ---- meets step by step, as a loop does
-
-pub meet_over_begun : (f : ℕ → Form) (s : ℕ) → undefined ≡ meet_over 0 f s
-unfolding meet_over
-meet_over_begun f s = refl
-
-next_meet_over : (k : ℕ) (f : ℕ → Form) (s : ℕ) → meet_over (k + 1) f s ≡ choice (has s k) (f k) (meet_over k f s)
-next_meet_over k f s = ap (λ m. meet_over m f s) (let is : k + 1 ≡ suc k = omega arith in is) ∙ meet_over_step k f s
-
-pub meet_over_more : (k : ℕ) (f : ℕ → Form) (s : ℕ) (old new : Form) → has s k ≡ true → old ≡ meet_over k f s → new ≡ meet (f k) old → new ≡ meet_over (k + 1) f s
-unfolding choice
-meet_over_more k f s old new is e h = h ∙ ap (meet (f k)) e ∙ sym (next_meet_over k f s ∙ ap (λ b. choice b (f k) (meet_over k f s)) is)
-
-pub meet_over_stays : (k : ℕ) (f : ℕ → Form) (s : ℕ) (old : Form) → has s k ≡ false → old ≡ meet_over k f s → old ≡ meet_over (k + 1) f s
-unfolding choice
-meet_over_stays k f s old is e = e ∙ sym (next_meet_over k f s ∙ ap (λ b. choice b (f k) (meet_over k f s)) is)
-
--- the test of a bit
-pub has_shifted : (s k : ℕ) → bit_and (s / 2 ^ k) 1 ≡ 1 → has s k ≡ true
-unfolding has
-has_shifted s k e = eq-eqb (s / 2 ^ k % 2) 1 (sym (shr_and_one s k) ∙ e)
-
-pub has_not_shifted : (s k : ℕ) → (bit_and (s / 2 ^ k) 1 ≡ 1 → ⊥) → has s k ≡ false
-unfolding has
-has_not_shifted s k h = false_from_ne_true (nat_eq (s / 2 ^ k % 2) 1) (λ e. h (shr_and_one s k ∙ eqb-true (s / 2 ^ k % 2) 1 e))

@@ -1,11 +1,11 @@
 -- Sets of variables as the bits of numbers.
-use Rattle.std.proofs.Common.{◌≡◌, ◌≢◌, ℕ, zero, suc, ◌+◌, ◌^◌, ◌<◌, ◌≤◌, max, Bool, true, false, ◌||◌, refl, sym, ap, ◌∙◌, inl, inr, arith}
+use Rattle.std.proofs.Common.{◌≡◌, ◌≢◌, ℕ, zero, suc, ◌+◌, ◌^◌, ◌<◌, ◌≤◌, max, Bool, true, false, ◌&&◌, ◌||◌, refl, sym, ap, ap₂, ◌∙◌, inl, inr, arith}
 use Rattle.std.specs.Prelude.{IsTrue, nat_eq, cond, bit_or}
 use Rattle.std.specs.Int.{bit_at}
-use Rattle.std.proofs.lemmas.Bool.{cases_eq, and_parts, and_from}
+use Rattle.std.proofs.lemmas.Bool.{cases_eq, cases_lt, and_parts, and_from}
 use Rattle.std.proofs.lemmas.Nat.{or_lt}
 use Rattle.std.proofs.lemmas.Nat.Bits.{bit_at_or, bit_at-lt, bit_at-zero, bit_at-pow_same, bit_at-pow_other, bit_at_above, same_from_bits, same_from_bits_below}
-use Rattle.copy_weights.specs.Forms.{has}
+use Rattle.copy_weights.specs.Forms.{has, set_below}
 use Rattle.copy_weights.specs.CopyConst.{each_below, absent}
 
 pub each_gives : (n : ℕ) (p : ℕ → Bool) → IsTrue (each_below n p) → (k : ℕ) → k < n → IsTrue (p k)
@@ -103,6 +103,44 @@ set_none_or s = set_or_comm 0 s ∙ set_or_none s
 
 pub set_or_below : (n s t : ℕ) → s < 2 ^ n → t < 2 ^ n → bit_or s t < 2 ^ n
 set_or_below n s t hs ht = or_lt n s t hs ht
+
+-- ---- the numbers below one that pass a test
+
+and_true : (b : Bool) → (b && true) ≡ b
+and_true true = refl
+and_true false = refl
+
+and_false : (b : Bool) → (b && false) ≡ false
+and_false true = refl
+and_false false = refl
+
+has_added : (b : Bool) (k m i : ℕ) → has (cond b (bit_or (2 ^ k) m) m) i ≡ ((b && has (2 ^ k) i) || has m i)
+has_added true k m i = has_or (2 ^ k) m i
+has_added false k m i = refl
+
+pub set_below_past : (k : ℕ) (test : ℕ → Bool) (i : ℕ) → k ≤ i → has (set_below k test) i ≡ false
+unfolding set_below
+set_below_past zero test i past = has_zero i
+set_below_past (suc k) test i past =
+    has_added (test k) k (set_below k test) i
+    ∙ ap₂ (λ a b. (test k && a) || b) (has_pow_other k i (λ e. absurd (omega arith))) (set_below_past k test i (omega arith))
+    ∙ or_false (test k && false) ∙ and_false (test k)
+
+pub set_below_has : (k : ℕ) (test : ℕ → Bool) (i : ℕ) → i < k → has (set_below k test) i ≡ test i
+unfolding set_below
+set_below_has zero test i below = absurd (omega arith)
+set_below_has (suc k) test i below = has_added (test k) k (set_below k test) i ∙ elim (cases_eq i k) [
+  | inl is ↦
+      ap₂ (λ a b. (test k && a) || b) (ap (has (2 ^ k)) is ∙ has_pow_same k) (set_below_past k test i (omega arith))
+      ∙ or_false (test k && true) ∙ and_true (test k) ∙ ap test (sym is)
+  | inr apart ↦ ap₂ (λ a b. (test k && a) || b) (has_pow_other k i apart) (set_below_has k test i (omega arith)) ∙ ap (λ b. b || test i) (and_false (test k))
+]
+
+pub set_below_members : (n s : ℕ) → s < 2 ^ n → set_below n (has s) ≡ s
+set_below_members n s h = sets_same (set_below n (has s)) s (λ i. elim (cases_lt i n) [
+  | inl below ↦ set_below_has n (has s) i below
+  | inr past ↦ set_below_past n (has s) i past ∙ sym (has_above s n i h past)
+])
 
 -- ---- counting
 

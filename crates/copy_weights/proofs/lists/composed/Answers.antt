@@ -1,6 +1,6 @@
 use Rattle.std.proofs.Common.{length, sym, ◌∙◌}
 use Rattle.copy_weights.specs.Forms.{put, form}
-use Rattle.copy_weights.specs.CopyLaws.{tabulate_none, tabulate_pushed}
+use Rattle.copy_weights.proofs.LoopLemmas.{tabulate_none, tabulate_pushed}
 use Rattle.copy_weights.proofs.lists.composed.Goals as goal
 
 pub loop-k-init : goal.loop-k-init

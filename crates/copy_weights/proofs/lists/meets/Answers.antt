@@ -1,6 +1,6 @@
 use Rattle.std.proofs.Common.{sym, ◌∙◌}
 use Rattle.copy_weights.specs.Forms.{meet, form}
-use Rattle.copy_weights.specs.CopyLaws.{tabulate_none, tabulate_pushed}
+use Rattle.copy_weights.proofs.LoopLemmas.{tabulate_none, tabulate_pushed}
 use Rattle.copy_weights.proofs.lists.meets.Goals as goal
 
 pub loop-k-init : goal.loop-k-init

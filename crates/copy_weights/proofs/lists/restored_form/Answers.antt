@@ -1,7 +1,7 @@
 use Rattle.std.proofs.Common.{sym, ◌∙◌}
 use Rattle.std.proofs.lemmas.Bool.{cond-true, cond-false}
 use Rattle.copy_weights.specs.Forms.{has, itself}
-use Rattle.copy_weights.specs.private.FormLaws.{has_shifted, has_not_shifted}
+use Rattle.copy_weights.proofs.LoopLemmas.{has_shifted, has_not_shifted}
 use Rattle.copy_weights.proofs.lists.restored_form.Goals as goal
 
 pub returns-then-vars-k-eq1 : goal.returns-then-vars-k-eq1

@@ -1,6 +1,6 @@
 use Rattle.std.proofs.Common.{◌∙◌}
 use Rattle.copy_weights.specs.Forms.{form}
-use Rattle.copy_weights.specs.private.FormLaws.{meet_over_begun, meet_over_more, meet_over_stays, has_shifted, has_not_shifted}
+use Rattle.copy_weights.proofs.LoopLemmas.{meet_over_begun, meet_over_more, meet_over_stays, has_shifted, has_not_shifted}
 use Rattle.copy_weights.proofs.meets.meet_over.Goals.{then-from-k-eq1, else-from-k-eq1}
 use Rattle.copy_weights.proofs.meets.meet_over.Goals as goal
 
