@@ -1,0 +1,85 @@
+ghost use Rattle.std.specs.Prelude.{◌≡◌, ◌≤◌, ◌<◌, length};
+ghost use Rattle.copy_weights.specs.Forms as spec;
+
+use crate::Form;
+
+/// The meet of two forms.
+pub(crate) fn meet(f: Form, g: Form) -> Form
+    ensures { result ≡ spec.meet f g }
+{
+    match (f, g) {
+        (
+            Form::Meet {
+                constant: c,
+                from: s,
+            },
+            Form::Meet {
+                constant: d,
+                from: t,
+            },
+        ) => with_constant(s | t, joined(c, d)),
+        _ => Form::Varying,
+    }
+}
+
+// The constant of two, where they do not differ.
+fn joined(c: Option<i64>, d: Option<i64>) -> Option<Option<i64>>
+    ensures { result ≡ spec.joined c d }
+{
+    match (c, d) {
+        (None, d) => Some(d),
+        (c, None) => Some(c),
+        (Some(x), Some(y)) => { if x == y { Some(Some(x)) } else { None } }
+    }
+}
+
+fn with_constant(from: u64, constant: Option<Option<i64>>) -> Form
+    ensures { result ≡ spec.with_constant from constant }
+{
+    match constant {
+        Some(constant) => Form::Meet { constant, from },
+        None => Form::Varying,
+    }
+}
+
+/// The form with these put in for its sources.
+pub(crate) fn put(list: &[Form], f: Form) -> Form
+    requires { length list.now ≤ 64 }
+    ensures { result ≡ spec.put (length list.now) (spec.form list.now) f }
+{
+    match f {
+        Form::Varying => Form::Varying,
+        Form::Meet { constant, from } => {
+            let all = meet_over(list, from);
+            meet(Form::Meet { constant, from: 0 }, all)
+        }
+    }
+}
+
+// The meet of the forms of these sources.
+fn meet_over(list: &[Form], from: u64) -> Form
+    requires { length list.now ≤ 64 }
+    ensures { result ≡ spec.meet_over (length list.now) (spec.form list.now) from }
+{
+    let mut made = Form::Meet {
+        constant: None,
+        from: 0,
+    };
+    for k in 0..list.len() {
+        if (from >> k) & 1 == 1 {
+            made = meet(list[k], made);
+        }
+    }
+    made
+}
+
+/// A variable itself.
+pub(crate) fn itself(k: usize) -> Form
+    requires { k < 64 }
+    ensures { result ≡ spec.itself k }
+{
+    Form::Meet {
+        constant: None,
+        from: 1 << k,
+    }
+}
