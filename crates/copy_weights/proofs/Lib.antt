@@ -1,3 +1,4 @@
 mod ChangeLemmas
 mod LoopLemmas
 mod ValueLemmas
+pub mod CallerLemmas

@@ -1,4 +1,10 @@
+pub mod CopyLaws
+pub mod CopyWeights
+pub mod FactLaws
+pub mod FactWeights
 pub mod Kinds
 pub mod Systems
+pub mod ValueTexts
 pub mod WeightLaws
 pub mod Weights
+pub mod private

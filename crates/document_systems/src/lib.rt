@@ -1,15 +1,18 @@
 //! What a document means: its system over the semiring of its weights, and the patterns of its queries.
 #![tactic(auto)]
 
+mod constants;
+mod facts;
+mod kind;
 mod laws;
 mod pattern;
+mod row;
 mod system;
-mod weights;
 
 pub use laws::{configurations_are_their_own_members, documents_are_systems, unreachable_is_zero};
 pub use pattern::pattern_from;
 pub use system::system_from;
-pub use weights::{DocumentWeights, Names};
+pub use kind::{DocumentWeights, Names};
 
 #[cfg(test)]
 mod tests;

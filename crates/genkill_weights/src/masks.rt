@@ -57,10 +57,10 @@ pub(crate) fn not_in<const N: usize>(a: &[u64; N], b: &[u64; N]) -> [u64; N]
 }
 
 /// Whether a fact is in a mask. A mask has none beyond its words.
-pub(crate) fn is_in<const N: usize>(mask: &[u64; N], number: u32) -> bool
+pub(crate) fn is_in<const N: usize>(mask: &[u64; N], number: usize) -> bool
     ensures { result ≡ fact mask.now number }
 {
-    let at = number as usize / 64;
+    let at = number / 64;
     if at >= N {
         return false;
     }

@@ -170,7 +170,7 @@ fn facts_in_both_lists_and_beyond_the_width(rt: HostRuntime) {
         (1, true, false),
         (2, false, true),
         (64, false, false),
-        (u32::MAX, false, false),
+        (usize::MAX, false, false),
     ] {
         assert_eq!(rt; made.generates(fact), generated, "{fact}");
         assert_eq!(rt; made.kills(fact), killed, "{fact}");
@@ -188,7 +188,7 @@ fn laws() {
 }
 
 // Whether a weight kills the last of so many facts, and no other.
-fn kills_last_alone<const N: usize>(weight: &GenKillW<N>, facts: u32) -> bool {
+fn kills_last_alone<const N: usize>(weight: &GenKillW<N>, facts: usize) -> bool {
     for fact in 0..facts {
         if weight.kills(fact) != (fact + 1 == facts) {
             return false;

@@ -16,7 +16,7 @@ impl<const N: usize> GenKillW<N> {
 
     /// Whether a fact holds after these runs, whatever held before. No run generates a fact, and no fact beyond the width
     /// is generated.
-    pub fn generates(&self, fact: u32) -> bool
+    pub fn generates(&self, fact: usize) -> bool
         ensures { result ≡ generates N self.now fact }
     {
         match self {
@@ -27,12 +27,12 @@ impl<const N: usize> GenKillW<N> {
 
     /// Whether a fact does not hold after these runs, whatever held before. No run kills a fact, and no fact beyond the
     /// width is killed.
-    pub fn kills(&self, fact: u32) -> bool
+    pub fn kills(&self, fact: usize) -> bool
         ensures { result ≡ kills N self.now fact }
     {
         match self {
             GenKillW::Zero => false,
-            GenKillW::Map { keep, .. } => fact as usize / 64 < N && !is_in(keep, fact),
+            GenKillW::Map { keep, .. } => fact / 64 < N && !is_in(keep, fact),
         }
     }
 }

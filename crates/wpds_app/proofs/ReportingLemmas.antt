@@ -36,27 +36,26 @@ lines_told kind options p items i from to a (Err e) kept is same text = tt
 -- ---- the semiring that weights name
 
 -- a report is over a semiring that is built
-pub is_built : (weights : WeightsLine) (d : Document) (options : Options) (report : List ℕ)
-    → BySemiring (λ S W Map kind semiring. IsReported kind options semiring d report) weights → IsBuilt weights
-is_built Reach d options report is = tt
-is_built (Cost cap) d options report is = tt
-is_built GenKill d options report is = absurd is
-is_built Copy d options report is = absurd is
-is_built Relation d options report is = absurd is
+pub is_built : (weights : WeightsLine) (items : ℕ) (d : Document) (options : Options) (report : List ℕ)
+    → BySemiring (λ S W Map kind semiring. IsReported kind options semiring d report) weights items
+    → BySemiring (λ S W Map kind semiring. Unit {0}) weights items
+is_built Reach items d options report is = tt
+is_built (Cost cap) items d options report is = tt
+is_built GenKill facts d options report is = tt
+is_built Copy variables d options report is = tt
+is_built Relation items d options report is = absurd is
 
--- what the report says of feasibility, if the weights are these
-abbrev pub TellsFeasibilityBy : WeightsLine → Document → ℕ → QueryLine → List ℕ → Type 0
-TellsFeasibilityBy weights d i q text =
-    (text ≡ query_line i (codes "unreachable")) ↔ BySemiring (λ S W Map kind semiring. IsInfeasible kind semiring d q) weights
+-- ---- what a report says of feasibility
 
--- weights by weights
-pub by_weights : (d : Document) (options : Options) (report : List ℕ)
-    → (IsReported reach_kind options (record {}) d report → ByQuery (TellsFeasibilityBy Reach d) 1 d.queries report)
-    → ((cap : ℕ) → IsWeightsLine (Cost cap) → IsReported cost_kind options cap d report → ByQuery (TellsFeasibilityBy (Cost cap) d) 1 d.queries report)
-    → (weights : WeightsLine) → IsWeightsLine weights → BySemiring (λ S W Map kind semiring. IsReported kind options semiring d report) weights
-    → ByQuery (TellsFeasibilityBy weights d) 1 d.queries report
-by_weights d options report reach cost Reach named reported = reach reported
-by_weights d options report reach cost (Cost cap) named reported = cost cap named reported
-by_weights d options report reach cost GenKill named reported = absurd reported
-by_weights d options report reach cost Copy named reported = absurd reported
-by_weights d options report reach cost Relation named reported = absurd reported
+-- a report over this semiring says so of each query
+abbrev pub TellsOver : {S W Map : Type 0} → Kind S W Map → S → Document → Options → List ℕ → Type 0
+TellsOver kind semiring d options report =
+    IsReported kind options semiring d report → ByQuery (TellsFeasibilityOver kind semiring d) 1 d.queries report
+
+-- over facts of each width
+pub record TellOverFacts (d : Document) (options : Options) (report : List ℕ) : Type 0 where
+  pub one : TellsOver (genkill_kind 1) (record {}) d options report
+  pub two : TellsOver (genkill_kind 2) (record {}) d options report
+  pub four : TellsOver (genkill_kind 4) (record {}) d options report
+  pub eight : TellsOver (genkill_kind 8) (record {}) d options report
+  pub sixteen : TellsOver (genkill_kind 16) (record {}) d options report

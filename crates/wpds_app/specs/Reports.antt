@@ -1,10 +1,16 @@
 -- The report on a document.
-use Rattle.std.specs.Prelude.{◌≡◌, ◌≢◌, ◌⊎◌, ◌↔◌, ℕ, ◌+◌, ◌<◌, ◌≤◌, Bool, List, [], ◌∷◌, ◌++◌, Option, None, Some, IfSome, codes, decimal, slice_get, if◌then◌else◌}
+use Rattle.std.specs.Prelude.{◌≡◌, ◌≢◌, ◌⊎◌, ◌↔◌, ℕ, ◌+◌, ◌<◌, ◌≤◌, Bool, List, [], ◌∷◌, ◌++◌, length, Option, None, Some, IfSome, codes, decimal, slice_get, if◌then◌else◌}
 use Rattle.std.specs.List.{AllByRecursion}
 use Rattle.semiring_laws.specs.declared.reach.NoMap.{NoMap}
 use Rattle.semiring_laws.specs.declared.reach.Reach.{Reach as ReachValue}
 use Rattle.semiring_laws.specs.Reach.{reach_operations}
 use Rattle.cost_weights.specs.Cost.{cost_operations}
+use Rattle.genkill_weights.specs.declared.genkill.GenKill.{GenKill as GenKillValue}
+use Rattle.genkill_weights.specs.declared.weight.GenKillW.{GenKillW}
+use Rattle.genkill_weights.specs.declared.weight.MaskMap.{MaskMap}
+use Rattle.genkill_weights.specs.Widths.{width_for}
+use Rattle.copy_weights.specs.declared.form.CopyW.{CopyW}
+use Rattle.copy_weights.specs.declared.form.CopyMap.{CopyMap}
 use Rattle.pushdown_rules.specs.Pushdown.{Pushdown}
 use Rattle.pushdown_rules.specs.Values.{value_of}
 use Rattle.pushdown_rules.specs.Answers.{Leads, HasNoFeasibleRun}
@@ -14,8 +20,10 @@ use Rattle.document_forms.specs.Documents.{Document}
 use Rattle.document_forms.specs.declared.document.QueryLine.{QueryLine}
 use Rattle.document_forms.specs.declared.weight.WeightText.TheVariants.{Zero}
 use Rattle.document_forms.specs.declared.weight.WeightsLine.{WeightsLine}
-use Rattle.document_forms.specs.declared.weight.WeightsLine.TheVariants.{Reach, Cost}
+use Rattle.document_forms.specs.declared.weight.WeightsLine.TheVariants.{Reach, Cost, GenKill, Copy, Relation}
 use Rattle.document_systems.specs.Kinds.{Kind}
+use Rattle.document_systems.specs.CopyWeights.{copy_kind}
+use Rattle.document_systems.specs.FactWeights.{genkill_kind}
 use Rattle.document_systems.specs.Weights.{reach_kind, cost_kind}
 use Rattle.document_systems.specs.Systems.{system_of, side_of}
 use Rattle.report_text.specs.Listings.{query_line, listing_text}
@@ -57,7 +65,7 @@ abbrev pub BySemiring : ((S W Map : Type 0) → Kind S W Map → S → Type 0) �
 BySemiring holds Reach items = holds ReachValue Bool NoMap reach_kind (record {})
 BySemiring holds (Cost most) items = holds ℕ (Option ℕ) NoMap cost_kind most
 BySemiring holds GenKill facts =
-    let n = words_of facts in holds (GenKillValue n) (GenKillW n) (MaskMap n) (genkill_kind n) (record {})
+    let n = width_for facts in holds (GenKillValue n) (GenKillW n) (MaskMap n) (genkill_kind n) (record {})
 BySemiring holds Copy variables = holds ℕ CopyW CopyMap copy_kind variables
 BySemiring holds Relation items = ⊥
 
@@ -81,7 +89,11 @@ abbrev pub IsInfeasible : {S W Map : Type 0} → Kind S W Map → S → Document
 IsInfeasible kind semiring d q =
     HasNoFeasibleRun (kind.operations semiring) (system_of kind semiring d) (has_member (side_of d q.from)) (has_member (side_of d q.to))
 
--- `unreachable` is written exactly when there is none
+-- `unreachable` is written exactly when there is none, over this semiring and over that of the document
+abbrev pub TellsFeasibilityOver : {S W Map : Type 0} → Kind S W Map → S → Document → ℕ → QueryLine → List ℕ → Type 0
+TellsFeasibilityOver kind semiring d i q text =
+    (text ≡ query_line i (codes "unreachable")) ↔ IsInfeasible kind semiring d q
+
 abbrev pub TellsFeasibility : Document → ℕ → QueryLine → List ℕ → Type 0
 TellsFeasibility d i q text =
     (text ≡ query_line i (codes "unreachable"))

@@ -9,10 +9,12 @@ ghost use Rattle.document_forms.specs.Documents.{Document};
 ghost use Rattle.document_forms.specs.Lawful.{IsDocument};
 ghost use Rattle.document_forms.specs.declared.weight.WeightsLine.TheVariants.{Reach as ReachLine, Cost as CostLine};
 ghost use Rattle.wpds_app.specs.declared.words.Options.{Options as OptionsValue};
-ghost use Rattle.wpds_app.specs.Reports.{ByQuery, IsReport, IsQueryText, TellsFeasibility, TellsReachability, TellsCost, TellsCosts};
+ghost use Rattle.wpds_app.specs.Reports.{ByQuery, IsReport, IsReported, IsQueryText, TellsFeasibility, TellsFeasibilityOver, TellsReachability, TellsCost, TellsCosts};
 
+use copy_weights::CopyConst;
 use cost_weights::{Cost, below_is_no_dearer};
 use document_systems::{DocumentWeights, documents_are_systems, unreachable_is_zero};
+use genkill_weights::GenKill;
 use pushdown_rules::{answers_are_greatest_below, zero_where_infeasible};
 use semiring_laws::Reach;
 
@@ -52,6 +54,16 @@ pub fn reports_tell_reachability()
         → ByQuery (TellsReachability d) 1 d.queries report }
 {}
 
+// The same over a semiring that a document can name.
+fn reports_over_tell_feasibility<S: DocumentWeights>()
+    ensures { (s : S) (d : Document) (options : OptionsValue) (report : List ℕ)
+        → S.kind.named s → IsDocument d → IsReported S.kind options s d report
+        → ByQuery (TellsFeasibilityOver S.kind s d) 1 d.queries report }
+{
+    unreachable_where_infeasible::<S>();
+    documents_are_systems::<S>();
+}
+
 /// The report on a document says `unreachable` of a query exactly when no feasible run leads from
 /// its first pattern to its second, whatever the weights are.
 pub fn reports_tell_feasibility()
@@ -59,10 +71,14 @@ pub fn reports_tell_feasibility()
         → IsDocument d → IsReport options d report
         → ByQuery (TellsFeasibility d) 1 d.queries report }
 {
-    unreachable_where_infeasible::<Reach>();
-    unreachable_where_infeasible::<Cost>();
-    documents_are_systems::<Reach>();
-    documents_are_systems::<Cost>();
+    reports_over_tell_feasibility::<Reach>();
+    reports_over_tell_feasibility::<Cost>();
+    reports_over_tell_feasibility::<GenKill<1>>();
+    reports_over_tell_feasibility::<GenKill<2>>();
+    reports_over_tell_feasibility::<GenKill<4>>();
+    reports_over_tell_feasibility::<GenKill<8>>();
+    reports_over_tell_feasibility::<GenKill<16>>();
+    reports_over_tell_feasibility::<CopyConst>();
 }
 
 /// The report on a document with `weights cost CAP` says of each query that no run leads there, or the cost of a

@@ -1,5 +1,5 @@
 ghost use Rattle.std.specs.Prelude.{◌≡◌, ◌<◌, ◌≤◌, All, IfOk, OnOk, MatchOption, None, Some, length, slice_set};
-ghost use Rattle.wpds_base.specs.Limits.{most_cost};
+ghost use Rattle.wpds_base.specs.Limits.{most_copied, most_cost};
 ghost use Rattle.document_forms.specs.Lawful.{IsDocument, IsQueryOf};
 ghost use Rattle.document_systems.specs.Systems.{system_of, side_of};
 ghost use Rattle.prestar_laws.specs.Ways.{pre_way};
@@ -9,9 +9,11 @@ ghost use Rattle.wpds_app.specs.private.Kept.{AreKept, TellsAt};
 
 use crate::Options;
 use crate::alike::same_pattern;
+use copy_weights::CopyConst;
 use cost_weights::Cost;
 use document_forms::{Document, PatternText, QueryLine, WeightsLine};
 use document_systems::{DocumentWeights, Names, pattern_from, system_from};
+use genkill_weights::with_width;
 use path_sum::Answer;
 use pushdown_rules::System;
 use query_answers::{Saturation, answer_over, saturate};
@@ -205,6 +207,14 @@ fn costs(cap: u64) -> Cost
     }
 }
 
+// The copy constants over so many variables.
+fn copies(variables: usize) -> CopyConst
+    requires { variables ≤ most_copied }
+    ensures { result ≡ variables }
+{
+    CopyConst::new(variables as u32)
+}
+
 /// The report on a document, if the semiring of its weights is built.
 pub(crate) fn report(
     alloc: Global,
@@ -216,10 +226,15 @@ pub(crate) fn report(
         (IsBuilt document.now → ⊥)
         (IsReport options document.now)) }
 {
+    let items = document.items.len();
     let text = match document.weights {
         WeightsLine::Reach => report_over(alloc, Reach, document, options)?,
         WeightsLine::Cost { cap } => report_over(alloc, costs(cap), document, options)?,
-        WeightsLine::GenKill | WeightsLine::Copy | WeightsLine::Relation => return Ok(None),
+        WeightsLine::GenKill => {
+            with_width!(items, genkill => report_over(alloc, genkill, document, options)?)
+        }
+        WeightsLine::Copy => report_over(alloc, copies(items), document, options)?,
+        WeightsLine::Relation => return Ok(None),
     };
     Ok(Some(text))
 }
