@@ -1,2 +1,3 @@
 -- What crates above may cite.
+pub use Rattle.copy_weights.specs.private.SetLaws.{has_above}
 pub use Rattle.copy_weights.proofs.ChangeLemmas.{made_fits}

@@ -1,5 +1,6 @@
 mod PatternLemmas
 mod LineLemmas
+mod ConstantLemmas
 mod RowLemmas
 mod RuleLemmas
 mod SetLemmas

@@ -1,5 +1,5 @@
 -- Facts as weights: what the weights of a document are worth over 64 n facts, and how values are written.
-use Rattle.std.specs.Prelude.{◌≡◌, ◌≢◌, ℕ, ◌*◌, ◌<◌, ◌≤◌, Bool, false, not, All, List, [], ◌∷◌, ◌++◌, filter, length, map, codes}
+use Rattle.std.specs.Prelude.{◌≡◌, ◌≢◌, ℕ, ◌*◌, ◌<◌, ◌≤◌, Bool, true, false, not, All, List, [], ◌∷◌, ◌++◌, filter, length, map, codes}
 use Rattle.wpds_base.specs.Limits.{most_facts}
 use Rattle.semiring_laws.specs.Semiring.{Fits}
 use Rattle.genkill_weights.specs.declared.genkill.GenKill.{GenKill}
@@ -18,17 +18,18 @@ use Rattle.document_forms.specs.Writing.{spaced}
 use Rattle.document_systems.specs.Kinds.{Kind}
 use Rattle.document_systems.specs.ValueTexts.{names_where, or_one}
 
--- the facts behind `+`, and those behind `-`
-abbrev pub generated : List FactSign → List ℕ
-generated ss = map (λ s. s.fact) (filter (λ s. s.plus) ss)
+-- a fact behind `+`, or one behind `-`
+abbrev pub is_signed : (plus : Bool) → FactSign → Bool
+is_signed true s = s.plus
+is_signed false s = not s.plus
 
-abbrev pub killed : List FactSign → List ℕ
-killed ss = map (λ s. s.fact) (filter (λ s. not s.plus) ss)
+abbrev pub facts_behind : (plus : Bool) → List FactSign → List ℕ
+facts_behind plus ss = map (λ s. s.fact) (filter (is_signed plus) ss)
 
 -- a rule generates the facts behind `+`, kills those behind `-`, and keeps the others
 abbrev pub genkill_weight : (n : ℕ) → WeightText → GenKillW n
 genkill_weight n Zero = NoRun
-genkill_weight n (Facts ss) = weight_where n (is_listed (generated ss)) (is_listed (killed ss))
+genkill_weight n (Facts ss) = weight_where n (is_listed (facts_behind true ss)) (is_listed (facts_behind false ss))
 genkill_weight n _ = (genkill_operations n).one
 
 abbrev pub genkill_map : (n : ℕ) → MapText → MaskMap n

@@ -9,7 +9,7 @@ ghost use Rattle.document_systems.specs.CopyLaws.{copy_weights_fit, copy_maps_fi
 ghost use Rattle.document_systems.specs.ValueTexts.{names_where};
 ghost use Rattle.document_systems.specs.private.Rows.{IsRow};
 
-use crate::row::Row;
+use crate::row::{Row, name_of};
 use crate::{DocumentWeights, Names};
 use copy_weights::{CopyConst, CopyMap, CopyW, Form};
 use document_forms::{FormText, MapText, VariableForm, WeightText};
@@ -49,12 +49,11 @@ fn push_variables(row: &mut Row, items: &Names, from: u64) -> Result<(), OutOfMe
     ensures { (mark : ℕ) (texts : List (List ℕ)) → IsRow mark texts row.old
         → IfOk result (λ _. IsRow mark (texts ++ names_where items.now (has from)) row.new) }
 {
-    let names = items.as_slice();
-    for variable in 0..names.len() {
+    for variable in 0..items.len() {
         if !has_variable(from, variable) {
             continue;
         }
-        row.push(names[variable].as_bytes())?;
+        row.push(name_of(items, variable))?;
     }
     Ok(())
 }
@@ -87,6 +86,16 @@ fn written_form(alloc: Global, items: &Names, form: Form) -> Result<Text, OutOfM
     }
 }
 
+// The form of a variable.
+fn form_at(forms: &[Form], variable: usize) -> Form
+    ensures { result ≡ form forms.now variable }
+{
+    match forms.get(variable) {
+        Some(form) => *form,
+        None => Form::Varying,
+    }
+}
+
 // A variable by its name, and what it holds.
 fn written_change(
     alloc: Global,
@@ -96,13 +105,10 @@ fn written_change(
 ) -> Result<Text, OutOfMemory>
     ensures { IfOk result (λ t. t ≡ change_text items.now forms.now variable) }
 {
-    let form = forms.get(variable).copied().unwrap_or(Form::Varying);
-    let mut text = Vec::new(alloc);
-    if let Some(name) = items.as_slice().get(variable) {
-        text.extend_from_slice(name.as_bytes())?;
-    }
+    let mut text = Vec::from_slice(alloc, name_of(items, variable))?;
     text.push(b'=')?;
-    text.extend_from_slice(written_form(alloc, items, form)?.as_bytes())?;
+    let form = written_form(alloc, items, form_at(forms, variable))?;
+    text.extend_from_slice(form.as_bytes())?;
     Ok(Text::from_vec(text))
 }
 
@@ -112,7 +118,8 @@ fn written_forms(alloc: Global, items: &Names, forms: &[Form]) -> Result<Text, O
 {
     let mut row = Row::new(alloc, b' ');
     for variable in 0..items.len() {
-        row.push(written_change(alloc, items, forms, variable)?.as_bytes())?;
+        let change = written_change(alloc, items, forms, variable)?;
+        row.push(change.as_bytes())?;
     }
     row.push_if_none(b"-")?;
     Ok(row.into_text())
@@ -138,7 +145,10 @@ impl DocumentWeights for CopyConst {
                 let changes = changes_from(alloc, texts.as_slice())?;
                 self.make(alloc, &changes)
             }
-            _ => self.one(alloc),
+            WeightText::One
+            | WeightText::Number(_)
+            | WeightText::Facts(_)
+            | WeightText::Actions(_) => self.one(alloc),
         }
     }
 

@@ -1,14 +1,15 @@
 //! Facts as weights of a document.
 
-ghost use Rattle.std.specs.Prelude.{◌≡◌, ◌≢◌, ◌++◌, ℕ, List, IfOk, refl, filter, map, codes};
-ghost use Rattle.genkill_weights.specs.declared.weight.GenKillW.TheVariants.{Zero as NoRun};
-ghost use Rattle.document_systems.specs.FactWeights.{genkill_kind, genkill_text};
+ghost use Rattle.std.specs.Prelude.{◌≡◌, ◌++◌, ℕ, List, IfOk, refl, codes};
+ghost use Rattle.document_forms.specs.Writing.{spaced};
+ghost use Rattle.document_systems.specs.FactWeights as spec;
+ghost use Rattle.document_systems.specs.FactWeights.{genkill_kind};
 ghost use Rattle.document_systems.specs.FactLaws.{genkill_weights_fit, genkill_maps_fit, genkill_tells, genkill_zero};
 ghost use Rattle.document_systems.specs.ValueTexts.{names_where, or_one};
-ghost use Rattle.document_systems.specs.private.Facts.{is_signed, has_effect};
+ghost use Rattle.document_systems.specs.private.Facts.{has_effect};
 ghost use Rattle.document_systems.specs.private.Rows.{IsRow};
 
-use crate::row::Row;
+use crate::row::{Row, name_of};
 use crate::{DocumentWeights, Names};
 use document_forms::{FactSign, MapText, WeightText};
 use genkill_weights::{GenKill, GenKillW, MaskMap};
@@ -19,8 +20,7 @@ use wpds_port::Text;
 
 // The facts behind a sign.
 fn facts_behind(alloc: Global, signs: &[FactSign], plus: bool) -> Result<Vec<u32>, OutOfMemory>
-    ensures { IfOk result (λ facts.
-        facts.items ≡ map (λ s. s.fact) (filter (is_signed plus) signs.now)) }
+    ensures { IfOk result (λ facts. facts.items ≡ spec.facts_behind plus signs.now) }
 {
     let mut facts = Vec::new(alloc);
     for sign in signs {
@@ -58,13 +58,12 @@ fn push_facts<const N: usize>(
         → let found = names_where items.now (has_effect N effect weight.now) in
         IfOk result (λ _. IsRow mark (texts ++ or_one (codes "-") found) row.new) }
 {
-    let names = items.as_slice();
     let mut none = true;
-    for number in 0..names.len() {
+    for number in 0..items.len() {
         if !has(weight, effect, number) {
             continue;
         }
-        row.push(names[number].as_bytes())?;
+        row.push(name_of(items, number))?;
         none = false;
     }
     if none {
@@ -73,13 +72,13 @@ fn push_facts<const N: usize>(
     Ok(())
 }
 
-// The text of a weight that is some run's.
+// What a weight does to the facts.
 fn effects_text<const N: usize>(
     alloc: Global,
     items: &Names,
     weight: &GenKillW<N>,
 ) -> Result<Text, OutOfMemory>
-    ensures { weight.now ≢ NoRun → IfOk result (λ t. t ≡ genkill_text N items.now weight.now) }
+    ensures { IfOk result (λ t. t ≡ spaced (spec.effect_words N items.now weight.now)) }
 {
     let mut row = Row::new(alloc, b' ');
     row.push(b"gen")?;
@@ -110,7 +109,10 @@ impl<const N: usize> DocumentWeights for GenKill<N> {
                 let killed = facts_behind(alloc, signs.as_slice(), false)?;
                 Ok(self.make(&generated, &killed))
             }
-            _ => self.one(alloc),
+            WeightText::One
+            | WeightText::Number(_)
+            | WeightText::Forms(_)
+            | WeightText::Actions(_) => self.one(alloc),
         }
     }
 
@@ -124,9 +126,9 @@ impl<const N: usize> DocumentWeights for GenKill<N> {
         items: &Names,
         value: &GenKillW<N>,
     ) -> Result<Text, OutOfMemory> {
-        if self.is_zero(value) {
-            return Text::of(alloc, b"unreachable");
+        match value {
+            GenKillW::Zero => Text::of(alloc, b"unreachable"),
+            GenKillW::Map { .. } => effects_text(alloc, items, value),
         }
-        effects_text(alloc, items, value)
     }
 }

@@ -2,12 +2,24 @@
 
 ghost use Rattle.std.specs.Prelude.{◌≡◌, ℕ, List, [], ◌∷◌, ◌++◌, IfOk};
 ghost use Rattle.std.specs.List.{join_with_byte};
+ghost use Rattle.document_forms.specs.Names.{name};
 ghost use Rattle.document_systems.specs.ValueTexts.{or_one};
 ghost use Rattle.document_systems.specs.private.Rows.{IsRow};
 
+use crate::Names;
 use std::alloc::Global;
 use wpds_base::OutOfMemory;
 use wpds_port::Text;
+
+/// The name with a number, or nothing where there is none.
+pub(crate) fn name_of(names: &Names, number: usize) -> &[u8]
+    ensures { result.now ≡ name names.now number }
+{
+    match names.as_slice().get(number) {
+        Some(name) => name.as_bytes(),
+        None => b"",
+    }
+}
 
 /// Texts in a row, with a mark between each two.
 #[derive(Drop)]
