@@ -1,5 +1,5 @@
 -- Reports on reachability.
-use Rattle.std.proofs.Common.{◌≡◌, inl, inr, ℕ, zero, suc, Bool, true, false, ◌&&◌, ◌||◌, List, [], ◌∷◌, map, Option, Some, None, refl, sym, ap, subst, ◌∙◌}
+use Rattle.std.proofs.Common.{◌≡◌, inl, inr, ℕ, zero, suc, Bool, true, false, ◌&&◌, ◌||◌, List, [], ◌∷◌, length, map, Option, Some, None, refl, sym, ap, subst, ◌∙◌}
 use Rattle.std.specs.Prelude.{◌≢◌, IfSome, codes, slice_get, unwrap_or, if◌then◌else◌}
 use Rattle.std.specs.List.{AllByRecursion, cons_option}
 use Rattle.semiring_laws.specs.declared.reach.Reach.{Reach as ReachValue}
@@ -215,4 +215,4 @@ module _ (d : Document) where
 pub tells : (d : Document) (options : Options) (report : List ℕ) → d.weights ≡ Reach → IsReport options d report → ByQuery (TellsReachability d) 1 d.queries report
 tells d options report reach is =
     of_each (λ i q text h. told d q options i text h) 1 d.queries report
-    (subst (λ w. BySemiring (λ S W Map kind semiring. IsReported kind options semiring d report) w) reach is)
+    (subst (λ w. BySemiring (λ S W Map kind semiring. IsReported kind options semiring d report) w (length d.items)) reach is)

@@ -1,6 +1,7 @@
 -- Reports over one semiring, and over that of a document.
-use Rattle.std.proofs.Common.{◌≡◌, ℕ, List, ap, subst, ◌∙◌}
-use Rattle.std.specs.Prelude.{Result, Ok, Err, IfOk, ◌↔◌, codes}
+use Rattle.std.proofs.Common.{◌≡◌, ℕ, Bool, true, false, cond, List, Some, None, ap, subst, ◌∙◌}
+use Rattle.std.specs.Prelude.{Result, Ok, Err, IfOk, ◌↔◌, codes, nat_le, unwrap_or}
+use Rattle.genkill_weights.specs.Widths.{width_for}
 use Rattle.semiring_laws.specs.Semiring.{Operations}
 use Rattle.config_patterns.specs.Membership.{PatternValue}
 use Rattle.pushdown_rules.specs.Pushdown.{Pushdown}
@@ -10,12 +11,14 @@ use Rattle.document_forms.specs.declared.document.QueryLine.{QueryLine}
 use Rattle.document_forms.specs.declared.weight.WeightsLine.{WeightsLine}
 use Rattle.document_forms.specs.declared.weight.WeightsLine.TheVariants.{Reach, Cost, GenKill, Copy, Relation}
 use Rattle.document_systems.specs.Kinds.{Kind}
+use Rattle.document_systems.specs.CopyWeights.{copy_kind}
+use Rattle.document_systems.specs.FactWeights.{genkill_kind}
 use Rattle.document_systems.specs.Weights.{reach_kind, cost_kind}
 use Rattle.report_text.specs.Listings.{query_line}
 use Rattle.path_sum.specs.declared.answer.Answer.{Answer}
 use Rattle.query_answers.specs.Answering.{IsAnswer}
 use Rattle.wpds_app.specs.declared.words.Options.{Options}
-use Rattle.wpds_app.specs.Reports.{ByQuery, query_text, IsQueryText, IsReported, BySemiring, ByDocument, IsBuilt, IsInfeasible}
+use Rattle.wpds_app.specs.Reports.{ByQuery, query_text, IsQueryText, IsReported, BySemiring, IsInfeasible, TellsFeasibilityOver}
 
 -- an answer between two patterns is one between equal patterns
 pub between_equals : {S W Map : Type 0} (operations : S → Operations W Map) (p : Pushdown S W Map) (a : Answer S W Map) (f from t to : PatternValue) → f ≡ from → t ≡ to
@@ -52,10 +55,45 @@ abbrev pub TellsOver : {S W Map : Type 0} → Kind S W Map → S → Document �
 TellsOver kind semiring d options report =
     IsReported kind options semiring d report → ByQuery (TellsFeasibilityOver kind semiring d) 1 d.queries report
 
--- over facts of each width
+-- what the report says of feasibility, if the weights are these over so many facts or variables
+abbrev pub TellsFeasibilityBy : WeightsLine → ℕ → Document → ℕ → QueryLine → List ℕ → Type 0
+TellsFeasibilityBy weights items d i q text =
+    (text ≡ query_line i (codes "unreachable")) ↔ BySemiring (λ S W Map kind semiring. IsInfeasible kind semiring d q) weights items
+
+-- over facts, whatever the width
 pub record TellOverFacts (d : Document) (options : Options) (report : List ℕ) : Type 0 where
   pub one : TellsOver (genkill_kind 1) (record {}) d options report
   pub two : TellsOver (genkill_kind 2) (record {}) d options report
   pub four : TellsOver (genkill_kind 4) (record {}) d options report
   pub eight : TellsOver (genkill_kind 8) (record {}) d options report
   pub sixteen : TellsOver (genkill_kind 16) (record {}) d options report
+
+-- this holds of the width for so many facts, if it holds of each width
+pub of_widths : (P : ℕ → Type 0) → P 1 → P 2 → P 4 → P 8 → P 16 → (facts : ℕ) → P (width_for facts)
+of_widths P one two four eight sixteen facts = go (nat_le facts 64) (nat_le facts 128) (nat_le facts 256) (nat_le facts 512) (nat_le facts 1024)
+  where
+    go : (a b c d e : Bool) → P (unwrap_or (cond a (Some 1) (cond b (Some 2) (cond c (Some 4) (cond d (Some 8) (cond e (Some 16) None))))) 16)
+    go true b c d e = one
+    go false true c d e = two
+    go false false true d e = four
+    go false false false true e = eight
+    go false false false false true = sixteen
+    go false false false false false = sixteen
+
+over_facts : (d : Document) (options : Options) (report : List ℕ) → TellOverFacts d options report → (facts : ℕ) → TellsOver (genkill_kind (width_for facts)) (record {}) d options report
+over_facts d options report tell facts =
+    of_widths (λ n. TellsOver (genkill_kind n) (record {}) d options report) tell.one tell.two tell.four tell.eight tell.sixteen facts
+
+-- weights by weights
+pub by_weights : (d : Document) (options : Options) (report : List ℕ)
+    → TellsOver reach_kind (record {}) d options report
+    → ((cap : ℕ) → IsWeightsLine (Cost cap) → TellsOver cost_kind cap d options report)
+    → TellOverFacts d options report
+    → ((variables : ℕ) → TellsOver copy_kind variables d options report)
+    → (weights : WeightsLine) (items : ℕ) → IsWeightsLine weights → BySemiring (λ S W Map kind semiring. IsReported kind options semiring d report) weights items
+    → ByQuery (TellsFeasibilityBy weights items d) 1 d.queries report
+by_weights d options report reach cost facts copy Reach items named reported = reach reported
+by_weights d options report reach cost facts copy (Cost cap) items named reported = cost cap named reported
+by_weights d options report reach cost facts copy GenKill items named reported = over_facts d options report facts items reported
+by_weights d options report reach cost facts copy Copy items named reported = copy items reported
+by_weights d options report reach cost facts copy Relation items named reported = absurd reported

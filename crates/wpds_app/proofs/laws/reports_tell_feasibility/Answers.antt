@@ -1,16 +1,18 @@
-use Rattle.document_systems.specs.Weights.{reach_kind, cost_kind}
-use Rattle.document_systems.specs.Systems.{system_of, side_of}
-use Rattle.wpds_app.proofs.PartLemmas.{of_each}
+use Rattle.std.proofs.Common.{length}
 use Rattle.wpds_app.proofs.ReportingLemmas.{by_weights}
 use Rattle.wpds_app.proofs.laws.reports_tell_feasibility.Goals as goal
 
 pub returns : goal.returns
 returns c = λ d options report is reported.
     by_weights d options report
-    (λ over.
-    let system = c.documents_are_systems.ensures (record {}) d tt is in
-    of_each (λ i q text h. c.unreachable_where_infeasible.ensures (system_of reach_kind (record {}) d) d.items i (side_of d q.from) (side_of d q.to) options text tt system h) 1 d.queries report over)
-    (λ cap named over.
-    let system = c.documents_are_systems-2.ensures cap d named is in
-    of_each (λ i q text h. c.unreachable_where_infeasible-2.ensures (system_of cost_kind cap d) d.items i (side_of d q.from) (side_of d q.to) options text named system h) 1 d.queries report over)
-    d.weights is.weights reported
+    (c.reports_over_tell_feasibility.ensures (record {}) d options report tt is)
+    (λ cap named. c.reports_over_tell_feasibility-2.ensures cap d options report named is)
+    (record {
+      one = c.reports_over_tell_feasibility-3.ensures (record {}) d options report tt is;
+      two = c.reports_over_tell_feasibility-4.ensures (record {}) d options report tt is;
+      four = c.reports_over_tell_feasibility-5.ensures (record {}) d options report tt is;
+      eight = c.reports_over_tell_feasibility-6.ensures (record {}) d options report tt is;
+      sixteen = c.reports_over_tell_feasibility-7.ensures (record {}) d options report tt is;
+    })
+    (λ variables. c.reports_over_tell_feasibility-8.ensures variables d options report tt is)
+    d.weights (length d.items) is.weights reported

@@ -1,4 +1,4 @@
-use Rattle.std.proofs.Common.{inr, subst}
+use Rattle.std.proofs.Common.{inr, length, subst}
 use Rattle.std.specs.Prelude.{MatchOption}
 use Rattle.wpds_app.specs.declared.input.Input.TheVariants.{System}
 use Rattle.wpds_app.specs.Reports.{IsBuilt, IsReport}
@@ -14,7 +14,7 @@ returns-in-Some c =
     let d = c.args.document.now in
     let text = c.in-Some.text in
     let told = subst (λ found. MatchOption found (IsBuilt d → ⊥) (λ t. IsReport c.args.options d t)) c.in-Some.is c.in_ok-text.ensures in
-    (System d, record { means = c.requires; answerable = is_built d.weights d c.args.options text told }, told)
+    (System d, record { means = c.requires; answerable = is_built d.weights (length d.items) d c.args.options text told }, told)
 
 pub returns-in-None : goal.returns-in-None
 returns-in-None c =
