@@ -1,2 +1,3 @@
 -- What crates above may cite.
 pub use Rattle.copy_weights.proofs.ChangeLemmas.{made_fits}
+pub use Rattle.copy_weights.specs.private.SetLaws.{sets_same_below}
