@@ -1,4 +1,5 @@
 -- What the code keeps. No public clause cites it.
 pub mod Facts
 pub mod PartLaws
+pub mod RowLaws
 pub mod Rows
