@@ -2,3 +2,4 @@ mod MakingLemmas
 mod FunctionLemmas
 mod EffectLemmas
 mod WidthLemmas
+pub mod CallerLemmas
