@@ -44,9 +44,6 @@ module _ (n : ℕ) (mask : List ℕ) (fit : IsTrue (is_mask n mask)) where
     | inr more ↦ let e = none_beyond i (omega (arith, more)) in omega (arith, e)
   ]
 
-  fact_beyond : (f : ℕ) → 64 * n ≤ f → fact mask f ≡ false
-  fact_beyond f h = ap (λ w. has w (f % 64)) (none_beyond (f / 64) (omega (arith, h))) ∙ has_zero (f % 64)
-
 -- ---- functions on sets
 
 pub some_same : (x y : ℕ → Bool) → ((f : ℕ) → x f ≡ y f) → Some x ≡ Some y

@@ -1,5 +1,5 @@
 -- Masks by their facts: one more fact, all but some, and the facts that a weight is made of.
-use Rattle.std.proofs.Common.{◌≡◌, ◌≢◌, ℕ, zero, suc, ◌+◌, ◌-◌, ◌*◌, ◌/◌, ◌%◌, ◌^◌, ◌<◌, ◌≤◌, Bool, true, false, not, ◌&&◌, ◌||◌, List, [], ◌∷◌, ◌++◌, length, get_or, set, replicate, length-set, get_or-set_same, get_or-set_other, mod-lt, pow_pos, w64, refl, sym, subst, ap, ap₂, ◌∙◌, inl, inr, arith}
+use Rattle.std.proofs.Common.{◌≡◌, ◌≢◌, ℕ, zero, suc, ◌+◌, ◌-◌, ◌*◌, ◌/◌, ◌%◌, ◌^◌, ◌<◌, ◌≤◌, Bool, true, false, not, ◌&&◌, ◌||◌, List, length, get_or, set, replicate, length-set, get_or-set_same, get_or-set_other, mod-lt, pow_pos, w64, refl, sym, subst, ap, ap₂, ◌∙◌, inl, inr, arith}
 use Rattle.std.specs.Prelude.{IsTrue, nat_eq, nat_lt, cond, bit_and, bit_or}
 use Rattle.std.proofs.lemmas.Bool.{cases_eq, eqb-true, eq-eqb, false_from_ne_true, and_from, lt-ltb}
 use Rattle.std.proofs.lemmas.Nat.Bits.{bit_at_set_same, bit_at_set_other, bit_at-pow_same, bit_at-pow_other, bit_at_above}
@@ -21,10 +21,6 @@ or_true false = refl
 or_false : (b : Bool) → (b || false) ≡ b
 or_false true = refl
 or_false false = refl
-
-or_next : (a b c : Bool) → ((a || b) || c) ≡ (a || (b || c))
-or_next true b c = refl
-or_next false b c = refl
 
 -- a word with one more bit
 abbrev pub with_bit : ℕ → ℕ → ℕ
@@ -90,15 +86,7 @@ mask_added n mask g h below =
       | inr apart ↦ ap (λ w. nat_lt w (2 ^ 64)) (word_other mask g i apart) ∙ lt-ltb (word mask i) (2 ^ 64) (mask_word n mask h i less)
     ]))
 
--- a fact that a mask has no room for changes none that it has room for
-pub fact_left_out : (n : ℕ) (mask : List ℕ) (g : ℕ) → n ≤ g / 64 → (f : ℕ) → f < 64 * n → fact mask f ≡ (fact mask f || nat_eq g f)
-fact_left_out n mask g beyond f below = sym (ap (λ b. fact mask f || b) (apart_false g f (λ e. omega (arith, e, beyond, below))) ∙ or_false (fact mask f))
-
 -- ---- masks of lists
-
-pub listed_push : (facts : List ℕ) (g f : ℕ) → is_listed (facts ++ g ∷ []) f ≡ (is_listed facts f || nat_eq g f)
-listed_push [] g f = or_false (nat_eq g f)
-listed_push (h ∷ facts) g f = ap (λ b. nat_eq h f || b) (listed_push facts g f) ∙ sym (or_next (nat_eq h f) (is_listed facts f) (nat_eq g f))
 
 pub none_mask : (n : ℕ) → IsTrue (is_mask n (replicate n 0))
 none_mask n = ap (is_mask n) (replicate_is n 0) ∙ mask_tabulate n (λ i. 0) (λ i b. omega arith)

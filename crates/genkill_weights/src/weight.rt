@@ -14,8 +14,8 @@ pub enum GenKillW<const N: usize> {
 impl<const N: usize> GenKillW<N> {
     ghost use Rattle.genkill_weights.specs.Effects.{generates, kills};
 
-    /// Whether a fact holds after these runs, whatever held before. No run generates a fact, and no fact beyond the width
-    /// is generated.
+    /// Whether a fact holds after these runs, whatever held before. Zero generates none, and none beyond the width is
+    /// generated.
     pub fn generates(&self, fact: usize) -> bool
         ensures { result ≡ generates N self.now fact }
     {
@@ -25,8 +25,8 @@ impl<const N: usize> GenKillW<N> {
         }
     }
 
-    /// Whether a fact does not hold after these runs, whatever held before. No run kills a fact, and no fact beyond the
-    /// width is killed.
+    /// Whether a fact does not hold after these runs, whatever held before. Zero kills none, and none beyond the width is
+    /// killed.
     pub fn kills(&self, fact: usize) -> bool
         ensures { result ≡ kills N self.now fact }
     {
