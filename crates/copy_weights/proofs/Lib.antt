@@ -1,4 +1,5 @@
-mod ChangeLemmas
+mod Examples
 mod LoopLemmas
+mod MakingLemmas
 mod ValueLemmas
 pub mod CallerLemmas

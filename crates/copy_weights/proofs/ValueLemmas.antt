@@ -1,8 +1,9 @@
 -- What weights say of values, by forms without sources in place of what is known.
-use Rattle.std.proofs.Common.{◌≡◌, ◌≢◌, ℕ, zero, suc, ◌<◌, ◌≤◌, ◌^◌, ℤ, Bool, true, false, refl, sym, ap, ap₂, ◌∙◌, inl, inr, arith}
-use Rattle.std.specs.Prelude.{IsTrue, Option, None, Some, nat_eq, cond}
+use Rattle.std.proofs.Common.{◌≡◌, ◌≢◌, ℕ, zero, suc, ◌<◌, ◌≤◌, ◌^◌, ℤ, Bool, true, false, refl, sym, ap, ap₂, subst, ◌∙◌, inl, inr, arith}
+use Rattle.std.specs.Prelude.{◌⊎◌, IsTrue, Option, None, Some, nat_eq, cond}
 use Rattle.std.specs.Ordering.{int_eq}
-use Rattle.std.proofs.lemmas.Bool.{cases_eq, cond-true, cond-false, false_from_ne_true, ltb-true, eqb-true, eq-eqb}
+use Rattle.std.proofs.lemmas.Option.{same_Some}
+use Rattle.std.proofs.lemmas.Bool.{cases_Bool, cases_eq, cond-true, cond-false, false_from_ne_true, ltb-true, eqb-true, eq-eqb}
 use Rattle.semiring_laws.specs.Semiring.{Fits}
 use Rattle.copy_weights.specs.declared.form.Form.{Form}
 use Rattle.copy_weights.specs.declared.form.Form.TheVariants.{Varying, Meet}
@@ -11,7 +12,7 @@ use Rattle.copy_weights.specs.declared.form.CopyW.TheVariants.{Zero, Map}
 use Rattle.copy_weights.specs.declared.form.CopyMap.TheVariants.{Restore}
 use Rattle.copy_weights.specs.Forms.{joined, with_constant, meet, undefined, itself, has, meet_over, put, form, form_fits}
 use Rattle.copy_weights.specs.CopyConst.{copy_operations}
-use Rattle.copy_weights.specs.Values.{Known, either, constant, one_of, value, values}
+use Rattle.copy_weights.specs.Values.{Known, either, constant, one_of, value, values, IsPart, IsKnownOf}
 use Rattle.copy_weights.specs.Values.Known.{Undefined, Number, Varies}
 use Rattle.copy_weights.specs.private.SetLaws.{sets_same_below}
 use Rattle.copy_weights.specs.private.FormLaws.{int_itself, int_apart, int_cases, joined_equal, joined_apart, constants_meet, undefined_meet, meet_undefined, choice, meet_over_step, put_meet, put_put, put_same, put_undefined, put_constant, put_of_itself}
@@ -103,6 +104,69 @@ value_put n f g old =
     ∙ sym (put_put n (λ i. as_form (old i)) f g)
     ∙ sym (as_form-value n g (λ k. value n (f k) old)
     ∙ put_same n (λ i. as_form (value n (f i) old)) (λ i. put n (λ j. as_form (old j)) (f i)) g (λ k below. as_form-value n (f k) old)))
+
+-- ---- forms over numbers
+
+known_same : (P Q : ℤ → Type 0) (v : Known) → ((x : ℤ) → P x → Q x) → ((x : ℤ) → Q x → P x) → IsKnownOf v P → IsKnownOf v Q
+known_same P Q Undefined there back known = λ x q. known x (back x q)
+known_same P Q (Number x) there back known = (there x known.0, λ y q. known.1 y (back y q))
+known_same P Q Varies there back (x, y, p, q, apart) = (x, y, there x p, there y q, apart)
+
+known_either : (P Q : ℤ → Type 0) (u v : Known) → IsKnownOf u P → IsKnownOf v Q → IsKnownOf (either u v) (λ x. P x ⊎ Q x)
+known_either P Q Undefined v hu hv =
+    known_same Q (λ x. P x ⊎ Q x) v (λ x q. inr q) (λ x h. elim h [ inl p ↦ absurd (hu x p) | inr q ↦ q ]) hv
+known_either P Q (Number x) Undefined hu hv = (inl hu.0, λ y h. elim h [ inl p ↦ hu.1 y p | inr q ↦ absurd (hv y q) ])
+known_either P Q (Number x) (Number y) hu hv = elim (int_cases x y) [
+  | inl is ↦
+      let R : Known → Type 0 = λ v. IsKnownOf v (λ z. P z ⊎ Q z) in
+      subst R (sym (cond-true (int_eq x y) (Number x) Varies (int_itself x y is)))
+      (inl hu.0, λ z h. elim h [ inl p ↦ hu.1 z p | inr q ↦ hv.1 z q ∙ sym is ])
+  | inr apart ↦
+      let R : Known → Type 0 = λ v. IsKnownOf v (λ z. P z ⊎ Q z) in
+      subst R (sym (cond-false (int_eq x y) (Number x) Varies (int_apart x y apart))) (x, y, inl hu.0, inr hv.0, apart)
+]
+known_either P Q (Number x) Varies hu (y, z, p, q, apart) = (y, z, inr p, inr q, apart)
+known_either P Q Varies v (y, z, p, q, apart) hv = (y, z, inl p, inl q, apart)
+
+-- the old numbers of a set's members below k
+Among : ℕ → ℕ → (ℕ → ℤ) → ℤ → Type 0
+Among k s old x = (i : ℕ) × (i < k) × (has s i ≡ true) × (old i ≡ x)
+
+known_one_of : (k s : ℕ) (old : ℕ → ℤ) → IsKnownOf (one_of k s (λ i. Number (old i))) (Among k s old)
+unfolding one_of Among
+known_one_of zero s old = λ x p. absurd (omega (arith, p.1))
+known_one_of (suc k) s old =
+    let rest = known_one_of k s old in
+    elim (cases_Bool (has s k)) [
+      | inl is ↦
+          let R : Known → Type 0 = λ v. IsKnownOf v (Among (suc k) s old) in
+          subst R (sym (cond-true (has s k) (either (Number (old k)) (one_of k s (λ i. Number (old i)))) (one_of k s (λ i. Number (old i))) is))
+          (known_same (λ x. (old k ≡ x) ⊎ Among k s old x) (Among (suc k) s old) (either (Number (old k)) (one_of k s (λ i. Number (old i))))
+          (λ x h. elim h [ inl here ↦ (k, omega arith, is, here) | inr p ↦ (p.0, omega (arith, p.1), p.2, p.3) ])
+          (λ x p. elim (cases_eq p.0 k) [
+            | inl last ↦ inl (ap old (sym last) ∙ p.3)
+            | inr earlier ↦ inr (p.0, omega (arith, p.1, earlier), p.2, p.3)
+          ])
+          (known_either (λ x. old k ≡ x) (Among k s old) (Number (old k)) (one_of k s (λ i. Number (old i))) (refl, λ y e. sym e) rest))
+      | inr apart ↦
+          let R : Known → Type 0 = λ v. IsKnownOf v (Among (suc k) s old) in
+          subst R (sym (cond-false (has s k) (either (Number (old k)) (one_of k s (λ i. Number (old i)))) (one_of k s (λ i. Number (old i))) apart))
+          (known_same (Among k s old) (Among (suc k) s old) (one_of k s (λ i. Number (old i)))
+          (λ x p. (p.0, omega (arith, p.1), p.2, p.3))
+          (λ x p. elim (cases_eq p.0 k) [
+            | inl last ↦ (let f : true ≡ false = sym p.2 ∙ ap (has s) last ∙ apart in cc)
+            | inr earlier ↦ (p.0, omega (arith, p.1, earlier), p.2, p.3)
+          ])
+          rest)
+    ]
+
+known_constant : (c : Option ℤ) → IsKnownOf (constant c) (λ x. c ≡ Some x)
+known_constant None = λ x e. cc
+known_constant (Some x) = (refl, λ y e. sym (same_Some x y e))
+
+pub known_of_parts : (n s : ℕ) (c : Option ℤ) (old : ℕ → ℤ) → IsKnownOf (value n (Meet c s) (λ k. Number (old k))) (IsPart n c s old)
+unfolding Among
+known_of_parts n s c old = known_either (λ x. c ≡ Some x) (Among n s old) (constant c) (one_of n s (λ k. Number (old k))) (known_constant c) (known_one_of n s old)
 
 -- ---- weights
 

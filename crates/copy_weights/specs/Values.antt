@@ -1,5 +1,5 @@
 -- What weights say of values: maps from what is known of old values to what is known of new ones.
-use Rattle.std.specs.Prelude.{ℕ, zero, suc, ℤ, Option, None, Some, if◌then◌else◌}
+use Rattle.std.specs.Prelude.{◌≡◌, ◌≢◌, ◌<◌, ◌⊎◌, ℕ, zero, suc, ℤ, true, Option, None, Some, if◌then◌else◌}
 use Rattle.std.specs.Ordering.{int_eq}
 use Rattle.copy_weights.specs.declared.form.Form.{Form}
 use Rattle.copy_weights.specs.declared.form.Form.TheVariants.{Varying, Meet}
@@ -39,3 +39,16 @@ value n (Meet c s) old = either (constant c) (one_of n s old)
 abbrev pub values : ℕ → CopyW → (ℕ → Known) → ℕ → Known
 values n Zero old k = Undefined
 values n (Map fs) old k = value n (form fs k) old
+
+-- ---- forms over numbers
+
+-- x is the value of a part: the constant, or the old number of a source
+abbrev pub IsPart : ℕ → Option ℤ → ℕ → (ℕ → ℤ) → ℤ → Type 0
+IsPart n c s old x = (c ≡ Some x) ⊎ ((k : ℕ) × (k < n) × (has s k ≡ true) × (old k ≡ x))
+
+-- What is known of a value that is one of some numbers: nothing where there is none, the number where there is one, and
+-- where there are two that it varies.
+abbrev pub IsKnownOf : Known → (ℤ → Type 0) → Type 0
+IsKnownOf Undefined P = (x : ℤ) → P x → ⊥
+IsKnownOf (Number x) P = P x × ((y : ℤ) → P y → y ≡ x)
+IsKnownOf Varies P = (x : ℤ) × (y : ℤ) × P x × P y × (x ≢ y)

@@ -7,8 +7,8 @@ ghost use Rattle.copy_weights.specs.declared.form.CopyMap.TheVariants.{Restore};
 ghost use Rattle.copy_weights.specs.CopyConst.{copy_operations};
 ghost use Rattle.copy_weights.specs.CopyLaws.{copy_laws};
 
-use crate::changes::{set_of, with_changes};
 use crate::lists::{composed, identity, meets, restored};
+use crate::making::{set_of, with_changes};
 use crate::{CopyMap, CopyW, Form, Forms};
 use semiring_laws::Semiring;
 use std::alloc::Global;

@@ -1,4 +1,4 @@
-ghost use Rattle.std.specs.Prelude.{◌≡◌, ◌≢◌, ◌<◌, ℕ, ℤ, Some, cond};
+ghost use Rattle.std.specs.Prelude.{◌≡◌, ◌≢◌, ◌<◌, ℕ, ℤ, Option, Some, cond};
 ghost use Rattle.semiring_laws.specs.Semiring.{Fits};
 ghost use Rattle.copy_weights.specs.declared.form.Form.{Form};
 ghost use Rattle.copy_weights.specs.declared.form.Form.TheVariants.{Varying, Meet};
@@ -7,11 +7,12 @@ ghost use Rattle.copy_weights.specs.declared.form.CopyW.TheVariants.{Zero};
 ghost use Rattle.copy_weights.specs.declared.form.CopyMap.TheVariants.{Restore};
 ghost use Rattle.copy_weights.specs.Forms.{has, itself, meet, undefined};
 ghost use Rattle.copy_weights.specs.CopyConst.{copy_operations};
-ghost use Rattle.copy_weights.specs.Values.{Known, either, value, values};
+ghost use Rattle.copy_weights.specs.Values.{Known, either, value, values, IsPart, IsKnownOf};
 ghost use Rattle.copy_weights.specs.Values.Known.{Undefined, Number, Varies};
 
 /// What a form says of a value: it varies, it is undefined, it is a constant, it is the old value of a variable, or it
-/// is one of what two forms say.
+/// is one of what two forms say. Where the old values are numbers, a form without parts is undefined, one whose parts are
+/// all one number is that number, and one with two numbers varies.
 pub fn forms_tell_values()
     ensures varying { (n : ℕ) (old : ℕ → Known) → value n Varying old ≡ Varies }
     ensures undefined { (n : ℕ) (old : ℕ → Known) → value n undefined old ≡ Undefined }
@@ -20,6 +21,8 @@ pub fn forms_tell_values()
     ensures copy { (n k : ℕ) (old : ℕ → Known) → k < n → value n (itself k) old ≡ old k }
     ensures meet { (n : ℕ) (f g : Form) (old : ℕ → Known) →
         value n (meet f g) old ≡ either (value n f old) (value n g old) }
+    ensures parts { (n s : ℕ) (c : Option ℤ) (old : ℕ → ℤ) →
+        IsKnownOf (value n (Meet c s) (λ k. Number (old k))) (IsPart n c s old) }
 {}
 
 /// A weight is a map from what is known of the old values to what is known of the new ones, as an environment transformer

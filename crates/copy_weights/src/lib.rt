@@ -1,11 +1,11 @@
 //! Copy constants as weights: what each variable holds after runs, by what the variables held before them.
 #![tactic(auto)]
 
-mod changes;
 mod copy_const;
 mod form;
 mod laws;
 mod lists;
+mod making;
 mod meets;
 
 pub use copy_const::CopyConst;

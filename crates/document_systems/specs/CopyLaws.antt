@@ -12,7 +12,7 @@ use Rattle.copy_weights.specs.declared.form.CopyW.TheVariants.{Zero as NoRun, Ma
 use Rattle.copy_weights.specs.CopyConst.{copy_operations}
 use Rattle.copy_weights.specs.CopyLaws.{copy_laws, forms_alike, count, each_fits}
 use Rattle.copy_weights.specs.Forms.{has, form, form_fits}
-use Rattle.copy_weights.proofs.CallerLemmas.{made_fits, sets_same_below}
+use Rattle.copy_weights.proofs.CallerLemmas.{changes_fit, sets_same_below}
 use Rattle.wpds_base.specs.Limits.{most_copied}
 use Rattle.document_forms.specs.declared.weight.WeightText.{WeightText}
 use Rattle.document_forms.specs.declared.weight.WeightText.TheVariants.{One, Zero, Number, Facts, Forms, Actions}
@@ -26,7 +26,7 @@ use Rattle.document_systems.specs.private.PartLaws.{IsFree, IsOwnPart, begins_as
 
 pub copy_weights_fit : (n : ℕ) (t : WeightText) → Unit {0} → Fits (copy_operations n) (copy_weight n t)
 copy_weights_fit n Zero named = refl
-copy_weights_fit n (Forms ps) named = made_fits n (map change_of ps)
+copy_weights_fit n (Forms ps) named = changes_fit n (map change_of ps)
 copy_weights_fit n One named = (copy_laws n).fits-one
 copy_weights_fit n (Number k) named = (copy_laws n).fits-one
 copy_weights_fit n (Facts ss) named = (copy_laws n).fits-one

@@ -5,7 +5,7 @@ use Rattle.copy_weights.specs.declared.form.CopyW.{CopyW}
 use Rattle.copy_weights.specs.declared.form.CopyW.TheVariants.{Map}
 use Rattle.copy_weights.specs.Forms.{changes_of}
 use Rattle.copy_weights.specs.CopyConst.{weight_fits}
-use Rattle.copy_weights.proofs.ChangeLemmas.{made_fits, changes_whole}
+use Rattle.copy_weights.proofs.MakingLemmas.{changes_fit, changes_whole}
 use Rattle.copy_weights.proofs.copy_const.CopyConst.make.Goals as goal
 
 pub returns-clause-whole : goal.returns-clause-whole
@@ -23,4 +23,4 @@ returns-clause-fits c =
     let Q : ℕ → Type 0 = λ m. c.in_ok-forms.forms.items ≡ changes_of m cs in
     let P : CopyW → Type 0 = λ w. IsTrue (weight_fits n w) in
     let made : c.in_ok-forms.forms.items ≡ changes_of n cs = subst Q c.self.view_is c.in_ok-forms.ensures in
-    IfOk-weaker c.map_of.result _ _ (λ w is. subst P (sym (is ∙ ap Map made)) (made_fits n cs)) c.map_of.ensures
+    IfOk-weaker c.map_of.result _ _ (λ w is. subst P (sym (is ∙ ap Map made)) (changes_fit n cs)) c.map_of.ensures

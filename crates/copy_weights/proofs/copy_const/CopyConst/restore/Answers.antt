@@ -1,4 +1,4 @@
-use Rattle.copy_weights.proofs.ChangeLemmas.{set_of_has}
+use Rattle.copy_weights.proofs.MakingLemmas.{set_of_has}
 use Rattle.copy_weights.proofs.copy_const.CopyConst.restore.Goals as goal
 
 pub returns-clause-variables : goal.returns-clause-variables

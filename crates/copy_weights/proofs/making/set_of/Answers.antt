@@ -2,8 +2,8 @@ use Rattle.std.proofs.Common.{ap, sym, ◌∙◌}
 use Rattle.std.proofs.lemmas.List.{take_more}
 use Rattle.std.proofs.Common.{take, get_or}
 use Rattle.copy_weights.specs.Forms.{set_of}
-use Rattle.copy_weights.proofs.ChangeLemmas.{set_of_none, set_of_more}
-use Rattle.copy_weights.proofs.changes.set_of.Goals as goal
+use Rattle.copy_weights.proofs.MakingLemmas.{set_of_none, set_of_more}
+use Rattle.copy_weights.proofs.making.set_of.Goals as goal
 
 pub loop-k-init : goal.loop-k-init
 loop-k-init c = set_of_none c.args.n

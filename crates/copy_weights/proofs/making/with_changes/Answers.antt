@@ -3,8 +3,8 @@ use Rattle.std.proofs.Math.Seq.{take-append_seam, drop-length}
 use Rattle.copy_weights.specs.declared.form.Form.{Form}
 use Rattle.copy_weights.specs.declared.form.Form.TheVariants.{Varying}
 use Rattle.copy_weights.specs.Forms.{over, changes_of}
-use Rattle.copy_weights.proofs.ChangeLemmas.{unchanged, change_set}
-use Rattle.copy_weights.proofs.changes.with_changes.Goals as goal
+use Rattle.copy_weights.proofs.MakingLemmas.{unchanged, change_set}
+use Rattle.copy_weights.proofs.making.with_changes.Goals as goal
 
 -- the list from one place on, where places are counted from the end
 drop_next : (cs : List (ℕ × Form)) (k : ℕ) → k < length cs → drop (length cs - (k + 1)) cs ≡ get_or cs (length cs - 1 - k) (0, Varying) ∷ drop (length cs - k) cs

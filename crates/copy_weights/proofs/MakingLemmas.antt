@@ -6,11 +6,12 @@ use Rattle.std.proofs.Math.Nat.{mod-lt, mod-eq_of_lt}
 use Rattle.std.proofs.lemmas.List.Elements.{recursion_from_All}
 use Rattle.std.proofs.lemmas.List.Folds.{list_any-append}
 use Rattle.std.proofs.lemmas.Bool.{cases_lt, cases_eq, cases_Bool, cond-true, cond-false, false_from_ne_true, eqb-true, eq-eqb, ltb-true, lt-ltb}
+use Rattle.semiring_laws.specs.Semiring.{Fits}
 use Rattle.copy_weights.specs.declared.form.Form.{Form}
 use Rattle.copy_weights.specs.declared.form.Form.TheVariants.{Varying, Meet}
 use Rattle.copy_weights.specs.declared.form.CopyW.TheVariants.{Map}
 use Rattle.copy_weights.specs.Forms.{has, itself, identity, tabulate, form, form_fits, over, changed, changes_of, AreChanges, is_listed, set_of}
-use Rattle.copy_weights.specs.CopyConst.{weight_fits}
+use Rattle.copy_weights.specs.CopyConst.{copy_operations}
 use Rattle.copy_weights.specs.private.SetLaws.{has_or, has_zero, has_pow_same, has_pow_other, sets_same, set_below_has, set_below_past}
 use Rattle.copy_weights.specs.CopyLaws.{length_tabulate, form_tabulate, tabulate_same, forms_by_places, fits_tabulate, itself_fits}
 
@@ -54,8 +55,9 @@ change_set n c cs list e =
           ∙ sym (get_or-set_other list c.0 i (over n c.1) Varying apart)
     ]))
 
-pub made_fits : (n : ℕ) (cs : List (ℕ × Form)) → IsTrue (weight_fits n (Map (changes_of n cs)))
-made_fits n cs = fits_tabulate n (λ k. over n (changed cs k)) (λ k below. over_fits n (changed cs k))
+-- the weight of changes is a weight over n variables
+pub changes_fit : (n : ℕ) (cs : List (ℕ × Form)) → Fits (copy_operations n) (Map (changes_of n cs))
+changes_fit n cs = fits_tabulate n (λ k. over n (changed cs k)) (λ k below. over_fits n (changed cs k))
 
 changed_fits : (n : ℕ) (cs : List (ℕ × Form)) → AllByRecursion (λ c. (c.0 < n) × IsTrue (form_fits n c.1)) cs → (k : ℕ) → k < n → IsTrue (form_fits n (changed cs k))
 changed_fits n [] all k below = itself_fits n k below
