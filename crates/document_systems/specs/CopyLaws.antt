@@ -22,7 +22,8 @@ use Rattle.document_forms.specs.Lawful.{AreNames, IsConstant}
 use Rattle.document_forms.specs.Writing.{constant_texts}
 use Rattle.document_systems.specs.ValueTexts.{names_where}
 use Rattle.document_systems.specs.CopyWeights.{change_of, copy_weight, copy_map, form_text, change_text, copy_text, HasConstant, IsToldByVariables}
-use Rattle.document_systems.specs.private.PartLaws.{IsFree, IsOwnPart, begins_as_name, free_test, free_append, marked, row_tells, row_differs, each_of, rows_of_tell, each_where, names_tell, name_own, name_first, own_parts, constant_tells, name_free_of_blank, parts_tell, parts_free_of_blank, parts_no_question}
+use Rattle.document_systems.specs.private.RowLaws.{names_tell}
+use Rattle.document_systems.specs.private.PartLaws.{IsFree, IsOwnPart, begins_as_name, free_test, free_append, marked, row_tells, row_differs, each_of, rows_of_tell, each_where, name_own, name_first, own_parts, constant_tells, name_free_of_blank, parts_tell, parts_free_of_blank, parts_no_question}
 
 pub copy_weights_fit : (n : ℕ) (t : WeightText) → Unit {0} → Fits (copy_operations n) (copy_weight n t)
 copy_weights_fit n Zero named = refl
@@ -71,7 +72,7 @@ module _ (variables : List (List ℕ)) (are : AreNames most_copied variables) wh
       let both = constant_tells variables c d (names_where variables (has s)) (names_where variables (has t)) is is' (begin s) (begin t)
       (parts_tell (parts c s) (parts d t) (own c s is) (own d t is') e) in
       ap₂ Meet both.0 (sets_same_below n s t (ltb-true s (2 ^ n) fits) (ltb-true t (2 ^ n) fits')
-      (λ k low. names_tell variables (has s) (has t) are.once both.1 k (omega (arith, all))))
+      (λ k low. names_tell variables are.once (has s) (has t) both.1 k (omega (arith, all))))
 
   form_free : (f : Form) → HasConstant f → IsFree 32 (form_text variables f)
   form_free Varying is = free_test 32 (codes "?") refl

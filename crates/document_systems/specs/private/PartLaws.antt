@@ -1,10 +1,11 @@
 -- Texts of names and constants with a mark between tell these.
 use Rattle.std.proofs.Common.{◌≡◌, ◌≢◌, ℕ, zero, suc, ◌+◌, ◌^◌, ◌<◌, ◌≤◌, Bool, true, false, not, List, [], ◌∷◌, ◌++◌, length, map, refl, sym, ap, ap₂, subst, ◌∙◌, inl, inr, arith}
-use Rattle.std.specs.Prelude.{nat_eq, cond, filter, codes, decimal, ℤ, pos, negsuc, Option, None, Some, IfSome}
+use Rattle.std.specs.Prelude.{All, nat_eq, cond, filter, codes, decimal, ℤ, pos, negsuc, Option, None, Some, IfSome}
 use Rattle.std.specs.Fmt.{signed_decimal}
 use Rattle.std.specs.List.{join_with_byte, range_with_len, list_all, AllByRecursion}
 use Rattle.std.specs.Str.Parse.{AllDigits}
 use Rattle.std.proofs.lemmas.Bool.{true≢false, and_parts, cases_eq, cond_both, eq-eqb, lt-leb, ne_eqb, not-true}
+use Rattle.std.proofs.lemmas.List.Elements.{All-from_recursion}
 use Rattle.std.proofs.lemmas.Fmt.{decimal_injective, decimal_is_IsNumeral}
 use Rattle.std.proofs.lemmas.Str.Parse.{digit_from_value}
 use Rattle.wpds_base.specs.Lists.{IsIn, IsOnce}
@@ -13,6 +14,7 @@ use Rattle.document_forms.specs.Names.{name, is_reserved}
 use Rattle.document_forms.specs.Lawful.{IsName, IsConstant}
 use Rattle.document_forms.specs.Writing.{constant_texts}
 use Rattle.document_systems.specs.ValueTexts.{or_one}
+use Rattle.document_systems.specs.private.RowLaws.{Lacks, rows_tell}
 
 -- ---- bytes that a text does not have
 
@@ -49,29 +51,20 @@ marked c x y f = let rest = free_right c x (c ∷ y) f in rest.0 refl
 
 -- ---- rows of texts that are free of the mark between them
 
-cut_alike : (c : ℕ) (x y r s : List ℕ) → IsFree c x → IsFree c y → x ++ c ∷ r ≡ y ++ c ∷ s → (x ≡ y) × (r ≡ s)
-cut_alike c [] [] r s f g e = (refl, cc)
-cut_alike c [] (b ∷ y) r s f g e = let first : c ≡ b = cc in absurd (g.0 (sym first))
-cut_alike c (a ∷ x) [] r s f g e = let first : a ≡ c = cc in absurd (f.0 first)
-cut_alike c (a ∷ x) (b ∷ y) r s f g e =
-    let first : a ≡ b = cc in
-    let rest : x ++ c ∷ r ≡ y ++ c ∷ s = cc in
-    let both = cut_alike c x y r s f.1 g.1 rest in
-    (ap₂ (λ d z. d ∷ z) first both.0, both.1)
+lacks : (c : ℕ) (x : List ℕ) → IsFree c x → Lacks c x
+lacks c x free = All-from_recursion (λ b. nat_eq b c ≡ false) x (each_weaker (λ b. b ≢ c) (λ b. nat_eq b c ≡ false) (λ b apart. ne_eqb b c apart) x free)
 
-rows_alike : (c : ℕ) (x : List ℕ) (xs : List (List ℕ)) (y : List ℕ) (ys : List (List ℕ)) → IsFree c x → AreFree c xs → IsFree c y → AreFree c ys → join_with_byte c (x ∷ xs) ≡ join_with_byte c (y ∷ ys) → x ∷ xs ≡ y ∷ ys
-rows_alike c x [] y [] f fs g gs e = ap (λ z. z ∷ []) e
-rows_alike c x [] y (z ∷ ys) f fs g gs e = absurd (marked c y (join_with_byte c (z ∷ ys)) (subst (IsFree c) e f))
-rows_alike c x (w ∷ xs) y [] f fs g gs e = absurd (marked c x (join_with_byte c (w ∷ xs)) (subst (IsFree c) (sym e) g))
-rows_alike c x (w ∷ xs) y (z ∷ ys) f fs g gs e =
-    let both = cut_alike c x y (join_with_byte c (w ∷ xs)) (join_with_byte c (z ∷ ys)) f g e in
-    ap₂ (λ t ts. t ∷ ts) both.0 (rows_alike c w xs z ys fs.0 fs.1 gs.0 gs.1 both.1)
+rows_alike : (c : ℕ) (x : List ℕ) (xs : List (List ℕ)) (y : List ℕ) (ys : List (List ℕ)) → AreFree c (x ∷ xs) → AreFree c (y ∷ ys) → join_with_byte c (x ∷ xs) ≡ join_with_byte c (y ∷ ys) → x ∷ xs ≡ y ∷ ys
+rows_alike c x xs y ys f g e = rows_tell c x y xs ys (all_lack (x ∷ xs) f) (all_lack (y ∷ ys) g) e
+  where
+    all_lack : (zs : List (List ℕ)) → AreFree c zs → All (Lacks c) zs
+    all_lack zs free = All-from_recursion (Lacks c) zs (each_weaker (IsFree c) (Lacks c) (lacks c) zs free)
 
 pub row_tells : (c : ℕ) (none : List ℕ) (xs ys : List (List ℕ)) → IsFree c none → AreFree c xs → AreFree c ys → join_with_byte c (or_one none xs) ≡ join_with_byte c (or_one none ys) → or_one none xs ≡ or_one none ys
 row_tells c none [] [] f fs gs e = refl
-row_tells c none [] (y ∷ ys) f fs gs e = rows_alike c none [] y ys f tt gs.0 gs.1 e
-row_tells c none (x ∷ xs) [] f fs gs e = rows_alike c x xs none [] fs.0 fs.1 f tt e
-row_tells c none (x ∷ xs) (y ∷ ys) f fs gs e = rows_alike c x xs y ys fs.0 fs.1 gs.0 gs.1 e
+row_tells c none [] (y ∷ ys) f fs gs e = rows_alike c none [] y ys (f, tt) gs e
+row_tells c none (x ∷ xs) [] f fs gs e = rows_alike c x xs none [] fs (f, tt) e
+row_tells c none (x ∷ xs) (y ∷ ys) f fs gs e = rows_alike c x xs y ys fs gs e
 
 free_join : (c mark : ℕ) (x : List ℕ) (xs : List (List ℕ)) → mark ≢ c → IsFree c x → AreFree c xs → IsFree c (join_with_byte mark (x ∷ xs))
 free_join c mark x [] apart f fs = f
@@ -122,50 +115,6 @@ each_where P f test a (suc k) h =
     let rest = each_where P f test (a + 1) k (λ i low high. h i (omega arith) (omega arith)) in
     cond_both (test a) (a ∷ filter test (range_with_len (a + 1) k)) (filter test (range_with_len (a + 1) k))
     (λ l. AllByRecursion P (map f l)) (λ _. (h a (omega arith) (omega arith), rest)) (λ _. rest)
-
-not_first : (f : ℕ → List ℕ) (test : ℕ → Bool) (x : List ℕ) (r : List (List ℕ)) (a k : ℕ) → ((i : ℕ) → a ≤ i → i < a + k → f i ≢ x) → x ∷ r ≡ texts_where f test a k → ⊥
-not_first f test x r a zero apart e = cc
-not_first f test x r a (suc k) apart e = go (test a) e (not_first f test x r (a + 1) k (λ i low high. apart i (omega arith) (omega arith)))
-  where
-    go : (b : Bool) → x ∷ r ≡ map f (cond b (a ∷ filter test (range_with_len (a + 1) k)) (filter test (range_with_len (a + 1) k))) → (x ∷ r ≡ texts_where f test (a + 1) k → ⊥) → ⊥
-    go true e later = let first : x ≡ f a = cc in apart a (omega arith) (omega arith) (sym first)
-    go false e later = later e
-
-step_alike : (f : ℕ → List ℕ) (a : ℕ) (ms ns : List ℕ) → ((r : List (List ℕ)) → f a ∷ r ≡ map f ms → ⊥) → ((r : List (List ℕ)) → f a ∷ r ≡ map f ns → ⊥)
-    → (b c : Bool) → map f (cond b (a ∷ ms) ms) ≡ map f (cond c (a ∷ ns) ns) → (b ≡ c) × (map f ms ≡ map f ns)
-step_alike f a ms ns none none' true true e = (refl, cc)
-step_alike f a ms ns none none' true false e = absurd (none' (map f ms) e)
-step_alike f a ms ns none none' false true e = absurd (none (map f ns) (sym e))
-step_alike f a ms ns none none' false false e = (refl, e)
-
-tests_alike : (f : ℕ → List ℕ) (p q : ℕ → Bool) (a k : ℕ) → ((i j : ℕ) → a ≤ i → i < j → j < a + k → f i ≢ f j) → texts_where f p a k ≡ texts_where f q a k → (i : ℕ) → a ≤ i → i < a + k → p i ≡ q i
-tests_alike f p q a zero apart e i low high = absurd (omega arith)
-tests_alike f p q a (suc k) apart e i low high =
-    let later : (j : ℕ) → a + 1 ≤ j → j < (a + 1) + k → f j ≢ f a = λ j after within same. apart a j (omega arith) (omega arith) (omega arith) (sym same) in
-    let both = step_alike f a (filter p (range_with_len (a + 1) k)) (filter q (range_with_len (a + 1) k))
-    (λ r. not_first f p (f a) r (a + 1) k later) (λ r. not_first f q (f a) r (a + 1) k later) (p a) (q a) e in
-    elim (cases_eq i a) [
-      | inl is ↦ ap p is ∙ both.0 ∙ sym (ap q is)
-      | inr other ↦ tests_alike f p q (a + 1) k (λ j l after before within. apart j l (omega arith) before (omega arith)) both.1 i (omega arith) (omega arith)
-    ]
-
--- ---- names, none of which stands twice
-
-name_in : (names : List (List ℕ)) (k : ℕ) → k < length names → IsIn (name names k) names
-name_in [] k low = absurd (omega arith)
-name_in (x ∷ xs) zero low = inl refl
-name_in (x ∷ xs) (suc k) low = inr (name_in xs k (omega arith))
-
-names_apart : (names : List (List ℕ)) → IsOnce names → (i j : ℕ) → i < j → j < length names → name names i ≢ name names j
-names_apart [] once i j less low e = omega arith
-names_apart (x ∷ xs) once zero zero less low e = omega arith
-names_apart (x ∷ xs) once zero (suc j) less low e = once.0 (subst (λ y. IsIn y xs) (sym e) (name_in xs j (omega arith)))
-names_apart (x ∷ xs) once (suc i) zero less low e = omega arith
-names_apart (x ∷ xs) once (suc i) (suc j) less low e = names_apart xs once.1 i j (omega arith) (omega arith) e
-
-pub names_tell : (names : List (List ℕ)) (p q : ℕ → Bool) → IsOnce names → texts_where (name names) p 0 (length names) ≡ texts_where (name names) q 0 (length names) → (i : ℕ) → i < length names → p i ≡ q i
-names_tell names p q once e i low =
-    tests_alike (name names) p q 0 (length names) (λ j k least less within. names_apart names once j k less (omega arith)) e i (omega arith) (omega arith)
 
 -- ---- what the texts of names and constants have
 
