@@ -1,4 +1,5 @@
 pub mod FormulaCodes
+pub mod HeldSymbols
 pub mod Lines
 pub mod Names
 pub mod Words

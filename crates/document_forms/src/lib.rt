@@ -7,6 +7,7 @@ mod expression;
 mod language;
 mod laws;
 mod pattern;
+mod symbols;
 mod weight;
 
 pub use document::{Document, MapText, Move, Moves, QueryLine, QueryLines, RuleLine, RuleLines};
@@ -17,7 +18,8 @@ pub use laws::{
     lowest_kind_counts, names_of_a_class, one_cutting_into_lines, one_document_or_one_refusal,
     one_form_a_line, one_list_of_items, tests_of_names, written_documents_read_back,
 };
-pub use pattern::{ItemText, ItemTexts, PatternText, SetText, Symbols};
+pub use pattern::{ItemText, ItemTexts, PatternText, SetText};
+pub use symbols::Symbols;
 pub use weight::{
     Action, Actions, Assignment, Assignments, FactSign, FactSigns, FormText, FormTexts, Numbers,
     ValueText, VariableForm, WeightText, WeightsLine,

@@ -1,7 +1,5 @@
+use crate::Symbols;
 use wpds_base::Sequence;
-
-/// Numbers of symbols, in the order in which they are written.
-pub type Symbols = Sequence<u32>;
 
 /// The symbols that an item takes.
 #[derive(Debug, Drop)]

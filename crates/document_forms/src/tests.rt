@@ -1,6 +1,6 @@
 use crate::{
     Action, Document, Expression, ItemText, MapText, Move, PatternText, QueryLine, RuleLine,
-    SetText, ValueText, WeightText, WeightsLine,
+    SetText, Symbols, ValueText, WeightText, WeightsLine,
 };
 use std::alloc::Global;
 use truth_tables::{Expr, eval};
@@ -22,7 +22,7 @@ fn small(alloc: Global) -> Result<Document<Names>, OutOfMemory> {
         control: 0,
         symbol: 0,
         to: 0,
-        right: Sequence::from_vec(vec![in alloc; 0u32, 0]?),
+        right: Symbols::from_vec(alloc, vec![in alloc; 0u32, 0]?)?,
         weight: WeightText::Actions(Sequence::from_vec(vec![in alloc; assume]?)),
         map: Some(MapText {
             restore: Sequence::from_vec(Vec::new(alloc)),
@@ -71,4 +71,22 @@ fn an_expression_is_given_back(rt: HostRuntime) -> Result<(), OutOfMemory> {
         assert_eq!(rt; eval(&expression.into_expr(), [].as_slice()), true);
     }
     Ok(())
+}
+
+// Lists of each kind that symbols are held in.
+#[test]
+fn symbols_are_those_that_were_given(rt: HostRuntime) -> Result<(), OutOfMemory> {
+    assert_eq!(rt; Symbols::one(7).as_slice(), [7u32].as_slice());
+    for numbers in [[].as_slice(), &[7], &[9, 7], &[8, 9, 7], &[6, 8, 9, 7]] {
+        let symbols = Symbols::from_vec(rt.alloc(), Vec::from_slice(rt.alloc(), numbers)?)?;
+        assert_eq!(rt; symbols.as_slice(), numbers);
+        assert_eq!(rt; symbols.len(), numbers.len());
+    }
+    Ok(())
+}
+
+// An item of a query is two bytes of text at least: 32 bytes for it are 16 times its text.
+#[test]
+fn an_item_takes_32_bytes(rt: HostRuntime) {
+    assert_eq!(rt; size_of::<ItemText>(), 32);
 }

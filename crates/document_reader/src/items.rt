@@ -5,10 +5,10 @@ ghost use Rattle.wpds_port.specs.declared.Word.TheVariants.{Mark as Sign};
 ghost use Rattle.document_forms.specs.Patterns.{Bare, star_words, items_of};
 ghost use Rattle.document_reader.specs.private.ItemReading.{begins_with_close, begins_with_star, IsSetRead, HasSet, HasItem};
 
-use document_forms::SetText;
+use document_forms::{SetText, Symbols};
 use rule_reader::{NameTable, NamesOnce, read_names};
 use std::alloc::Global;
-use wpds_base::{OutOfMemory, Sequence};
+use wpds_base::OutOfMemory;
 use wpds_port::{Lexeme, Mark, Words};
 
 /// A set as it is read.
@@ -59,7 +59,7 @@ fn read_braced<'t>(
     let mut once = NamesOnce::new(alloc);
     once.add_names(words)?;
     let set = SetRead {
-        set: SetText::Listed(Sequence::from_vec(read.numbers)),
+        set: SetText::Listed(Symbols::from_vec(alloc, read.numbers)?),
         twice: once.twice,
         unknown: read.unknown,
     };
@@ -67,16 +67,15 @@ fn read_braced<'t>(
 }
 
 // The set that is one symbol.
-fn bare(alloc: Global, symbols: &NameTable, name: &[u8]) -> Result<SetRead, OutOfMemory>
-    ensures { IfOk result (IsSetRead symbols.now (Bare name.now)) }
+fn bare(symbols: &NameTable, name: &[u8]) -> SetRead
+    ensures { IsSetRead symbols.now (Bare name.now) result }
 {
     let number = symbols.number_of(name);
-    let numbers = vec![in alloc; number.unwrap_or(0)]?;
-    Ok(SetRead {
-        set: SetText::Listed(Sequence::from_vec(numbers)),
+    SetRead {
+        set: SetText::Listed(Symbols::one(number.unwrap_or(0))),
         twice: false,
         unknown: number.is_none(),
-    })
+    }
 }
 
 // The set with which words begin that have this one in front, and the words behind the set.
@@ -98,7 +97,7 @@ fn read_set<'t>(
             };
             Ok(Some((set, words.reborrow())))
         }
-        Lexeme::Name(name) => Ok(Some((bare(alloc, symbols, name)?, words.reborrow()))),
+        Lexeme::Name(name) => Ok(Some((bare(symbols, name), words.reborrow()))),
         Lexeme::Mark(Mark::OpenBrace) => read_braced(alloc, symbols, words),
         _ => Ok(None),
     }

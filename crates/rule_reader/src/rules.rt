@@ -259,21 +259,22 @@ fn weight_value(weight: Option<WeightRead>) -> WeightText
     }
 }
 
-fn rule_from(parts: RuleParts) -> RuleRead
-    ensures { (a : Above) (f : RuleForm) → AreParts a f parts → IsReadRule a f result }
+fn rule_from(alloc: Global, parts: RuleParts) -> Result<RuleRead, OutOfMemory>
+    ensures { IfOk result (λ read. (a : Above) (f : RuleForm)
+        → AreParts a f parts → IsReadRule a f read) }
 {
     let kind = kind_of(&parts);
-    RuleRead {
+    Ok(RuleRead {
         rule: RuleLine {
             control: parts.ends.control,
             symbol: parts.ends.symbol,
             to: parts.ends.to,
-            right: Symbols::from_vec(parts.right.numbers),
+            right: Symbols::from_vec(alloc, parts.right.numbers)?,
             weight: weight_value(parts.weight),
             map: parts.back.map,
         },
         kind,
-    }
+    })
 }
 
 /// The words behind `rule` as a rule in this scope, behind so many others; nothing where they are
@@ -299,12 +300,13 @@ pub fn read_rule(
         return Ok(None);
     };
     let weight = read_rule_weight(alloc, scope.weights, &scope.items, &said.weight)?;
-    Ok(Some(rule_from(RuleParts {
+    let parts = RuleParts {
         ends: read_ends(scope, &said),
         right,
         weight,
         back,
         given: said.back.is_some(),
         full: rules >= MOST_RULES,
-    })))
+    };
+    Ok(Some(rule_from(alloc, parts)?))
 }

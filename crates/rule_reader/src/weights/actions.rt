@@ -73,6 +73,7 @@ impl Values {
         self.faults = self.faults.or(value.faults);
         let place = self.assignments.len();
         if place < targets.len() {
+            make_room(&mut self.assignments, targets.len())?;
             self.assignments.push(Assignment {
                 variable: targets[place],
                 value: value.value,
@@ -82,6 +83,19 @@ impl Values {
         }
         Ok(())
     }
+}
+
+// Makes room for one more of so many at most, or for as many more as there are, where none is left:
+// the assignments of an even action take no room beside their own.
+fn make_room(assignments: &mut Vec<Assignment>, most: usize) -> Result<(), OutOfMemory>
+    ensures { assignments.new.items ≡ assignments.old.items }
+{
+    let len = assignments.len();
+    if len == assignments.capacity() {
+        let more = len.max(1).min(most.saturating_sub(len));
+        assignments.reserve_exact(more)?;
+    }
+    Ok(())
 }
 
 // An action that was read.
@@ -99,13 +113,14 @@ struct ActionsRead {
 }
 
 impl ActionsRead {
-    fn new(alloc: Global) -> ActionsRead
-        ensures { (items : List (List ℕ)) → HasActions items [] result }
+    // No actions, and room for one, since most weights have no more.
+    fn new(alloc: Global) -> Result<ActionsRead, OutOfMemory>
+        ensures { IfOk result (λ read. (items : List (List ℕ)) → HasActions items [] read) }
     {
-        ActionsRead {
-            actions: Vec::new(alloc),
+        Ok(ActionsRead {
+            actions: Vec::with_capacity(alloc, 1)?,
             faults: WeightFaults::none(),
-        }
+        })
     }
 
     fn add(&mut self, action: ActionRead) -> Result<(), OutOfMemory>
@@ -137,7 +152,7 @@ pub(crate) fn read_actions<'t>(
 ) -> Result<Option<WeightRead>, OutOfMemory>
     ensures { IfOk result (IsRead items.now (relation_of words.now)) }
 {
-    let mut actions = ActionsRead::new(alloc);
+    let mut actions = ActionsRead::new(alloc)?;
     let mut pieces = Pieces::new(Cut::Semicolons, words);
     while let Some(piece) = pieces.next() {
         match read_action(alloc, items, &piece)? {

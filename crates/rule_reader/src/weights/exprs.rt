@@ -84,7 +84,7 @@ pub(crate) fn read_tree<'t>(
     let unknown = has_unknown_variable(items, words);
     match read_expr(alloc, &text, MOST_DEPTH)? {
         ExprRead::Read(raw) => Ok(Some(TreeRead {
-            expression: Expression::from_expr(numbered(alloc, items, &raw)?),
+            expression: Expression::from_expr(numbered(alloc, items, raw)?),
             faults: WeightFaults {
                 unknown,
                 unlawful: false,
@@ -130,33 +130,34 @@ fn has_unknown_variable(items: &NameTable<'_>, words: &Words<'_>) -> bool
     false
 }
 
-// The expression with the numbers of its variables. It goes as deep as the expression is.
-fn numbered(alloc: Global, items: &NameTable<'_>, raw: &RawExpr<'_>) -> Result<Expr, OutOfMemory>
-    ensures { AreKnown items.now (raw_formula raw.now)
-        → IfOk result (λ e. formula e ≡ over_numbers items.now (raw_formula raw.now)) }
+// The expression with the numbers of its variables. It goes as deep as the expression is. Each node
+// of names is given back before its node of numbers is made, so that memory never holds both trees.
+fn numbered(alloc: Global, items: &NameTable<'_>, raw: RawExpr<'_>) -> Result<Expr, OutOfMemory>
+    ensures { AreKnown items.now (raw_formula raw.entry)
+        → IfOk result (λ e. formula e ≡ over_numbers items.now (raw_formula raw.entry)) }
 {
     match raw {
-        RawExpr::Const(value) => Ok(Expr::Const(*value)),
-        RawExpr::Var(name) => Ok(Expr::Var(items.number_of(*name).unwrap_or(0))),
+        RawExpr::Const(value) => Ok(Expr::Const(value)),
+        RawExpr::Var(name) => Ok(Expr::Var(items.number_of(name).unwrap_or(0))),
         RawExpr::Not(inner) => {
-            let inner = numbered(alloc, items, inner)?;
+            let inner = numbered(alloc, items, Box::into_inner(inner))?;
             Ok(Expr::Not(Box::new(alloc, inner)?))
         }
         RawExpr::Two { table, left, right } => {
-            let left = numbered(alloc, items, left)?;
-            let right = numbered(alloc, items, right)?;
+            let left = numbered(alloc, items, Box::into_inner(left))?;
+            let right = numbered(alloc, items, Box::into_inner(right))?;
             Ok(Expr::Two {
-                table: *table,
+                table,
                 left: Box::new(alloc, left)?,
                 right: Box::new(alloc, right)?,
             })
         }
         RawExpr::Three { table, a, b, c } => {
-            let a = numbered(alloc, items, a)?;
-            let b = numbered(alloc, items, b)?;
-            let c = numbered(alloc, items, c)?;
+            let a = numbered(alloc, items, Box::into_inner(a))?;
+            let b = numbered(alloc, items, Box::into_inner(b))?;
+            let c = numbered(alloc, items, Box::into_inner(c))?;
             Ok(Expr::Three {
-                table: *table,
+                table,
                 a: Box::new(alloc, a)?,
                 b: Box::new(alloc, b)?,
                 c: Box::new(alloc, c)?,

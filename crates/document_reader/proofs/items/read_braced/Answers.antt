@@ -15,4 +15,4 @@ pub returns : goal.returns
 returns c =
     set_in_braces c.args.symbols.now c.args.words.now c.in-Some.rest c.in_ok-read.read c.add_names.new.self _
     (sym c.in_ok-read.ensures.rest ∙ c.in-Some.ensures) c.in_ok-read.ensures.numbers
-    (c.in_ok-add_names.ensures _ c.new-once.ensures) (grind arith) (ap Listed c.from_vec.ensures) refl refl
+    (c.in_ok-add_names.ensures _ c.new-once.ensures) (grind arith) (ap Listed c.in_ok-from_vec.ensures.symbols) refl refl

@@ -13,7 +13,7 @@ returns c = λ queries.
     let f = rule_form said right.0 back.0 in (
       f,
       c.in-Some.ensures ∙ said_is said right.0 back.0 right.1 back.1,
-      c.rule_from.ensures a f (record {
+      c.in_ok-rule_from.ensures a f (record {
         ends = c.read_ends.ensures f refl refl refl c.args.rules queries;
         right = right.2;
         weight = c.in_ok-weight.ensures;

@@ -4,4 +4,4 @@ use Rattle.rule_reader.proofs.rules.rule_from.Goals as goal
 
 pub returns : goal.returns
 returns c =
-    λ a f p. rule_read a f c.args.parts p _ c.kind_of-kind.ensures refl refl refl c.from_vec.ensures c.weight_value.ensures refl
+    λ a f p. rule_read a f c.args.parts p _ c.kind_of-kind.ensures refl refl refl c.in_ok-from_vec.ensures.symbols c.weight_value.ensures refl

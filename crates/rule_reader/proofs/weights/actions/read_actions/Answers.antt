@@ -7,7 +7,7 @@ use Rattle.rule_reader.proofs.weights.actions.read_actions.Goals as goal
 
 pub loop-piece-init : goal.loop-piece-init
 loop-piece-init c =
-    ([], c.new-actions.ensures c.args.items.now, sym (ap (λ ps. option_map ActionsForm (each action_of ps)) c.new-pieces.ensures))
+    ([], c.in_ok-actions.ensures c.args.items.now, sym (ap (λ ps. option_map ActionsForm (each action_of ps)) c.new-pieces.ensures))
 
 pub loop-piece-preserved : goal.loop-piece-preserved
 loop-piece-preserved c =

@@ -17,11 +17,11 @@ returns-in_ok-push c = λ items done v h k.
     record {
       faults = subst (HasFaults _ _ _) (sym c.or-self.ensures) (values_faults items done v before.faults c.args.value.faults h.faults k.faults);
       more = h.more ∙ le-ltb (length ts) (length done) (omega (arith, below.0)) ∙ sym (le-ltb (length ts) (length (done ++ v ∷ [])) (omega (arith, below.0)));
-      count = omega (arith, ap length c.in_ok-push.ensures.items, length-append {A = Assignment}, below.0, below.1);
+      count = omega (arith, ap length c.in_ok-push.ensures.items, ap length c.in_ok-make_room.ensures, length-append {A = Assignment}, below.0, below.1);
       values = λ sound.
           let both = sound_both before.faults c.args.value.faults (subst (λ f. is_sound f ≡ true) c.or-self.ensures sound) in
           c.in_ok-push.ensures.items
-          ∙ ap₂ (λ l (x : Assignment). l ++ x ∷ []) (h.values both.0) (ap₂ (λ n w. record { variable = n; value = w }) (ap (λ n. get_or ts n 0) place) (k.value both.1))
+          ∙ ap₂ (λ l (x : Assignment). l ++ x ∷ []) (c.in_ok-make_room.ensures ∙ h.values both.0) (ap₂ (λ n w. record { variable = n; value = w }) (ap (λ n. get_or ts n 0) place) (k.value both.1))
           ∙ sym (assigned_more items ts done v below.0);
     }
 
