@@ -1,9 +1,11 @@
-//! Worked rows that take several crates, as tests: values of runs, backward saturations by one seat and by two, and
-//! answers to queries.
+//! Worked rows that take several crates, as tests: values of runs, saturations in both directions by one seat and by
+//! two, and answers to queries.
 #![tactic(auto)]
 
 #[cfg(test)]
 mod answers;
+#[cfg(test)]
+mod forwards;
 #[cfg(test)]
 mod openings;
 #[cfg(test)]

@@ -20,6 +20,9 @@ pub(crate) const B: (&[u32], bool) = (&[1], false);
 /// The third symbol.
 pub(crate) const C: (&[u32], bool) = (&[2], false);
 
+/// The fourth symbol.
+pub(crate) const D: (&[u32], bool) = (&[3], false);
+
 /// Any number of the first symbol.
 pub(crate) const SOME_A: (&[u32], bool) = (&[0], true);
 

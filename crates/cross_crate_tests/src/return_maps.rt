@@ -7,9 +7,9 @@ use std::alloc::Global;
 use std::test::Fail;
 use wpds_base::OutOfMemory;
 
-// Whether there is a run, when a return map can forbid a call to return.
+/// Whether there is a run, when a return map can forbid a call to return.
 #[derive(Clone, Copy, Debug, PartialEq, Eq)]
-struct Guarded;
+pub(crate) struct Guarded;
 
 impl Semiring for Guarded {
     type W = bool;
@@ -65,9 +65,9 @@ impl Semiring for Guarded {
     }
 }
 
-// Symbols a, b, c, d over one control: `a` calls and may not return, `d` calls and may, `b` calls once more either way
-// or returns, `c` returns.
-fn calls(alloc: Global) -> Result<System<Guarded>, RuleFault> {
+/// Symbols a, b, c, d over one control: `a` calls and may not return, `d` calls and may, `b` calls once more either way
+/// or returns, `c` returns.
+pub(crate) fn guarded_calls(alloc: Global) -> Result<System<Guarded>, RuleFault> {
     let mut system = System::new(alloc, Guarded, 1, 4);
     let rules: [(u32, &[u32], Option<bool>); 6] = [
         (0, &[1, 2], Some(false)),
@@ -86,7 +86,7 @@ fn calls(alloc: Global) -> Result<System<Guarded>, RuleFault> {
 #[test]
 fn return_maps(rt: HostRuntime) -> Result<(), Fail> {
     let alloc = rt.alloc();
-    let system = calls(alloc)?;
+    let system = guarded_calls(alloc)?;
     // a stack, a run from it, and the run's value
     let rows: [(&str, &[u32], &[u32], bool); 10] = [
         ("unmatched", &[0], &[0], true),

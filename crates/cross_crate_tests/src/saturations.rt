@@ -17,8 +17,8 @@ type Row = (u32, u32, u32, u64);
 // A target by its control and its items, and the transitions of its saturation.
 type Target<'a> = (u32, Items<'a>, &'a [Row]);
 
-// The transition at a place, if the book has one.
-fn entry_at<'b, S: Semiring, D: Direction<S>>(
+/// The transition at a place, if the book has one.
+pub(crate) fn entry_at<'b, S: Semiring, D: Direction<S>>(
     book: &'b Book<'_, S, D>,
     place: Place,
 ) -> Option<&'b Entry<S>> {

@@ -37,3 +37,36 @@ pub(crate) fn one_step(alloc: Global, cost: Cost) -> Result<System<Cost>, RuleFa
     system.add_rule(alloc, 0, 0, 0, &[1], cost.number(3), None)?;
     Ok(system)
 }
+
+/// Control p, symbols a and b: p a -> p a b at 1.
+pub(crate) fn calls_itself(alloc: Global, cost: Cost) -> Result<System<Cost>, RuleFault> {
+    let mut system = System::new(alloc, cost, 1, 2);
+    system.add_rule(alloc, 0, 0, 0, &[0, 1], cost.number(1), None)?;
+    Ok(system)
+}
+
+/// Control p, symbols a and b: p a -> p at 3, and p b -> p at 4.
+pub(crate) fn pops(alloc: Global, cost: Cost) -> Result<System<Cost>, RuleFault> {
+    let mut system = System::new(alloc, cost, 1, 2);
+    system.add_rule(alloc, 0, 0, 0, &[], cost.number(3), None)?;
+    system.add_rule(alloc, 0, 1, 0, &[], cost.number(4), None)?;
+    Ok(system)
+}
+
+/// Control p, symbols a, b and c: p a -> p b c at 1, p b -> p at 2, and p c -> p a c at 4.
+pub(crate) fn calls_again(alloc: Global, cost: Cost) -> Result<System<Cost>, RuleFault> {
+    let mut system = System::new(alloc, cost, 1, 3);
+    system.add_rule(alloc, 0, 0, 0, &[1, 2], cost.number(1), None)?;
+    system.add_rule(alloc, 0, 1, 0, &[], cost.number(2), None)?;
+    system.add_rule(alloc, 0, 2, 0, &[0, 2], cost.number(4), None)?;
+    Ok(system)
+}
+
+/// Controls p and q, symbols a to d: p a -> q b c at 1, p a -> q b d at 5, and q b -> p at 2.
+pub(crate) fn two_calls(alloc: Global, cost: Cost) -> Result<System<Cost>, RuleFault> {
+    let mut system = System::new(alloc, cost, 2, 4);
+    system.add_rule(alloc, 0, 0, 1, &[1, 2], cost.number(1), None)?;
+    system.add_rule(alloc, 0, 0, 1, &[1, 3], cost.number(5), None)?;
+    system.add_rule(alloc, 1, 1, 0, &[], cost.number(2), None)?;
+    Ok(system)
+}

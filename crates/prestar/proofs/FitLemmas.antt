@@ -1,7 +1,6 @@
 -- The backward direction fits the opening of each pattern, and how many places it can reach from there.
-use Rattle.std.proofs.Common.{◌≡◌, inl, inr, ℕ, suc, ◌+◌, ◌*◌, ◌<◌, ◌≤◌, true, List, [], ◌∷◌, ◌++◌, map, length, refl, ap, ◌∙◌, subst, arith}
-use Rattle.std.specs.Prelude.{IsTrue, nat_le, ◌&&◌, if◌then◌else◌}
-use Rattle.std.specs.List.{list_all, range_with_len}
+use Rattle.std.proofs.Common.{◌≡◌, inl, inr, ℕ, suc, ◌+◌, ◌*◌, ◌<◌, ◌≤◌, List, [], ◌∷◌, ◌++◌, map, length, refl, ap, ◌∙◌, subst, arith}
+use Rattle.std.specs.Prelude.{IsTrue, nat_le}
 use Rattle.std.proofs.lemmas.Bool.{and_from, le-leb, cond_both}
 use Rattle.weighted_automata.specs.declared.place.Place.{Place}
 use Rattle.pushdown_rules.specs.Pushdown.{Pushdown}
@@ -11,19 +10,17 @@ use Rattle.config_patterns.specs.Edges.{edges_of}
 use Rattle.wpds_base.specs.Lists.{IsIn}
 use Rattle.saturation_laws.proofs.CallerLemmas.{in_append, in_right, in_map, from_map}
 use Rattle.pattern_openings.specs.PatternOpenings.{state_of, place_of_edge, finals_of_items, opening_of}
-use Rattle.pattern_openings.proofs.CallerLemmas.{edge_is, final_is_state, last_is_final}
+use Rattle.pattern_openings.proofs.CallerLemmas.{opening_edge, edge_is, final_is_state, last_is_final}
+use Rattle.direction_parts.specs.Places.{reads_symbol}
+use Rattle.direction_parts.proofs.CallerLemmas.{all_from}
 use Rattle.prestar_laws.specs.Fitting.{is_item_edge, fits_pre, above, state_count, pre_places}
 use Rattle.prestar_laws.proofs.CallerLemmas.{above_start, above_each, length-arrows}
 
-all_map : {X Y : Type 0} (test : Y → Rattle.std.specs.Prelude.Bool) (f : X → Y) (xs : List X) → ((x : X) → IsIn x xs → test (f x) ≡ true) → list_all test (map f xs) ≡ true
-all_map test f [] each = refl
-all_map test f (x ∷ xs) each = and_from (test (f x)) (list_all test (map f xs)) (each x (inl refl)) (all_map test f xs (λ y h. each y (inr h)))
-
 -- the backward direction fits the opening of each pattern
 pub pattern_fits : {S W Map : Type 0} (p : Pushdown S W Map) (pattern : PatternValue) → IsTrue (fits_pre p (opening_of p.controls pattern))
-pattern_fits p pattern =
-    all_map (is_item_edge p.controls) (place_of_edge p.controls pattern.control) (edges_of pattern.items)
-    (λ e there. le-leb p.controls (state_of p.controls pattern.control e.to) (edge_is p.controls pattern.control pattern.items e there).to_item)
+pattern_fits p pattern = all_from (is_item_edge p.controls) (opening_of p.controls pattern).edges (λ x there.
+    let is = opening_edge pattern p.controls x there in
+    and_from (reads_symbol x.label) (nat_le p.controls x.to) (ap reads_symbol is.reads.1) (le-leb p.controls x.to is.to_item))
 
 above_most : (n m : ℕ) (qs : List ℕ) → n ≤ m → ((q : ℕ) → IsIn q qs → q < m) → above n qs ≤ m
 above_most n m [] low each = low

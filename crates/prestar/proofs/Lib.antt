@@ -1,2 +1,1 @@
-mod PassLemmas
 mod FitLemmas

@@ -1,8 +1,10 @@
 ghost use Rattle.std.specs.Prelude.{◌≡◌, ◌++◌, IfOk, OnOk};
 ghost use Rattle.std.specs.List.{flat_map};
 ghost use Rattle.semiring_laws.specs.Semiring.{Fits};
-ghost use Rattle.prestar_laws.specs.Jobs.{only_if, push_job, goes_on, are_inputs, pair_jobs, may_be_input, pairs_of};
-ghost use Rattle.prestar.specs.private.Pushes.{AreFit, kind_of};
+ghost use Rattle.prestar_laws.specs.Jobs.{push_job, goes_on, are_inputs, pair_jobs, may_be_input, pairs_of};
+ghost use Rattle.direction_parts.specs.Worths.{AreFit};
+ghost use Rattle.prestar.specs.private.Pushes.{kind_of};
+ghost use Rattle.direction_parts.specs.Passes.{only_if};
 
 use pushdown_rules::Rule;
 use saturation_core::copy_input;

@@ -24,12 +24,14 @@ use Rattle.saturation_laws.specs.Invariants.{IsApplied}
 use Rattle.saturation_laws.specs.Paths.{IsSaturated, HasSums}
 use Rattle.semiring_laws.proofs.CallerLemmas.{below_zero}
 use Rattle.saturation_laws.proofs.CallerLemmas.{opening_weights_fit, opening_edges, opening_pops, opened_below}
-use Rattle.prestar_laws.specs.Reading.{PreRun, LeadsToItems}
-use Rattle.prestar_laws.specs.Rows.{arrow, rule_row, pre_rows, rule_candidate, at_rule}
+use Rattle.prestar_laws.specs.Reading.{PreRun}
+use Rattle.prestar_laws.specs.Rows.{rule_row, pre_rows, rule_candidate, at_rule}
 use Rattle.prestar_laws.proofs.Weights.{IsClosedUnder, IsBackward}
 use Rattle.pushdown_rules.proofs.CallerLemmas.{weight_fits, map_fits}
 use Rattle.prestar_laws.proofs.PathLemmas.{pre_met, pre_gives}
 use Rattle.prestar_laws.proofs.RowTestLemmas.{row_test, step_test, call_test, stay_test}
+use Rattle.direction_parts.specs.Places.{LeadsToItems, arrow}
+use Rattle.direction_parts.proofs.CallerLemmas.{weights_at_fit}
 
 module _ {S W Map : Type 0} {operations : S → Operations W Map} {p : Pushdown S W Map} (valid : IsSystem operations p) (laws : IsSemiring (operations p.semiring))
     (d : Tables S W Map) (backward : IsBackward (operations p.semiring) p d) (ts : List (Entry S W Map))
@@ -136,15 +138,9 @@ module _ {S W Map : Type 0} {operations : S → Operations W Map} {p : Pushdown 
   abbrev opening : List (Entry S W Map)
   opening = (opening_state sr Pre p o.edges).transitions
 
-  weights_fit : (ts : List (Entry S W Map)) → ((t : Entry S W Map) → Present ts t → Fits sr t.weight) → (x : Place) → Fits sr (weight_at sr x ts)
-  weights_fit ts each x = elim (entry_at x ts) as (λ e. entry_at x ts ≡ e → Fits sr (weight_of sr e)) [
-    | None ↦ λ e. laws.fits-zero
-    | Some t ↦ λ e. each t (ap (λ y. entry_at y ts) (entry_at-place x ts t e) ∙ e)
-  ] refl
-
   saturated_closed : (ts : List (Entry S W Map)) → IsSaturated sr d opening ts → IsClosedUnder sr p o.edges (λ x. weight_at sr x ts)
   saturated_closed ts is =
-      let fit = weights_fit ts is.fit in
+      let fit = weights_at_fit laws ts is.fit in
       let rules : (k : ℕ) (r : Rule S W Map) → slice_get p.rules k ≡ Some r → Fits sr r.weight = λ k r e. weight_fits valid laws k r e in
       let fo = opening_weights_fit laws p rules o.edges in
       closed_under valid laws d backward ts fit is.applied o.edges

@@ -12,10 +12,11 @@ use Rattle.pushdown_rules.specs.Pushdown.{Pushdown}
 use Rattle.saturation_laws.specs.declared.job.JobKind.TheVariants.{PrePushControl, PrePushOther}
 use Rattle.saturation_laws.specs.declared.opening.Opening.{Opening}
 use Rattle.saturation_laws.specs.Jobs.{row_of}
-use Rattle.prestar_laws.specs.Rows.{arrow, pre_rows, pre_candidate}
+use Rattle.prestar_laws.specs.Rows.{pre_rows, pre_candidate}
 use Rattle.prestar_laws.specs.Jobs.{step_job, push_job, pre_jobs}
 use Rattle.prestar_laws.specs.Fitting.{fits_pre, state_count, pre_places}
 use Rattle.prestar_laws.specs.Reading.{PreRun}
+use Rattle.direction_parts.specs.Places.{arrow}
 
 -- Weights that tell how a value was put together: extend joins them, and the return map h sets 10 + h before and
 -- 20 + h behind.

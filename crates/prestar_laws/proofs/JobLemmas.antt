@@ -1,5 +1,5 @@
 -- The jobs of a transition are the consequences that it is an input of.
-use Rattle.std.proofs.Common.{◌≡◌, ◌⊎◌, inl, inr, ℕ, zero, suc, ◌+◌, ◌<◌, ◌≤◌, Bool, true, List, [], ◌∷◌, ◌++◌, refl, sym, ap, ap₂, ◌∙◌, subst, arith}
+use Rattle.std.proofs.Common.{◌≡◌, ◌⊎◌, inl, inr, ℕ, ◌<◌, ◌≤◌, true, List, [], ◌∷◌, ◌++◌, refl, sym, ap, ap₂, ◌∙◌, subst}
 use Rattle.std.specs.Prelude.{Option, None, Some, ◌&&◌, nat_lt, not, slice_get}
 use Rattle.std.specs.List.{flat_map}
 use Rattle.std.proofs.lemmas.Bool.{and_parts, and_from, or_left, or_right, cond_both, cond-true, lt-ltb, le-ltb, ltb-true, ltb-false, not-true}
@@ -20,75 +20,11 @@ use Rattle.saturation_laws.specs.Jobs.{HasInput}
 use Rattle.wpds_base.specs.Lists.{IsIn}
 use Rattle.saturation_laws.specs.Directions.{IsConsequence}
 use Rattle.saturation_laws.proofs.CallerLemmas.{in_left, in_append, in_right, entry_in, in_flat_map, from_flat_map, in_present, present_once}
-use Rattle.prestar_laws.specs.Rows.{arrow}
-use Rattle.prestar_laws.specs.Jobs.{only_if, by_rule, step_job, push_job, step_of, one_symbol, two_symbols, goes_on, are_inputs, pair_jobs, may_be_input, pairs_of, push_of, pre_jobs, pre_tables}
-use Rattle.prestar_laws.proofs.RowTestLemmas.{label_from, from_is, is_from_there, rule_job, row_test, step_test, call_test, stay_test, IsStepJob, IsPushJob, row_says}
-
-in_only : {X : Type 0} (test : Bool) (x : X) → test ≡ true → IsIn x (only_if test x)
-in_only test x e = let P : List _ → Type 0 = IsIn x in subst P (sym (cond-true test (x ∷ []) [] e)) (inl refl)
-
-pub from_only : {X : Type 0} (test : Bool) (x y : X) → IsIn y (only_if test x) → (test ≡ true) × (x ≡ y)
-from_only {X = X} test x y = let P : List X → Type 0 = λ xs. IsIn y xs → (test ≡ true) × (x ≡ y) in
-    cond_both test (x ∷ []) [] P (λ e h. elim h [ inl same ↦ (e, same) | inr none ↦ absurd none ]) (λ e h. absurd h)
-
-one_symbol_is : (w : List ℕ) (g : ℕ) → one_symbol w ≡ Some g → w ≡ g ∷ []
-one_symbol_is [] g e = cc
-one_symbol_is (a ∷ []) g e = ap (λ x. x ∷ []) (same_Some a g e)
-one_symbol_is (a ∷ b ∷ w) g e = cc
-
-two_symbols_are : (w : List ℕ) (v : ℕ × ℕ) → two_symbols w ≡ Some v → w ≡ v.0 ∷ v.1 ∷ []
-two_symbols_are [] v e = cc
-two_symbols_are (a ∷ []) v e = cc
-two_symbols_are (a ∷ b ∷ []) v e = ap (λ (x : ℕ × ℕ). x.0 ∷ x.1 ∷ []) (same_Some (a, b) v e)
-two_symbols_are (a ∷ b ∷ c ∷ w) v e = cc
-
--- What the rule of a number gives.
-pub record IsOfRule {S W Map X : Type 0} (f : ℕ → Rule S W Map → List X) (n : ℕ) (rs : List (Rule S W Map)) (x : X) : Type 0 where
-  pub number : ℕ
-  pub by : Rule S W Map
-  pub there : slice_get rs number ≡ Some by
-  pub is : IsIn x (f (n + number) by)
-
-pub record IsByRule {S W Map X : Type 0} (f : ℕ → Rule S W Map → List X) (rs : List (Rule S W Map)) (x : X) : Type 0 where
-  pub number : ℕ
-  pub by : Rule S W Map
-  pub there : slice_get rs number ≡ Some by
-  pub is : IsIn x (f number by)
-
-module _ {S W Map X : Type 0} (f : ℕ → Rule S W Map → List X) where
-  in_rule : (n k : ℕ) (rs : List (Rule S W Map)) (r : Rule S W Map) (x : X) → slice_get rs k ≡ Some r → IsIn x (f (n + k) r) → IsIn x (by_rule f n rs)
-  in_rule n k [] r x e here = cc
-  in_rule n zero (q ∷ rs) r x e here =
-      let same : q ≡ r = same_Some q r e in
-      let P : ℕ → Type 0 = λ m. IsIn x (f m r) in
-      let Q : Rule S W Map → Type 0 = λ u. IsIn x (f n u) in
-      let h : n + 0 ≡ n = omega arith in
-      in_left x (f n q) (by_rule f (suc n) rs) (subst Q (sym same) (subst P h here))
-  in_rule n (suc k) (q ∷ rs) r x e here =
-      let P : ℕ → Type 0 = λ m. IsIn x (f m r) in
-      let h : n + suc k ≡ suc n + k = omega arith in
-      in_right x (f n q) (by_rule f (suc n) rs) (in_rule (suc n) k rs r x e (subst P h here))
-
-  from_rule : (n : ℕ) (rs : List (Rule S W Map)) (x : X) → IsIn x (by_rule f n rs) → IsOfRule f n rs x
-  from_rule n [] x h = absurd h
-  from_rule n (r ∷ rs) x h = elim (in_append x (f n r) (by_rule f (suc n) rs) h) [
-    | inl here ↦ let P : ℕ → Type 0 = λ m. IsIn x (f m r) in let e : n ≡ n + 0 = omega arith in record { number = 0; by = r; there = refl; is = subst P e here }
-    | inr more ↦
-        let rest = from_rule (suc n) rs x more in
-        let P : ℕ → Type 0 = λ m. IsIn x (f m rest.by) in
-        let e : suc n + rest.number ≡ n + suc rest.number = omega arith in
-        record { number = suc rest.number; by = rest.by; there = rest.there; is = subst P e rest.is }
-  ]
-
-  pub in_rules : (k : ℕ) (rs : List (Rule S W Map)) (r : Rule S W Map) (x : X) → slice_get rs k ≡ Some r → IsIn x (f k r) → IsIn x (by_rule f 0 rs)
-  in_rules k rs r x there here = let P : ℕ → Type 0 = λ m. IsIn x (f m r) in let e : k ≡ 0 + k = omega arith in in_rule 0 k rs r x there (subst P e here)
-
-  pub from_rules : (rs : List (Rule S W Map)) (x : X) → IsIn x (by_rule f 0 rs) → IsByRule f rs x
-  from_rules rs x h =
-      let one = from_rule 0 rs x h in
-      let P : ℕ → Type 0 = λ m. IsIn x (f m one.by) in
-      let e : 0 + one.number ≡ one.number = omega arith in
-      record { number = one.number; by = one.by; there = one.there; is = subst P e one.is }
+use Rattle.prestar_laws.specs.Jobs.{step_job, push_job, step_of, goes_on, are_inputs, pair_jobs, may_be_input, pairs_of, push_of, pre_jobs, pre_tables}
+use Rattle.prestar_laws.proofs.RowTestLemmas.{rule_job, row_test, step_test, call_test, stay_test, IsStepJob, IsPushJob, row_says}
+use Rattle.direction_parts.specs.Places.{arrow}
+use Rattle.direction_parts.specs.Passes.{only_if, by_rule, one_symbol, two_symbols}
+use Rattle.direction_parts.proofs.CallerLemmas.{label_from, from_is, is_from_there, in_only, from_only, one_symbol_is, two_symbols_are, in_rules, from_rules}
 
 module _ {S W Map : Type 0} (s : Operations W Map) (p : Pushdown S W Map) (ts : List (Entry S W Map)) (t : Entry S W Map) (distinct : HasDistinctPlaces ts) (here : Present ts t) where
   -- a consequence of which the transition is an input

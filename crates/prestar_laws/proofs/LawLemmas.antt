@@ -19,7 +19,7 @@ use Rattle.wpds_base.specs.Lists.{IsIn}
 use Rattle.saturation_laws.specs.Openings.{head_place, opening_state}
 use Rattle.saturation_laws.specs.Directions.{IsDirection, HaveSameCandidates}
 use Rattle.saturation_laws.specs.Paths.{HasSums}
-use Rattle.prestar_laws.specs.Rows.{arrow, pre_rows, at_rule}
+use Rattle.prestar_laws.specs.Rows.{pre_rows, at_rule}
 use Rattle.prestar_laws.specs.Jobs.{pre_tables}
 use Rattle.prestar_laws.specs.Reading.{PreRun}
 use Rattle.prestar_laws.specs.Fitting.{fits_pre, state_count, pre_places}
@@ -28,6 +28,7 @@ use Rattle.prestar_laws.proofs.RowTestLemmas.{rule_job, row_says}
 use Rattle.prestar_laws.proofs.JobLemmas.{jobs_are, jobs_all}
 use Rattle.prestar_laws.proofs.PlaceLemmas.{control_is_state, edge_to_state, in_arrows, arrow_to, leads_to_items, reads_one}
 use Rattle.prestar_laws.proofs.ClosingLemmas.{pre_sums}
+use Rattle.direction_parts.specs.Places.{arrow}
 
 module _ {S W Map : Type 0} (p : Pushdown S W Map) where
   -- a row has an input

@@ -13,12 +13,13 @@ use Rattle.wpds_base.specs.Lists.{IsIn}
 use Rattle.pushdown_rules.proofs.CallerLemmas.{rule_at, fired, none_from_nothing, weight_fits, map_fits, step_value, push_value, open_value, ends_control, split}
 use Rattle.semiring_laws.proofs.CallerLemmas.{below_trans, extend_keeps_below as extend_below, extend_left_keeps_below as extend_below_right, after_keeps_below as after_below}
 use Rattle.saturation_laws.specs.Paths.{Reads}
-use Rattle.prestar_laws.specs.Reading.{LeadsTo, LeadsToItems}
-use Rattle.prestar_laws.specs.Rows.{arrow}
+use Rattle.prestar_laws.specs.Reading.{LeadsTo}
 use Rattle.prestar_laws.proofs.Weights.{IsClosedUnder}
 use Rattle.prestar_laws.proofs.RowLemmas.{fits, pop_value}
 use Rattle.pushdown_rules.specs.Configuration.{at_stack}
 use Rattle.pushdown_rules.specs.Splits.{Falls, Stays}
+use Rattle.direction_parts.specs.Places.{LeadsToItems, arrow}
+use Rattle.direction_parts.proofs.CallerLemmas.{reads_to_item}
 
 -- reading on from where a word was read
 pub record ReadsParts (edges : List Place) (from : ℕ) (first rest : List ℕ) (to : ℕ) : Type 0 where
@@ -31,13 +32,6 @@ reads_parts edges from [] rest to reads = record { mid = from; reads = refl; rea
 reads_parts edges from (g ∷ first) rest to reads =
     let next = reads_parts edges reads.0 first rest to reads.2 in
     record { mid = next.mid; reads = (reads.0, reads.1, next.reads); reads_on = next.reads_on }
-
--- where something was read, the edges lead to an item
-pub reads_to_item : (controls : ℕ) (edges : List Place) → LeadsToItems controls edges → (from : ℕ) (word : List ℕ) (to : ℕ) → (word ≡ [] → ⊥) → Reads edges from word to → controls ≤ to
-reads_to_item controls edges items from [] to full reads = absurd (full refl)
-reads_to_item controls edges items from (g ∷ []) to full reads =
-    let P : ℕ → Type 0 = λ n. controls ≤ n in subst P reads.2 (items _ reads.1)
-reads_to_item controls edges items from (g ∷ h ∷ word) to full reads = reads_to_item controls edges items reads.0 (h ∷ word) to (λ e. cc) reads.2
 
 module _ {S W Map : Type 0} {operations : S → Operations W Map} {p : Pushdown S W Map} (valid : IsSystem operations p) (laws : IsSemiring (operations p.semiring))
     (edges : List Place) (items : LeadsToItems p.controls edges) (weight : Place → W) (closed : IsClosedUnder (operations p.semiring) p edges weight) where

@@ -1,5 +1,5 @@
 -- Each job of a transition is listed once.
-use Rattle.std.proofs.Common.{◌≡◌, ◌⊎◌, inl, inr, ℕ, suc, ◌≤◌, Bool, true, false, List, [], ◌∷◌, ◌++◌, refl, sym, ap, ◌∙◌, subst, arith}
+use Rattle.std.proofs.Common.{◌≡◌, ◌⊎◌, inl, inr, ℕ, Bool, true, false, List, [], ◌++◌, sym, ap, ◌∙◌}
 use Rattle.std.specs.Prelude.{Option, None, Some, ◌&&◌, not}
 use Rattle.std.specs.List.{flat_map}
 use Rattle.std.proofs.lemmas.Bool.{and_parts, not-true, cond_both}
@@ -15,51 +15,12 @@ use Rattle.saturation_laws.specs.declared.job.JobKind.{JobKind}
 use Rattle.saturation_laws.specs.declared.job.JobKind.TheVariants.{PreStep, PrePushControl, PrePushOther}
 use Rattle.saturation_laws.specs.declared.job.Job.{Job}
 use Rattle.wpds_base.specs.Lists.{IsIn, IsOnce}
-use Rattle.saturation_laws.proofs.CallerLemmas.{in_append, from_flat_map, in_present}
-use Rattle.prestar_laws.specs.Jobs.{only_if, by_rule, one_symbol, two_symbols, step_job, push_job, step_of, are_inputs, pair_jobs, may_be_input, pairs_of, push_of, pre_jobs}
-use Rattle.prestar_laws.proofs.JobLemmas.{from_only}
-
-once_append : {X : Type 0} (xs ys : List X) → IsOnce xs → IsOnce ys → ((x : X) → IsIn x xs → IsIn x ys → ⊥) → IsOnce (xs ++ ys)
-once_append [] ys _ once _ = once
-once_append (x ∷ xs) ys here once apart = (
-  λ h. elim (in_append x xs ys h) [ inl g ↦ here.0 g | inr g ↦ apart x (inl refl) g ],
-  once_append xs ys here.1 once (λ y h g. apart y (inr h) g),
-)
-
-once_only : {X : Type 0} (test : Bool) (x : X) → IsOnce (only_if test x)
-once_only test x = cond_both test (x ∷ []) [] IsOnce (λ _. (λ h. h, tt)) (λ _. tt)
-
--- lists with nothing in common, one after the other
-once_flat_map : {X Y : Type 0} (f : X → List Y) (Of : Y → X → Type 0) → ((x : X) (y : Y) → IsIn y (f x) → Of y x) → ((y : Y) (x z : X) → Of y x → Of y z → x ≡ z) → ((x : X) → IsOnce (f x))
-    → (xs : List X) → IsOnce xs → IsOnce (flat_map f xs)
-once_flat_map f Of of same each [] _ = tt
-once_flat_map f Of of same each (x ∷ xs) once =
-    once_append (f x) (flat_map f xs) (each x) (once_flat_map f Of of same each xs once.1) (λ y h g.
-    let other = from_flat_map f y xs g in
-    let P : _ → Type 0 = λ z. IsIn z xs in
-    once.0 (subst P (sym (same y x other.before (of x y h) (of other.before y other.is))) other.there))
-
-module _ {S W Map X : Type 0} (f : ℕ → Rule S W Map → List X) (number : X → Option ℕ) (numbered : (k : ℕ) (r : Rule S W Map) (x : X) → IsIn x (f k r) → number x ≡ Some k)
-    (each : (k : ℕ) (r : Rule S W Map) → IsOnce (f k r)) where
-  from_number : (n : ℕ) (rs : List (Rule S W Map)) (x : X) → IsIn x (by_rule f n rs) → (k : ℕ) × (n ≤ k) × (number x ≡ Some k)
-  from_number n [] x h = absurd h
-  from_number n (r ∷ rs) x h = elim (in_append x (f n r) (by_rule f (suc n) rs) h) [
-    | inl here ↦ (n, omega arith, numbered n r x here)
-    | inr more ↦ let rest = from_number (suc n) rs x more in let far = rest.1 in (rest.0, omega (arith, far), rest.2)
-  ]
-
-  once_by_rule : (n : ℕ) (rs : List (Rule S W Map)) → IsOnce (by_rule f n rs)
-  once_by_rule n [] = tt
-  once_by_rule n (r ∷ rs) = once_append (f n r) (by_rule f (suc n) rs) (each n r) (once_by_rule (suc n) rs) (λ x h g.
-      let later = from_number (suc n) rs x g in
-      let same : n ≡ later.0 = same_Some n later.0 (sym (numbered n r x h) ∙ later.2) in
-      let far = later.1 in absurd (omega (arith, same, far)))
+use Rattle.saturation_laws.proofs.CallerLemmas.{in_append, from_flat_map}
+use Rattle.prestar_laws.specs.Jobs.{step_job, push_job, step_of, are_inputs, pair_jobs, may_be_input, pairs_of, push_of, pre_jobs}
+use Rattle.direction_parts.specs.Passes.{only_if, by_rule, one_symbol, two_symbols}
+use Rattle.direction_parts.proofs.CallerLemmas.{from_only, once_append, once_only, once_flat_map, once_by_rule, all_rules, distinct_once}
 
 module _ {S W Map : Type 0} where
-  distinct_once : (ts : List (Entry S W Map)) → HasDistinctPlaces ts → IsOnce ts
-  distinct_once [] _ = tt
-  distinct_once (t ∷ ts) distinct = (λ h. let e : None ≡ Some t = sym distinct.0 ∙ in_present ts t distinct.1 h in cc, distinct_once ts distinct.1)
-
   step_once : (t : Entry S W Map) (k : ℕ) (r : Rule S W Map) (o : Option ℕ) → IsOnce (elim o [ None ↦ [] | Some g ↦ only_if (is_from r.to (Symbol g) t) (step_job k r t) ])
   step_once t k r None = tt
   step_once t k r (Some g) = once_only (is_from r.to (Symbol g) t) (step_job k r t)
@@ -132,11 +93,6 @@ module _ {S W Map : Type 0} where
     push_are : (o : Option (ℕ × ℕ)) (j : Job S W Map) → IsIn j (elim o [ None ↦ [] | Some w ↦ pairs_of controls kind ts t k r w.0 w.1 ]) → (j.rule ≡ Some k) × (j.kind ≡ kind)
     push_are None j h = absurd h
     push_are (Some w) j h = pairs_are w.0 w.1 j h
-
-module _ {S W Map X : Type 0} (f : ℕ → Rule S W Map → List X) (P : X → Type 0) (each : (k : ℕ) (r : Rule S W Map) (x : X) → IsIn x (f k r) → P x) where
-  all_rules : (n : ℕ) (rs : List (Rule S W Map)) (x : X) → IsIn x (by_rule f n rs) → P x
-  all_rules n [] x h = absurd h
-  all_rules n (r ∷ rs) x h = elim (in_append x (f n r) (by_rule f (suc n) rs) h) [ inl here ↦ each n r x here | inr more ↦ all_rules (suc n) rs x more ]
 
 module _ {S W Map : Type 0} (p : Pushdown S W Map) (ts : List (Entry S W Map)) (t : Entry S W Map) (distinct : HasDistinctPlaces ts) where
   abbrev number : Job S W Map → Option ℕ

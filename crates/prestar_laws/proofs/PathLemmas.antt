@@ -1,7 +1,5 @@
 -- A run is met by a path, and a path gives a run.
 use Rattle.std.proofs.Common.{◌≡◌, ◌≢◌, inl, inr, ℕ, ◌<◌, ◌≤◌, List, [], ◌∷◌, ◌++◌, map, refl, sym, ap, ap₂, ◌∙◌, subst, append_assoc, arith}
-use Rattle.std.specs.Prelude.{Option, None, Some}
-use Rattle.std.specs.List.{AllByRecursion}
 use Rattle.std.proofs.lemmas.Bool.{cases_lt}
 use Rattle.std.proofs.lemmas.List.{append-nil}
 use Rattle.semiring_laws.specs.Semiring.{Operations, IsSemiring, Fits, Below}
@@ -9,8 +7,6 @@ use Rattle.weighted_automata.specs.declared.place.Place.{Place}
 use Rattle.weighted_automata.specs.declared.place.Label.{Label}
 use Rattle.weighted_automata.specs.declared.place.Label.TheVariants.{Symbol, Empty}
 use Rattle.weighted_automata.specs.declared.transitions.Entry.{Entry}
-use Rattle.weighted_automata.specs.Entries.{entry_at, Present}
-use Rattle.weighted_automata.proofs.CallerLemmas.{entry_at-place}
 use Rattle.witness_graph.specs.declared.node.Side.TheVariants.{Pre}
 use Rattle.pushdown_rules.specs.Configuration.{Configuration}
 use Rattle.pushdown_rules.specs.Pushdown.{Pushdown, IsSystem}
@@ -18,28 +14,24 @@ use Rattle.pushdown_rules.specs.Firing.{Run}
 use Rattle.pushdown_rules.specs.Values.{value_of}
 use Rattle.saturation_laws.specs.declared.opening.Opening.{Opening}
 use Rattle.wpds_base.specs.Lists.{IsIn}
-use Rattle.saturation_laws.specs.Jobs.{place_of}
-use Rattle.saturation_laws.specs.States.{weight_of, weight_at}
-use Rattle.saturation_laws.specs.Paths.{symbols_of, IsPath, EachRun, joined, along, Reads, IsOpened, entry_weight, IsMet, IsGiven}
+use Rattle.saturation_laws.specs.States.{weight_at}
+use Rattle.saturation_laws.specs.Paths.{symbols_of, IsPath, EachRun, joined, along, Reads, IsOpened, IsMet, IsGiven}
 use Rattle.semiring_laws.proofs.CallerLemmas.{below_itself, extend_keeps_below as extend_below, zero_below}
-use Rattle.prestar_laws.specs.Reading.{LeadsOver, PreRun, LeadsToItems}
-use Rattle.prestar_laws.specs.Rows.{arrow}
+use Rattle.prestar_laws.specs.Reading.{LeadsOver, PreRun}
 use Rattle.prestar_laws.proofs.Weights.{IsClosedUnder}
 use Rattle.pushdown_rules.proofs.CallerLemmas.{run_above, run_then, none_from_nothing, ends_control, split, joined_value}
 use Rattle.prestar_laws.proofs.RowLemmas.{fits, from_control, from_item}
 use Rattle.pushdown_rules.specs.Configuration.{at_stack}
 use Rattle.pushdown_rules.specs.Splits.{Falls, Stays}
-use Rattle.prestar_laws.proofs.MeetingLemmas.{reads_parts, reads_to_item, place_below}
+use Rattle.prestar_laws.proofs.MeetingLemmas.{reads_parts, place_below}
+use Rattle.direction_parts.specs.Places.{LeadsToItems, arrow}
+use Rattle.direction_parts.proofs.CallerLemmas.{reads_to_item, reads_more, along_fits, is_there}
 
 -- what leads to a control has read nothing
 reads_to_control : (controls : ℕ) (edges : List Place) → LeadsToItems controls edges → (from : ℕ) (word : List ℕ) (to : ℕ) → to < controls → Reads edges from word to → (word ≡ []) × (from ≡ to)
 reads_to_control controls edges items from [] to low reads = (refl, reads)
 reads_to_control controls edges items from (g ∷ word) to low reads =
     absurd (let h : controls ≤ to = reads_to_item controls edges items from (g ∷ word) to (λ e. cc) reads in omega arith)
-
-pub reads_more : (edges : List Place) (from : ℕ) (word : List ℕ) (mid g to : ℕ) → Reads edges from word mid → IsIn (arrow mid g to) edges → Reads edges from (word ++ g ∷ []) to
-reads_more edges from [] mid g to reads edge = let P : ℕ → Type 0 = λ n. IsIn (arrow n g to) edges in (to, subst P (sym reads) edge, refl)
-reads_more edges from (h ∷ word) mid g to reads edge = (reads.0, reads.1, reads_more edges reads.0 word mid g to reads.2 edge)
 
 -- Places that lead over a word, with a product below v.
 pub record PlacesMet {W Map : Type 0} (s : Operations W Map) (weight : Place → W) (from : ℕ) (word : List ℕ) (to : ℕ) (v : W) : Type 0 where
@@ -48,10 +40,6 @@ pub record PlacesMet {W Map : Type 0} (s : Operations W Map) (weight : Place →
   pub below : Below s (along s Pre (map weight places)) v
 
 module _ {W Map : Type 0} {s : Operations W Map} (laws : IsSemiring s) (weight : Place → W) (fit : (x : Place) → Fits s (weight x)) where
-  pub along_fits : (xs : List Place) → Fits s (along s Pre (map weight xs))
-  along_fits [] = laws.fits-one
-  along_fits (x ∷ xs) = laws.fits-extend (weight x) (along s Pre (map weight xs)) (fit x) (along_fits xs)
-
   -- one place before
   met_before : (from g mid : ℕ) (word : List ℕ) (to : ℕ) (u v w : W) → Fits s u → Fits s v → Below s (weight (arrow from g mid)) u → s.extend u v ≡ w
       → PlacesMet s weight mid word to v → PlacesMet s weight from (g ∷ word) to w
@@ -61,7 +49,7 @@ module _ {W Map : Type 0} {s : Operations W Map} (laws : IsSemiring s) (weight :
       record {
         places = x ∷ rest.places;
         leads = (word, refl, refl, rest.leads);
-        below = subst P is (extend_below laws (weight x) u (along s Pre (map weight rest.places)) v (fit x) fu (along_fits rest.places) fv below rest.below);
+        below = subst P is (extend_below laws (weight x) u (along s Pre (map weight rest.places)) v (fit x) fu (along_fits laws Pre weight fit rest.places) fv below rest.below);
       }
 
   -- the opening edges
@@ -202,33 +190,6 @@ module _ {S W Map : Type 0} {operations : S → Operations W Map} {p : Pushdown 
         run = λ final. (d, ends_control valid laws (joined Pre rs) c d led.leads.1 control, (to, subst P (sym same) led.leads.2, final), led.leads.1);
       }
 
--- A path of transitions at these places.
-pub record IsThere {S W Map : Type 0} (s : Operations W Map) (ts : List (Entry S W Map)) (xs : List Place) : Type 0 where
-  pub path : List (Entry S W Map)
-  pub present : AllByRecursion (Present ts) path
-  pub places : map place_of path ≡ xs
-  pub weights : map entry_weight path ≡ map (λ x. weight_at s x ts) xs
-
-module _ {S W Map : Type 0} {s : Operations W Map} (laws : IsSemiring s) (ts : List (Entry S W Map)) (fit : (x : Place) → Fits s (weight_at s x ts)) where
-  there_more : (x : Place) (o : Option (Entry S W Map)) → entry_at x ts ≡ o → (xs : List Place) → (s.extend (weight_of s o) (along s Pre (map (λ y. weight_at s y ts) xs)) ≡ s.zero → ⊥)
-      → ((along s Pre (map (λ y. weight_at s y ts) xs) ≡ s.zero → ⊥) → IsThere s ts xs) → IsThere s ts (x ∷ xs)
-  there_more x None e xs some known = absurd (some (laws.extend-zero_left _ (along_fits laws (λ y. weight_at s y ts) fit xs)))
-  there_more x (Some t) e xs some known =
-      let at : t.place ≡ x = entry_at-place x ts t e in
-      let fx : Fits s t.weight = let P : Option (Entry S W Map) → Type 0 = λ o. Fits s (weight_of s o) in subst P e (fit x) in
-      let rest = known (λ z. some (ap (s.extend t.weight) z ∙ laws.extend-zero_right t.weight fx)) in
-      record {
-        path = t ∷ rest.path;
-        present = (ap (λ y. entry_at y ts) at ∙ e, rest.present);
-        places = ap₂ (λ y ys. y ∷ ys) at rest.places;
-        weights = ap₂ (λ w ws. w ∷ ws) (sym (ap (weight_of s) e)) rest.weights;
-      }
-
-  -- where the product is not zero, each place has a transition
-  pub is_there : (xs : List Place) → (along s Pre (map (λ y. weight_at s y ts) xs) ≡ s.zero → ⊥) → IsThere s ts xs
-  is_there [] some = record { path = []; present = tt; places = refl; weights = refl }
-  is_there (x ∷ xs) some = there_more x (entry_at x ts) refl xs some (is_there xs)
-
 module _ {S W Map : Type 0} {operations : S → Operations W Map} {p : Pushdown S W Map} (valid : IsSystem operations p) (laws : IsSemiring (operations p.semiring))
     (o : Opening) (items : LeadsToItems p.controls o.edges) (ts : List (Entry S W Map))
     (closed : IsClosedUnder (operations p.semiring) p o.edges (λ x. weight_at (operations p.semiring) x ts)) where
@@ -240,7 +201,7 @@ module _ {S W Map : Type 0} {operations : S → Operations W Map} {p : Pushdown 
       let v = value_of s p run in
       let weight : Place → W = λ x. weight_at s x ts in
       let met = run_met valid laws o.edges items weight closed from.stack run from.control opened.0 to goes opened.1 in
-      let there = is_there laws ts closed.fits met.places (λ none.
+      let there = is_there laws ts Pre closed.fits met.places (λ none.
       let P : W → Type 0 = λ w. Below s w v in some (zero_below laws v (fits valid laws run) (subst P none met.below))) in
       let Q : List Place → Type 0 = λ xs. IsPath xs from.control from.stack opened.0 in
       let R : List W → Type 0 = λ ws. Below s (along s Pre ws) v in

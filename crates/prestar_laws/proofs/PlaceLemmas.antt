@@ -1,20 +1,19 @@
 -- The places that the backward direction can reach.
-use Rattle.std.proofs.Common.{◌≡◌, inl, inr, ℕ, suc, ◌*◌, ◌<◌, ◌≤◌, true, List, [], ◌∷◌, ◌++◌, map, length, refl, sym, ap, ◌∙◌, subst, arith}
+use Rattle.std.proofs.Common.{◌≡◌, inl, inr, ℕ, suc, ◌*◌, ◌<◌, ◌≤◌, true, List, [], ◌∷◌, ◌++◌, map, length, sym, ap, ◌∙◌, subst, arith}
 use Rattle.std.specs.Prelude.{nat_le, if◌then◌else◌}
 use Rattle.std.specs.List.{flat_map, list_all, range_with_len}
 use Rattle.std.proofs.lemmas.Bool.{and_parts, leb-true, leb-false, cond_both}
 use Rattle.std.proofs.lemmas.List.{length-map}
 use Rattle.std.proofs.lemmas.List.FromFn.{length-range_with_len}
 use Rattle.std.proofs.Math.Nat.{mul_assoc}
-use Rattle.weighted_automata.specs.declared.place.Label.{Label}
-use Rattle.weighted_automata.specs.declared.place.Label.TheVariants.{Symbol, Empty}
+use Rattle.weighted_automata.specs.declared.place.Label.TheVariants.{Symbol}
 use Rattle.weighted_automata.specs.declared.place.Place.{Place}
 use Rattle.saturation_laws.specs.declared.opening.Opening.{Opening}
 use Rattle.wpds_base.specs.Lists.{IsIn}
 use Rattle.saturation_laws.proofs.CallerLemmas.{in_left, in_map, from_map, in_range, from_range, in_flat_map, from_flat_map, length-flat_map_of}
-use Rattle.prestar_laws.specs.Rows.{arrow}
-use Rattle.prestar_laws.specs.Reading.{LeadsToItems}
-use Rattle.prestar_laws.specs.Fitting.{reads_symbol, is_item_edge, above, state_count, arrows}
+use Rattle.prestar_laws.specs.Fitting.{is_item_edge, above, state_count, arrows}
+use Rattle.direction_parts.specs.Places.{arrow, LeadsToItems, reads_symbol}
+use Rattle.direction_parts.proofs.CallerLemmas.{all_listed, symbol_of}
 
 pub above_start : (n : ℕ) (qs : List ℕ) → n ≤ above n qs
 above_start n [] = omega arith
@@ -69,21 +68,10 @@ module _ (controls symbols states : ℕ) where
       let with : (c : ℕ) → length (with_each c) ≡ symbols * states = λ c. length-flat_map_of (to_each c) states (to c) (range_with_len 0 symbols) ∙ ap (λ n. n * states) (length-range_with_len 0 symbols) in
       length-flat_map_of with_each (symbols * states) with (range_with_len 0 controls) ∙ ap (λ n. n * (symbols * states)) (length-range_with_len 0 controls) ∙ sym (mul_assoc controls symbols states)
 
--- each edge of an opening that fits reads a symbol, and leads to an item
-pub item_edges : (controls : ℕ) (edges : List Place) → list_all (is_item_edge controls) edges ≡ true → (x : Place) → IsIn x edges → is_item_edge controls x ≡ true
-item_edges controls [] all x h = absurd h
-item_edges controls (y ∷ edges) all x h =
-    let parts = and_parts (is_item_edge controls y) (list_all (is_item_edge controls) edges) all in
-    elim h [ inl same ↦ sym (ap (is_item_edge controls) same) ∙ parts.0 | inr there ↦ item_edges controls edges parts.1 x there ]
-
 pub leads_to_items : (controls : ℕ) (edges : List Place) → list_all (is_item_edge controls) edges ≡ true → LeadsToItems controls edges
 leads_to_items controls edges all x edge =
-    let parts = and_parts (reads_symbol x.label) (nat_le controls x.to) (item_edges controls edges all x edge) in leb-true controls x.to parts.1
-
-symbol_of : (l : Label) → reads_symbol l ≡ true → (g : ℕ) × (l ≡ Symbol g)
-symbol_of (Symbol g) h = (g, refl)
-symbol_of Empty h = cc
+    let parts = and_parts (reads_symbol x.label) (nat_le controls x.to) (all_listed (is_item_edge controls) edges all x edge) in leb-true controls x.to parts.1
 
 pub reads_one : (controls : ℕ) (edges : List Place) → list_all (is_item_edge controls) edges ≡ true → (x : Place) → IsIn x edges → (g : ℕ) × (x.label ≡ Symbol g)
 reads_one controls edges all x edge =
-    let parts = and_parts (reads_symbol x.label) (nat_le controls x.to) (item_edges controls edges all x edge) in symbol_of x.label parts.0
+    let parts = and_parts (reads_symbol x.label) (nat_le controls x.to) (all_listed (is_item_edge controls) edges all x edge) in symbol_of x.label parts.0

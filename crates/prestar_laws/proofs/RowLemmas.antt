@@ -17,8 +17,10 @@ use Rattle.wpds_base.specs.Lists.{IsIn}
 use Rattle.saturation_laws.specs.Directions.{AreRuns}
 use Rattle.pushdown_rules.proofs.CallerLemmas.{rule_at, value_fits, fires, run_above, run_then, by_word, rules_cons, step_value, push_value, open_value, ends_control, weight_fits, map_fits}
 use Rattle.saturation_laws.specs.Paths.{Reads}
-use Rattle.prestar_laws.specs.Reading.{LeadsTo, PreRun, LeadsToItems}
+use Rattle.prestar_laws.specs.Reading.{LeadsTo, PreRun}
 use Rattle.saturation_laws.proofs.CallerLemmas.{IsLinear, linear, bilinear, all_map, all_pairs, then_empty, after_rule}
+use Rattle.direction_parts.specs.Places.{LeadsToItems}
+use Rattle.direction_parts.proofs.CallerLemmas.{linear_extend}
 
 module _ {S W Map : Type 0} {operations : S → Operations W Map} {p : Pushdown S W Map} (valid : IsSystem operations p) (laws : IsSemiring (operations p.semiring)) where
   abbrev s : Operations W Map
@@ -35,19 +37,6 @@ module _ {S W Map : Type 0} {operations : S → Operations W Map} {p : Pushdown 
   pop_value k r there none =
       ap (run_value s) (rules_cons s p k r [] there) ∙ ap (λ (m : Machine W Map). product s m.frames m.accumulator) (by_word s r [] (starting s) none)
       ∙ laws.extend-one_left r.weight (weight_fits valid laws k r there)
-
-  -- what the rows leave as it is
-  pub linear_extend : (a : W) → Fits s a → IsLinear s (s.extend a)
-  linear_extend a fit_a = record {
-    strict = laws.extend-zero_right a fit_a;
-    adds = λ b c fb fc. laws.extend-combine_right a b c fit_a fb fc;
-  }
-
-  pub linear_extended : (b : W) → Fits s b → IsLinear s (λ a. s.extend a b)
-  linear_extended b fit_b = record {
-    strict = laws.extend-zero_left b fit_b;
-    adds = λ a c fa fc. laws.extend-combine_left a c b fa fc fit_b;
-  }
 
   module _ (edges : List Place) where
     abbrev runs : Place → List ℕ → Type 0
@@ -94,7 +83,7 @@ module _ {S W Map : Type 0} {operations : S → Operations W Map} {p : Pushdown 
           subst Q (sym all) (record {
             each = all_map (runs (goal q)) first same P (λ a run. step_run g right q a run) xs is.each;
             weight = ap (s.extend r.weight) is.weight
-                ∙ sym (linear laws value fits (s.extend r.weight) (linear_extend r.weight (weight_fits valid laws k r there)) first same P (λ a _. step_value valid laws k r there g right a) xs is.each);
+                ∙ sym (linear laws value fits (s.extend r.weight) (linear_extend laws r.weight (weight_fits valid laws k r there)) first same P (λ a _. step_value valid laws k r there g right a) xs is.each);
           })
 
       module _ (g₁ g₂ : ℕ) (right : r.right ≡ g₁ ∷ g₂ ∷ []) (q₁ q : ℕ) where
@@ -155,7 +144,7 @@ module _ {S W Map : Type 0} {operations : S → Operations W Map} {p : Pushdown 
                     ∙ ap (λ z. s.extend z b) (laws.after-combine m (s.extend r.weight x) (s.extend r.weight y) fit_map ex ey)
                     ∙ laws.extend-combine_left (s.after m (s.extend r.weight x)) (s.after m (s.extend r.weight y)) b (laws.fits-after m _ fit_map ex) (laws.fits-after m _ fit_map ey) fb;
               } in
-              let across : (a : W) → Fits s a → IsLinear s (F a) = λ a fa. linear_extend (s.after m (s.extend r.weight a)) (laws.fits-after m _ fit_map (laws.fits-extend r.weight a fit_rule fa)) in
+              let across : (a : W) → Fits s a → IsLinear s (F a) = λ a fa. linear_extend laws (s.after m (s.extend r.weight a)) (laws.fits-after m _ fit_map (laws.fits-extend r.weight a fit_rule fa)) in
               let Q : List (List ℕ) → Type 0 = AreRuns s value runs (goal q) (F v w) in
               subst Q (sym (after_rule k (concatenations xs ys))) (record {
                 each = all_pairs (runs (goal q)) f (runs callee) (runs rest) call_run xs ys first.each second.each;
@@ -206,7 +195,7 @@ module _ {S W Map : Type 0} {operations : S → Operations W Map} {p : Pushdown 
                     ap (λ z. s.extend z b) (laws.extend-combine_right r.weight x y fit_rule fx fy)
                     ∙ laws.extend-combine_left (s.extend r.weight x) (s.extend r.weight y) b (laws.fits-extend r.weight x fit_rule fx) (laws.fits-extend r.weight y fit_rule fy) fb;
               } in
-              let across : (a : W) → Fits s a → IsLinear s (F a) = λ a fa. linear_extend (s.extend r.weight a) (laws.fits-extend r.weight a fit_rule fa) in
+              let across : (a : W) → Fits s a → IsLinear s (F a) = λ a fa. linear_extend laws (s.extend r.weight a) (laws.fits-extend r.weight a fit_rule fa) in
               let Q : List (List ℕ) → Type 0 = AreRuns s value runs (goal q) (F v w) in
               subst Q (sym (after_rule k (concatenations xs ys))) (record {
                 each = all_pairs (runs (goal q)) f (runs callee) (runs rest) open_run xs ys first.each second.each;

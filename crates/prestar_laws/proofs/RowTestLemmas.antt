@@ -1,13 +1,10 @@
 -- What a row of the backward table says of its job.
-use Rattle.std.proofs.Common.{◌≡◌, ◌⊎◌, inl, inr, ℕ, ◌<◌, ◌≤◌, true, false, List, [], ◌∷◌, refl, sym, ap, ap₂, ◌∙◌, subst}
-use Rattle.std.specs.Prelude.{Option, None, Some, is_none, ◌&&◌, nat_lt, nat_eq, not, slice_get, option_map}
-use Rattle.std.proofs.lemmas.Bool.{and_parts, and_from, eqb-true, eq-eqb, lt-ltb, le-ltb, ltb-true, ltb-false, not-true}
+use Rattle.std.proofs.Common.{◌≡◌, ◌⊎◌, inl, inr, ℕ, ◌<◌, ◌≤◌, true, false, List, [], ◌∷◌, refl, sym, ap, ◌∙◌, subst}
+use Rattle.std.specs.Prelude.{Option, None, Some, is_none, ◌&&◌, nat_lt, not, slice_get, option_map}
+use Rattle.std.proofs.lemmas.Bool.{and_parts, and_from, lt-ltb, le-ltb, ltb-true, ltb-false, not-true}
 use Rattle.weighted_automata.specs.declared.place.Place.{Place}
-use Rattle.weighted_automata.specs.declared.place.Label.{Label}
-use Rattle.weighted_automata.specs.declared.place.Label.TheVariants.{Symbol, Empty}
 use Rattle.weighted_automata.specs.declared.transitions.Entry.{Entry}
-use Rattle.weighted_automata.specs.Places.{same_label, same_place}
-use Rattle.weighted_automata.specs.Entries.{is_from}
+use Rattle.weighted_automata.specs.Places.{same_place}
 use Rattle.weighted_automata.proofs.CallerLemmas.{same_place_is, same_place_from, same_place_itself}
 use Rattle.pushdown_rules.specs.declared.rule.Rule.{Rule}
 use Rattle.pushdown_rules.specs.Pushdown.{Pushdown}
@@ -15,26 +12,9 @@ use Rattle.saturation_laws.specs.declared.job.JobKind.{JobKind}
 use Rattle.saturation_laws.specs.declared.job.JobKind.TheVariants.{PreStep, PrePushControl, PrePushOther, PostStep, PostPopMiddle, PostPopOther, PostEnter, PostLeave, PostGlue}
 use Rattle.saturation_laws.specs.declared.job.Job.{Job}
 use Rattle.saturation_laws.specs.Jobs.{Row, row_of, place_of}
-use Rattle.prestar_laws.specs.Rows.{arrow, is_place, is_step, is_push, second_from, step_row, push_row, rule_row, pre_rows}
+use Rattle.prestar_laws.specs.Rows.{is_place, is_step, is_push, second_from, step_row, push_row, rule_row, pre_rows}
 use Rattle.prestar_laws.proofs.TableLemmas.{input_at, no_input}
-
--- a label is a symbol's exactly where the test holds
-pub label_is : (l : Label) (g : ℕ) → same_label l (Symbol g) ≡ true → l ≡ Symbol g
-label_is (Symbol a) g h = ap Symbol (eqb-true a g h)
-label_is Empty g h = cc
-
-pub label_from : (l : Label) (g : ℕ) → l ≡ Symbol g → same_label l (Symbol g) ≡ true
-label_from l g e = ap (λ m. same_label m (Symbol g)) e ∙ eq-eqb g g refl
-
-module _ {S W Map : Type 0} where
-  pub from_is : (n g : ℕ) (t : Entry S W Map) → is_from n (Symbol g) t ≡ true → t.place ≡ arrow n g t.place.to
-  from_is n g t h =
-      let parts = and_parts (nat_eq t.place.from n) (same_label t.place.label (Symbol g)) h in
-      ap₂ (λ m l. let x : Place = record { from = m; label = l; to = t.place.to } in x) (eqb-true t.place.from n parts.0) (label_is t.place.label g parts.1)
-
-  pub is_from_there : (n g q : ℕ) (t : Entry S W Map) → t.place ≡ arrow n g q → is_from n (Symbol g) t ≡ true
-  is_from_there n g q t at =
-      and_from (nat_eq t.place.from n) (same_label t.place.label (Symbol g)) (eq-eqb t.place.from n (ap (λ (x : Place). x.from) at)) (label_from t.place.label g (ap (λ (x : Place). x.label) at))
+use Rattle.direction_parts.specs.Places.{arrow}
 
 module _ {S W Map : Type 0} (p : Pushdown S W Map) (k : ℕ) (r : Rule S W Map) where
   -- a job of the rule, to a state

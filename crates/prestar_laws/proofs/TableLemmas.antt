@@ -23,10 +23,11 @@ use Rattle.saturation_laws.specs.declared.job.JobKind.TheVariants.{PreStep, PreP
 use Rattle.saturation_laws.specs.declared.job.Job.{Job}
 use Rattle.saturation_laws.specs.Jobs.{Row, row_of, place_of, named_rule, named_first}
 use Rattle.saturation_laws.specs.Directions.{AreRuns, AreInputRuns}
-use Rattle.prestar_laws.specs.Reading.{PreRun, LeadsToItems}
+use Rattle.prestar_laws.specs.Reading.{PreRun}
 use Rattle.saturation_laws.specs.States.{weight_of}
-use Rattle.prestar_laws.specs.Rows.{arrow, is_place, is_step, is_push, second_from, push_row, rule_row, pre_rows, rule_candidate, at_rule as at_rule_of, pre_candidate}
+use Rattle.prestar_laws.specs.Rows.{is_place, is_step, is_push, second_from, push_row, rule_row, pre_rows, rule_candidate, at_rule as at_rule_of, pre_candidate}
 use Rattle.prestar_laws.proofs.RowLemmas.{step_sound, call_sound, open_sound}
+use Rattle.direction_parts.specs.Places.{LeadsToItems, arrow}
 
 module _ {S W Map : Type 0} where
   -- an input at a place

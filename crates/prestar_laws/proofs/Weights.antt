@@ -8,7 +8,8 @@ use Rattle.wpds_base.specs.Lists.{IsIn}
 use Rattle.witness_graph.specs.declared.node.Side.TheVariants.{Pre}
 use Rattle.saturation_laws.specs.declared.job.Job.{Job}
 use Rattle.saturation_laws.specs.Jobs.{Tables, Row}
-use Rattle.prestar_laws.specs.Rows.{arrow, pre_rows, pre_candidate}
+use Rattle.prestar_laws.specs.Rows.{pre_rows, pre_candidate}
+use Rattle.direction_parts.specs.Places.{arrow}
 
 -- Each place has a weight below what the opening edges, the pop rules and the rows ask for. A place that is not there has zero.
 pub record IsClosedUnder {S W Map : Type 0} (s : Operations W Map) (p : Pushdown S W Map) (edges : List Place) (weight : Place → W) : Type 0 where

@@ -1,16 +1,10 @@
 -- Which openings the backward direction fits, and the places that it can reach.
-use Rattle.std.specs.Prelude.{ℕ, suc, Bool, true, false, ◌&&◌, nat_le, List, [], ◌∷◌, ◌++◌, map, if◌then◌else◌}
+use Rattle.std.specs.Prelude.{ℕ, suc, Bool, ◌&&◌, nat_le, List, [], ◌∷◌, ◌++◌, map, if◌then◌else◌}
 use Rattle.std.specs.List.{flat_map, list_all, range_with_len}
-use Rattle.weighted_automata.specs.declared.place.Label.{Label}
-use Rattle.weighted_automata.specs.declared.place.Label.TheVariants.{Symbol, Empty}
 use Rattle.weighted_automata.specs.declared.place.Place.{Place}
 use Rattle.pushdown_rules.specs.Pushdown.{Pushdown}
 use Rattle.saturation_laws.specs.declared.opening.Opening.{Opening}
-use Rattle.prestar_laws.specs.Rows.{arrow}
-
-abbrev pub reads_symbol : Label → Bool
-reads_symbol (Symbol g) = true
-reads_symbol Empty = false
+use Rattle.direction_parts.specs.Places.{arrow, reads_symbol}
 
 -- the edge reads a symbol, and leads to a state that is no control
 abbrev pub is_item_edge : ℕ → Place → Bool

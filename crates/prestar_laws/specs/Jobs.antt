@@ -1,5 +1,5 @@
 -- The jobs of a transition, backwards.
-use Rattle.std.specs.Prelude.{ℕ, suc, Bool, ◌&&◌, ◌||◌, not, nat_lt, List, [], ◌∷◌, ◌++◌, Option, None, Some, if◌then◌else◌}
+use Rattle.std.specs.Prelude.{ℕ, Bool, ◌&&◌, ◌||◌, not, nat_lt, List, [], ◌++◌, None, Some, if◌then◌else◌}
 use Rattle.std.specs.List.{flat_map}
 use Rattle.semiring_laws.specs.Semiring.{Operations}
 use Rattle.weighted_automata.specs.declared.place.Label.TheVariants.{Symbol}
@@ -13,30 +13,15 @@ use Rattle.saturation_laws.specs.declared.job.JobKind.{JobKind}
 use Rattle.saturation_laws.specs.declared.job.JobKind.TheVariants.{PreStep, PrePushControl, PrePushOther}
 use Rattle.saturation_laws.specs.declared.job.Job.{Job}
 use Rattle.saturation_laws.specs.Jobs.{Tables}
-use Rattle.prestar_laws.specs.Rows.{arrow, pre_rows, pre_candidate}
-
--- the item alone, where the test holds
-abbrev pub only_if : {X : Type 0} → Bool → X → List X
-only_if test x = if test then x ∷ [] else []
-
--- the symbol of a word of one
-abbrev pub one_symbol : List ℕ → Option ℕ
-one_symbol word = elim word [ [] ↦ None | g ∷ gs ↦ elim gs [ [] ↦ Some g | h ∷ hs ↦ None ] ]
-
--- the symbols of a word of two
-abbrev pub two_symbols : List ℕ → Option (ℕ × ℕ)
-two_symbols word = elim word [ [] ↦ None | g ∷ gs ↦ elim gs [ [] ↦ None | h ∷ hs ↦ elim hs [ [] ↦ Some (g, h) | i ∷ is ↦ None ] ] ]
+use Rattle.prestar_laws.specs.Rows.{pre_rows, pre_candidate}
+use Rattle.direction_parts.specs.Places.{arrow}
+use Rattle.direction_parts.specs.Passes.{only_if, one_symbol, two_symbols, by_rule}
 
 -- whether a push of this kind goes on in the state that its callee comes to
 abbrev pub goes_on : ℕ → JobKind → ℕ → Bool
 goes_on controls kind q = elim kind [ PrePushControl ↦ nat_lt q controls | _ ↦ not (nat_lt q controls) ]
 
 module _ {S W Map : Type 0} where
-  -- what each rule gives, counted on from a number
-  abbrev pub by_rule : {X : Type 0} → (ℕ → Rule S W Map → List X) → ℕ → List (Rule S W Map) → List X
-  by_rule f k [] = []
-  by_rule f k (r ∷ rs) = f k r ++ by_rule f (suc k) rs
-
   abbrev pub step_job : ℕ → Rule S W Map → Entry S W Map → Job S W Map
   step_job k r t = record { kind = PreStep; rule = Some k; frame = None; first = Some t; second = None; goal = arrow r.control r.symbol t.place.to }
 

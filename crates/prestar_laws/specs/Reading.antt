@@ -22,7 +22,3 @@ PreRun p edges x run = elim x.label [
   | Symbol g ↦ ((x.from < p.controls) × LeadsTo p edges x.from g x.to run) ⊎ ((p.controls ≤ x.from) × IsIn x edges × (run ≡ []))
   | Empty ↦ ⊥
 ]
-
--- no edge leads to a control
-abbrev pub LeadsToItems : ℕ → List Place → Type 0
-LeadsToItems controls edges = (x : Place) → IsIn x edges → controls ≤ x.to

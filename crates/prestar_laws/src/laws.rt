@@ -3,10 +3,10 @@ ghost use Rattle.weighted_automata.specs.declared.transitions.Entry.{Entry};
 ghost use Rattle.weighted_automata.specs.Entries.{HasDistinctPlaces};
 ghost use Rattle.pushdown_rules.specs.Pushdown.{Pushdown, IsSystem};
 ghost use Rattle.saturation_laws.specs.declared.opening.Opening.{Opening};
-ghost use Rattle.prestar_laws.specs.Reading.{LeadsToItems};
 ghost use Rattle.prestar_laws.specs.Ways.{HasBackwardSums};
 ghost use Rattle.prestar_laws.specs.Jobs.{pre_jobs};
 ghost use Rattle.wpds_base.specs.Lists.{IsOnce};
+ghost use Rattle.direction_parts.specs.Places.{LeadsToItems};
 
 use semiring_laws::Semiring;
 

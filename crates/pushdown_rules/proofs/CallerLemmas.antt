@@ -1,7 +1,8 @@
 -- What crates above may cite.
 pub use Rattle.pushdown_rules.proofs.FiringLemmas.{fired, fires, none_from_nothing, run_above, run_then}
-pub use Rattle.pushdown_rules.proofs.MachineLemmas.{by_word, rules_cons}
-pub use Rattle.pushdown_rules.proofs.SplitLemmas.{joined_value, split}
-pub use Rattle.pushdown_rules.proofs.SystemLemmas.{rule_at, value_fits}
+pub use Rattle.pushdown_rules.proofs.MachineLemmas.{after_word, by_word, rules_cons}
+pub use Rattle.pushdown_rules.proofs.RunValues.{step_fits}
+pub use Rattle.pushdown_rules.proofs.SplitLemmas.{after_value, joined_value, pop_last, split, step_last}
+pub use Rattle.pushdown_rules.proofs.SystemLemmas.{rule_at, rules_fit, value_fits}
 pub use Rattle.pushdown_rules.proofs.ValueLemmas.{ends_control, map_fits, open_value, push_value, step_value}
 pub use Rattle.pushdown_rules.proofs.ValueLemmas.{weight_fits}

@@ -15,8 +15,8 @@ pub use Rattle.saturation_laws.proofs.ListMembers.{from_filter, from_flat_map, f
 pub use Rattle.saturation_laws.proofs.ListMembers.{in_filter, in_flat_map, in_map, in_present}
 pub use Rattle.saturation_laws.proofs.ListMembers.{in_range, length-flat_map_of, present_once}
 pub use Rattle.saturation_laws.proofs.OpeningState.{none_out, opening_fits}
-pub use Rattle.saturation_laws.proofs.OpeningWeights.{entry_in, in_right, opened_below}
-pub use Rattle.saturation_laws.proofs.OpeningWeights.{opening_edges, opening_pops}
+pub use Rattle.saturation_laws.proofs.OpeningWeights.{edges_fit, edges_one, entry_in, in_right}
+pub use Rattle.saturation_laws.proofs.OpeningWeights.{opened_below, opening_edges, opening_pops}
 pub use Rattle.saturation_laws.proofs.OpeningWeights.{opening_weights_fit}
 pub use Rattle.saturation_laws.proofs.QueueLemmas.{all_append, get_push, has_place_is, in_append}
 pub use Rattle.saturation_laws.proofs.QueueLemmas.{in_left}

@@ -1,0 +1,5 @@
+mod PassLemmas
+mod LabelLemmas
+mod EdgeLemmas
+mod WeightLemmas
+pub mod CallerLemmas

@@ -1,0 +1,9 @@
+//! What both directions of a saturation are made of: places over a symbol, passes over the rules, and the weights of
+//! inputs and returns, with the lemmas that the laws of either direction cite.
+#![tactic(auto)]
+
+mod weights;
+mod words;
+
+pub use weights::{after_return, input_weight};
+pub use words::{one_symbol, two_symbols};

@@ -1,0 +1,145 @@
+ghost use Rattle.std.specs.Prelude.{◌≡◌, Some, IfOk, IfSome};
+ghost use Rattle.semiring_laws.specs.Semiring.{Fits, FitsMap};
+ghost use Rattle.pushdown_rules.specs.InSystem.{IsRuleIn};
+ghost use Rattle.saturation_laws.specs.Jobs.{InputsFit};
+ghost use Rattle.poststar_laws.specs.Rows.{step_worth, returned_worth, glue_worth, rule_candidate, rule_named};
+ghost use Rattle.poststar_laws.specs.Rows.{rule_worth_of, returned_worth_of, candidate_of};
+
+use direction_parts::{after_return, input_weight};
+use pushdown_rules::{Rule, System};
+use saturation_laws::{Job, JobKind};
+use semiring_laws::Semiring;
+use std::alloc::Global;
+use wpds_base::OutOfMemory;
+
+// The input, and then the rule.
+fn step_worth<S: Semiring>(
+    alloc: Global,
+    semiring: &S,
+    rule: &Rule<S>,
+    job: &Job<S>,
+) -> Result<S::W, OutOfMemory>
+    requires weight { Fits (S.operations semiring.now) rule.now.weight }
+    requires inputs { InputsFit (S.operations semiring.now) job.now }
+    ensures { IfOk result (λ w. w ≡ step_worth (S.operations semiring.now) rule.now job.now) }
+{
+    let first = input_weight(alloc, semiring, &job.first)?;
+    semiring.extend(alloc, &first, &rule.weight)
+}
+
+// What the return map of a push rule makes of a pop.
+fn worth_in<S: Semiring>(
+    alloc: Global,
+    semiring: &S,
+    frame: &Rule<S>,
+    rule: &Rule<S>,
+    job: &Job<S>,
+) -> Result<S::W, OutOfMemory>
+    requires map { IfSome frame.now.map (FitsMap (S.operations semiring.now)) }
+    requires weight { Fits (S.operations semiring.now) rule.now.weight }
+    requires inputs { InputsFit (S.operations semiring.now) job.now }
+    ensures { let worth = returned_worth (S.operations semiring.now) (Some frame.now) in
+        IfOk result (λ w. w ≡ worth rule.now job.now) }
+{
+    let inside = step_worth(alloc, semiring, rule, job)?;
+    after_return(alloc, semiring, frame, &inside)
+}
+
+// What a pop is worth that returns to the push rule of a number.
+fn returned_worth<S: Semiring>(
+    alloc: Global,
+    system: &System<S>,
+    frame: Option<u32>,
+    rule: &Rule<S>,
+    job: &Job<S>,
+) -> Result<S::W, OutOfMemory>
+    requires rule { IsRuleIn S.operations system.now rule.now }
+    requires inputs { InputsFit (S.operations system.now.semiring) job.now }
+    ensures { let worth = returned_worth_of S.operations system.now frame in
+        IfOk result (λ w. w ≡ worth rule.now job.now) }
+{
+    let Some(m) = frame else {
+        return system.semiring().zero(alloc);
+    };
+    if m < system.rules() {
+        worth_in(alloc, system.semiring(), system.rule(m), rule, job)
+    } else {
+        system.semiring().zero(alloc)
+    }
+}
+
+// What a job of a rule is worth.
+fn rule_worth<S: Semiring>(
+    alloc: Global,
+    system: &System<S>,
+    rule: &Rule<S>,
+    job: &Job<S>,
+) -> Result<S::W, OutOfMemory>
+    requires rule { IsRuleIn S.operations system.now rule.now }
+    requires inputs { InputsFit (S.operations system.now.semiring) job.now }
+    ensures { let s = S.operations system.now.semiring in
+        let frame = rule_named system.now.rules job.now.frame in
+        IfOk result (λ w. w ≡ rule_candidate s frame rule.now job.now) }
+{
+    let semiring = system.semiring();
+    match job.kind {
+        JobKind::PostStep | JobKind::PostPopOther => step_worth(alloc, semiring, rule, job),
+        JobKind::PostPopMiddle => returned_worth(alloc, system, job.frame, rule, job),
+        JobKind::PostEnter => semiring.copy(alloc, &rule.weight),
+        JobKind::PostLeave => input_weight(alloc, semiring, &job.first),
+        JobKind::PreStep | JobKind::PrePushControl | JobKind::PrePushOther | JobKind::PostGlue =>
+            semiring.zero(alloc),
+    }
+}
+
+// What a job of the rule of a number is worth.
+fn named_worth<S: Semiring>(
+    alloc: Global,
+    system: &System<S>,
+    number: Option<u32>,
+    job: &Job<S>,
+) -> Result<S::W, OutOfMemory>
+    requires { InputsFit (S.operations system.now.semiring) job.now }
+    ensures { IfOk result (λ w. w ≡ rule_worth_of S.operations system.now number job.now) }
+{
+    let Some(k) = number else {
+        return system.semiring().zero(alloc);
+    };
+    if k < system.rules() {
+        rule_worth(alloc, system, system.rule(k), job)
+    } else {
+        system.semiring().zero(alloc)
+    }
+}
+
+// Where two meet, the deeper one first.
+fn glue_worth<S: Semiring>(alloc: Global, semiring: &S, job: &Job<S>) -> Result<S::W, OutOfMemory>
+    requires { InputsFit (S.operations semiring.now) job.now }
+    ensures { IfOk result (λ w. w ≡ glue_worth (S.operations semiring.now) job.now) }
+{
+    let deep = input_weight(alloc, semiring, &job.first)?;
+    let empty = input_weight(alloc, semiring, &job.second)?;
+    semiring.extend(alloc, &deep, &empty)
+}
+
+/// What a job is worth over a system.
+pub(crate) fn worth<S: Semiring>(
+    alloc: Global,
+    system: &System<S>,
+    job: &Job<S>,
+) -> Result<S::W, OutOfMemory>
+    requires { InputsFit (S.operations system.now.semiring) job.now }
+    ensures { IfOk result (λ w. w ≡ candidate_of S.operations system.now job.now) }
+{
+    match job.kind {
+        JobKind::PostGlue => glue_worth(alloc, system.semiring(), job),
+        JobKind::PreStep
+        | JobKind::PrePushControl
+        | JobKind::PrePushOther
+        | JobKind::PostStep
+        | JobKind::PostPopMiddle
+        | JobKind::PostPopOther
+        | JobKind::PostEnter
+        | JobKind::PostLeave => named_worth(alloc, system, job.rule, job),
+    }
+}

@@ -1,0 +1,113 @@
+ghost use Rattle.std.specs.Prelude.{◌≡◌, ◌++◌, IfOk, OnOk};
+ghost use Rattle.std.specs.List.{flat_map};
+ghost use Rattle.semiring_laws.specs.Semiring.{Fits};
+ghost use Rattle.direction_parts.specs.Places.{reads_symbol};
+ghost use Rattle.direction_parts.specs.Passes.{only_if};
+ghost use Rattle.poststar_laws.specs.Rows.{are_glued};
+ghost use Rattle.poststar_laws.specs.Jobs.{glue_job, glue_jobs};
+ghost use Rattle.direction_parts.specs.Worths.{AreFit};
+
+use saturation_core::copy_input;
+use saturation_laws::{Job, JobKind};
+use semiring_laws::Semiring;
+use std::alloc::Global;
+use weighted_automata::{Entry, Label, Place, Transitions};
+use wpds_base::OutOfMemory;
+
+fn reads_symbol(label: Label) -> bool
+    ensures { result ≡ reads_symbol label }
+{
+    match label {
+        Label::Symbol(_) => true,
+        Label::Empty => false,
+    }
+}
+
+// Whether an empty place leads to where another begins, which reads a symbol.
+fn are_glued(deep: Place, empty: Place) -> bool
+    ensures { result ≡ are_glued deep empty }
+{
+    reads_symbol(deep.label) && empty.label.is(Label::Empty) && empty.to == deep.from
+}
+
+// The job of a transition that reads a symbol, and an empty one.
+fn glue_job<S: Semiring>(
+    alloc: Global,
+    semiring: &S,
+    deep: &Entry<S>,
+    empty: &Entry<S>,
+) -> Result<Job<S>, OutOfMemory>
+    requires deep { Fits (S.operations semiring.now) deep.now.weight }
+    requires empty { Fits (S.operations semiring.now) empty.now.weight }
+    ensures { IfOk result (λ j. j ≡ glue_job deep.now empty.now) }
+{
+    let goal = Place {
+        from: empty.place.from,
+        label: deep.place.label,
+        to: deep.place.to,
+    };
+    Ok(Job {
+        kind: JobKind::PostGlue,
+        rule: None,
+        frame: None,
+        first: Some(copy_input(alloc, semiring, deep)?),
+        second: Some(copy_input(alloc, semiring, empty)?),
+        goal,
+    })
+}
+
+// Adds the job of these two, if they meet.
+fn list_if_glued<S: Semiring>(
+    alloc: Global,
+    semiring: &S,
+    deep: &Entry<S>,
+    empty: &Entry<S>,
+    jobs: &mut Vec<Job<S>>,
+) -> Result<(), OutOfMemory>
+    requires deep { Fits (S.operations semiring.now) deep.now.weight }
+    requires empty { Fits (S.operations semiring.now) empty.now.weight }
+    ensures { let meets = are_glued deep.now.place empty.now.place in
+        let more = only_if meets (glue_job deep.now empty.now) in
+        OnOk result (jobs.new.items ≡ jobs.old.items ++ more) }
+{
+    if are_glued(deep.place, empty.place) {
+        jobs.push(glue_job(alloc, semiring, deep, empty)?)?;
+    }
+    Ok(())
+}
+
+// Adds the jobs of a transition and another, whichever of them reads a symbol.
+fn list_glue<S: Semiring>(
+    alloc: Global,
+    semiring: &S,
+    taken: &Entry<S>,
+    other: &Entry<S>,
+    jobs: &mut Vec<Job<S>>,
+) -> Result<(), OutOfMemory>
+    requires taken { Fits (S.operations semiring.now) taken.now.weight }
+    requires other { Fits (S.operations semiring.now) other.now.weight }
+    ensures { let more = glue_jobs taken.now other.now in
+        OnOk result (jobs.new.items ≡ jobs.old.items ++ more) }
+{
+    list_if_glued(alloc, semiring, taken, other, jobs)?;
+    list_if_glued(alloc, semiring, other, taken, jobs)
+}
+
+/// Adds the jobs of a transition and each of these.
+pub(crate) fn list_glues<S: Semiring>(
+    alloc: Global,
+    semiring: &S,
+    transitions: &Transitions<S>,
+    taken: &Entry<S>,
+    jobs: &mut Vec<Job<S>>,
+) -> Result<(), OutOfMemory>
+    requires fit { AreFit (S.operations semiring.now) transitions.now.transitions }
+    requires taken { Fits (S.operations semiring.now) taken.now.weight }
+    ensures { let more = flat_map (glue_jobs taken.now) transitions.now.transitions in
+        OnOk result (jobs.new.items ≡ jobs.old.items ++ more) }
+{
+    for i in 0..transitions.len() {
+        list_glue(alloc, semiring, taken, transitions.entry(i), jobs)?;
+    }
+    Ok(())
+}

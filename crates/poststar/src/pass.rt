@@ -1,0 +1,33 @@
+ghost use Rattle.std.specs.Prelude.{◌≡◌};
+ghost use Rattle.poststar.specs.private.Passes.{kind_of};
+
+use saturation_laws::JobKind;
+
+/// A pass over the rules, for jobs of one kind.
+#[derive(Clone, Copy, Debug, PartialEq, Eq)]
+pub(crate) enum Pass {
+    /// Step rules.
+    Steps,
+    /// Pop rules that return to a push rule.
+    Returns,
+    /// All other pop rules.
+    Pops,
+    /// What push rules leave on top.
+    Enters,
+    /// What push rules leave below.
+    Leaves,
+}
+
+impl Pass {
+    pub(crate) fn kind(self) -> JobKind
+        ensures { result ≡ kind_of self }
+    {
+        match self {
+            Pass::Steps => JobKind::PostStep,
+            Pass::Returns => JobKind::PostPopMiddle,
+            Pass::Pops => JobKind::PostPopOther,
+            Pass::Enters => JobKind::PostEnter,
+            Pass::Leaves => JobKind::PostLeave,
+        }
+    }
+}

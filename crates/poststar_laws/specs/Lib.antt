@@ -1,0 +1,6 @@
+pub mod Middles
+pub mod Rows
+pub mod Jobs
+pub mod Reading
+pub mod Fitting
+pub mod Ways
