@@ -1,6 +1,9 @@
 ghost use Rattle.std.specs.Prelude.{◌≡◌, ◌<◌, ◌≤◌, All, IfOk, OnOk, MatchOption, None, Some, length, slice_set};
 ghost use Rattle.wpds_base.specs.Limits.{most_copied, most_cost};
 ghost use Rattle.document_forms.specs.Lawful.{IsDocument, IsQueryOf};
+ghost use Rattle.genkill_weights.specs.Widths.{width_for};
+ghost use Rattle.document_systems.specs.CopyWeights.{copy_kind};
+ghost use Rattle.document_systems.specs.FactWeights.{genkill_kind};
 ghost use Rattle.document_systems.specs.Systems.{system_of, side_of};
 ghost use Rattle.prestar_laws.specs.Ways.{pre_way};
 ghost use Rattle.query_answers.specs.Answering.{IsSaturatedFrom};
@@ -207,12 +210,32 @@ fn costs(cap: u64) -> Cost
     }
 }
 
-// The copy constants over so many variables.
-fn copies(variables: usize) -> CopyConst
-    requires { variables ≤ most_copied }
-    ensures { result ≡ variables }
+// The report on a document over facts, by weights of the least width that has room for them.
+fn facts_report(
+    alloc: Global,
+    document: &Document<Names>,
+    options: Options,
+) -> Result<Text, OutOfMemory>
+    requires { IsDocument document.now }
+    ensures { let n = width_for (length document.now.items) in
+        IfOk result (IsReported (genkill_kind n) options (record {}) document.now) }
 {
-    CopyConst::new(variables as u32)
+    with_width!(document.items.len(), genkill => report_over(alloc, genkill, document, options))
+}
+
+// The report on a document over variables.
+fn copies_report(
+    alloc: Global,
+    document: &Document<Names>,
+    options: Options,
+) -> Result<Text, OutOfMemory>
+    requires document { IsDocument document.now }
+    requires few { length document.now.items ≤ most_copied }
+    ensures { let variables = length document.now.items in
+        IfOk result (IsReported copy_kind options variables document.now) }
+{
+    let variables = document.items.len() as u32;
+    report_over(alloc, CopyConst::new(variables), document, options)
 }
 
 /// The report on a document, if the semiring of its weights is built.
@@ -226,14 +249,11 @@ pub(crate) fn report(
         (IsBuilt document.now → ⊥)
         (IsReport options document.now)) }
 {
-    let items = document.items.len();
     let text = match document.weights {
         WeightsLine::Reach => report_over(alloc, Reach, document, options)?,
         WeightsLine::Cost { cap } => report_over(alloc, costs(cap), document, options)?,
-        WeightsLine::GenKill => {
-            with_width!(items, genkill => report_over(alloc, genkill, document, options)?)
-        }
-        WeightsLine::Copy => report_over(alloc, copies(items), document, options)?,
+        WeightsLine::GenKill => facts_report(alloc, document, options)?,
+        WeightsLine::Copy => copies_report(alloc, document, options)?,
         WeightsLine::Relation => return Ok(None),
     };
     Ok(Some(text))

@@ -29,8 +29,8 @@ loop-place-preserved g c =
     let are = subst (λ (p : Pushdown _ _ _). AreKept kind c.args.options p.semiring d new) c.in_ok-system.ensures c.in_ok-lines.ensures.kept in
     let tells = subst (λ (p : Pushdown _ _ _). TellsAt kind c.args.options p.semiring d place c.in_ok-lines.lines) c.in_ok-system.ensures c.in_ok-lines.ensures.lines in
     let within : place < length d.queries = omega (arith, c.loop-place-test.true, c.len-count.ensures) in
-    let grown = one_query_more kind c.args.options semiring d place c.loop-place.text c.in_ok-lines.lines within c.loop-place.invariant.2 tells in
-    let joined = c.in_ok-push_str.ensures.bytes ∙ ap (λ t. c.loop-place.text ++ t) c.as_str.ensures.value in
+    let grown = one_query_more kind c.args.options semiring d place c.loop-place.text.items c.in_ok-lines.lines within c.loop-place.invariant.2 tells in
+    let joined = c.in_ok-extend_from_slice.ensures.items ∙ ap (λ t. c.loop-place.text.items ++ t) c.as_bytes.ensures in
     let K : List (Option (List ℕ)) → Type 0 = λ ks. (length ks ≡ length d.queries) × AreKept kind c.args.options semiring d ks in
     let kept : K (take c.loop-place.kept.len (new ++ rest)) = subst K (sym whole) (room, are) in
     (kept.0, kept.1, subst (ByQuery (TellsQuery kind c.args.options semiring d) 1 (take (place + 1) d.queries)) (sym joined) grown)

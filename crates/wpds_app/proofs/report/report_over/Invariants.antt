@@ -9,4 +9,4 @@ invariant-loop-place g l =
     let d = l.document in
     (length l.kept.items ≡ length d.queries)
     × AreKept kind l.options l.fn.semiring d l.kept.items
-    × ByQuery (TellsQuery kind l.options l.fn.semiring d) 1 (take l.place d.queries) l.text
+    × ByQuery (TellsQuery kind l.options l.fn.semiring d) 1 (take l.place d.queries) l.text.items
