@@ -1,6 +1,6 @@
 //! Documents at the limits of the format, and past them.
 
-use crate::rows::{writes, written};
+use crate::rows::{numbered, writes, written};
 use std::alloc::Global;
 use wpds_base::OutOfMemory;
 
@@ -15,16 +15,6 @@ fn repeated(
     let mut document = String::from_str(alloc, front)?;
     for _ in 0..count {
         document.push_str(text)?;
-    }
-    document.push_str(end)?;
-    Ok(document)
-}
-
-// Names `n0`, `n1` and so on, so many, between a front and an end.
-fn numbered(alloc: Global, front: &str, count: u32, end: &str) -> Result<String, OutOfMemory> {
-    let mut document = String::from_str(alloc, front)?;
-    for number in 0..count {
-        document.push_str(format!(in alloc; " n{number}")?.as_str())?;
     }
     document.push_str(end)?;
     Ok(document)
@@ -261,7 +251,7 @@ const NAMES: [(&str, u32, &str, &str); 7] = [
 #[test]
 fn names(rt: HostRuntime) -> Result<(), OutOfMemory> {
     for (front, count, end, text) in NAMES {
-        let document = numbered(rt.alloc(), front, count, end)?;
+        let document = numbered(rt.alloc(), front, "n", count, end)?;
         assert!(rt;
             writes(rt.alloc(), document.as_bytes(), text)?,
             "at {count} names, {text}"

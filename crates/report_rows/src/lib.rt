@@ -4,7 +4,11 @@
 #[cfg(test)]
 mod answers;
 #[cfg(test)]
+mod constants;
+#[cfg(test)]
 mod devices;
+#[cfg(test)]
+mod facts;
 #[cfg(test)]
 mod large;
 #[cfg(test)]

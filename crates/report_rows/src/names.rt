@@ -1,6 +1,6 @@
 //! Names: how long they are, which are reserved, and how they are declared.
 
-use crate::rows::{first_not_accepted, first_wrong, first_wrong_refusal};
+use crate::rows::{first_wrong, first_wrong_refusal};
 use wpds_base::OutOfMemory;
 
 // A name of 64 bytes is used; one of 65 has no form, wherever it stands.
@@ -238,11 +238,35 @@ fn names_of_other_weights(rt: HostRuntime) -> Result<(), OutOfMemory> {
 }
 
 // One name may stand in each class.
+const THRICE: &str = "weights copy
+controls p
+symbols p
+variables p q
+symbols q
+controls q
+rule p p -> p : p=q
+rule p p -> q p q : q=p return restore q
+rule q p -> q
+query p: p => p:
+query p: p => q: p q
+query p: p => q: q
+----
+query 1: p=q q=q
+query 2: p=p q=p
+query 3: p=p q=q
+====
+weights genkill
+controls f
+symbols f
+facts f
+rule f f -> f : +f
+query f: f => f:
+----
+query 1: gen f kill -
+";
+
 #[test]
 fn a_name_in_three_classes(rt: HostRuntime) -> Result<(), OutOfMemory> {
-    let head = "wpds 1\nweights copy\ncontrols p\nsymbols p\nvariables p q\n";
-    let lines =
-        "rule p p -> p : p=p\nrule p p -> p p p : q=p return restore q\nsymbols q\ncontrols q";
-    assert_eq!(rt; first_not_accepted(rt.alloc(), head, lines)?, None);
+    assert_eq!(rt; first_wrong(rt.alloc(), "wpds 1\n", THRICE)?, None);
     Ok(())
 }

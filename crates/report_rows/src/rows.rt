@@ -85,6 +85,51 @@ pub(crate) fn first_wrong_refusal(
     Ok(None)
 }
 
+// Whether the document of a line behind the head and a query has the value that a row says.
+fn is_right_value(alloc: Global, head: &str, query: &str, row: &str) -> Result<bool, OutOfMemory> {
+    match row.split_once(" | ") {
+        Some((value, line)) => {
+            let document = format!(in alloc; "{head}{line}\nquery {query}\n")?;
+            let text = format!(in alloc; "query 1: {value}\n")?;
+            writes(alloc, document.as_bytes(), text.as_str())
+        }
+        None => Ok(false),
+    }
+}
+
+/// The number, from 1, of the first row that is not right.
+///
+/// Each row is a line: a query's value, ` | `, and a line that stands between the head and this query.
+pub(crate) fn first_wrong_value(
+    alloc: Global,
+    head: &str,
+    query: &str,
+    rows: &str,
+) -> Result<Option<usize>, OutOfMemory> {
+    for (place, row) in rows.lines().enumerate() {
+        if !is_right_value(alloc, head, query, row)? {
+            return Ok(Some(place.saturating_add(1)));
+        }
+    }
+    Ok(None)
+}
+
+/// A name with the numbers from 0 on behind it, so many times, between a front and an end.
+pub(crate) fn numbered(
+    alloc: Global,
+    front: &str,
+    name: &str,
+    count: u32,
+    end: &str,
+) -> Result<String, OutOfMemory> {
+    let mut document = String::from_str(alloc, front)?;
+    for number in 0..count {
+        document.push_str(format!(in alloc; " {name}{number}")?.as_str())?;
+    }
+    document.push_str(end)?;
+    Ok(document)
+}
+
 // Whether a document is accepted whose weights are not built.
 fn is_accepted(alloc: Global, head: &str, line: &str) -> Result<bool, OutOfMemory> {
     let document = format!(in alloc; "{head}{line}\nquery p: => p:\n")?;

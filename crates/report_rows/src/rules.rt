@@ -1,6 +1,6 @@
 //! Lines of rules: their form, weights, expressions and return maps.
 
-use crate::rows::{first_not_accepted, first_wrong_refusal};
+use crate::rows::{first_not_accepted, first_wrong_refusal, first_wrong_value};
 use wpds_base::OutOfMemory;
 
 const REACH: &str = "wpds 1\nweights reach\ncontrols p\nsymbols a b\n";
@@ -136,19 +136,26 @@ fn rules_with_facts(rt: HostRuntime) -> Result<(), OutOfMemory> {
     Ok(())
 }
 
-const FACT_RULES_ACCEPTED: &str = "rule p a -> p : +x -y
-rule p a -> p : + x - y + z
-rule p a -> p:-x+y
-rule p a -> p : none
-rule p a -> p : one
-rule p a -> p a b : +x return restore x y z
-rule p a -> p a b return restore z
-rule p a -> p a b : none return plain";
+const FACT_POPS: &str = "gen x kill y | rule p a -> p : +x -y
+gen x z kill y | rule p a -> p : + x - y + z
+gen y kill x | rule p a -> p:-x+y
+unreachable | rule p a -> p : none
+gen - kill - | rule p a -> p : one
+";
+
+// A call that has not returned.
+const FACT_CALLS: &str = "gen x kill - | rule p a -> p a b : +x return restore x y z
+gen - kill - | rule p a -> p a b return restore z
+unreachable | rule p a -> p a b : none return plain
+";
 
 #[test]
 fn rules_with_facts_that_are_accepted(rt: HostRuntime) -> Result<(), OutOfMemory> {
+    let pop = "p: a => p:";
+    assert_eq!(rt; first_wrong_value(rt.alloc(), FACTS, pop, FACT_POPS)?, None);
+    let call = "p: a => p: a b";
     assert_eq!(rt;
-        first_not_accepted(rt.alloc(), FACTS, FACT_RULES_ACCEPTED)?,
+        first_wrong_value(rt.alloc(), FACTS, call, FACT_CALLS)?,
         None
     );
     Ok(())
@@ -204,24 +211,38 @@ fn rules_with_copies(rt: HostRuntime) -> Result<(), OutOfMemory> {
     Ok(())
 }
 
-const COPY_RULES_ACCEPTED: &str = "rule p a -> p : x=?
-rule p a -> p : x=undef
-rule p a -> p : x=y
-rule p a -> p : x=x y=? z=undef
-rule p a -> p : x = - 5 , y , 7 , x
-rule p a -> p : x=-0
-rule p a -> p : x=0,-0
-rule p a -> p : x=9223372036854775807
-rule p a -> p : x=-9223372036854775808
-rule p a -> p : x=y,y,z
-rule p a -> p:x=1,2y=z
-rule p a -> p a b : x=3 return restore x
-rule p a -> p a b return restore z y x";
+const COPY_POPS: &str = "x=? y=y z=z | rule p a -> p : x=?
+x=undef y=y z=z | rule p a -> p : x=undef
+x=y y=y z=z | rule p a -> p : x=y
+x=x y=? z=undef | rule p a -> p : x=x y=? z=undef
+x=-5,x,y y=y z=z | rule p a -> p : x = - 5 , y , x
+x=? y=y z=z | rule p a -> p : x = - 5 , y , 7 , x
+x=0 y=y z=z | rule p a -> p : x=-0
+x=0 y=y z=z | rule p a -> p : x=0,-0
+x=9223372036854775807 y=y z=z | rule p a -> p : x=9223372036854775807
+x=-9223372036854775808 y=y z=z | rule p a -> p : x=-9223372036854775808
+x=y,z y=y z=z | rule p a -> p : x=y,y,z
+x=? y=z z=z | rule p a -> p:x=1,2y=z
+unreachable | rule p a -> p : none
+x=x y=y z=z | rule p a -> p : one
+";
+
+// A call that has not returned.
+const COPY_CALLS: &str = "x=3 y=y z=z | rule p a -> p a b : x=3 return restore x
+x=x y=y z=z | rule p a -> p a b return restore z y x
+unreachable | rule p a -> p a b : none return plain
+";
 
 #[test]
 fn rules_with_copies_that_are_accepted(rt: HostRuntime) -> Result<(), OutOfMemory> {
+    let pop = "p: a => p:";
     assert_eq!(rt;
-        first_not_accepted(rt.alloc(), COPIES, COPY_RULES_ACCEPTED)?,
+        first_wrong_value(rt.alloc(), COPIES, pop, COPY_POPS)?,
+        None
+    );
+    let call = "p: a => p: a b";
+    assert_eq!(rt;
+        first_wrong_value(rt.alloc(), COPIES, call, COPY_CALLS)?,
         None
     );
     Ok(())
