@@ -9,10 +9,10 @@ mod pattern;
 mod row;
 mod system;
 
+pub use kind::{DocumentWeights, Names};
 pub use laws::{configurations_are_their_own_members, documents_are_systems, unreachable_is_zero};
 pub use pattern::pattern_from;
 pub use system::system_from;
-pub use kind::{DocumentWeights, Names};
 
 #[cfg(test)]
 mod tests;

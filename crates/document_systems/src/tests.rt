@@ -154,10 +154,7 @@ fn weights_over_variables(rt: HostRuntime) -> Result<(), Fail> {
         (0, meet(Some(-7), 6)),
         (1, meet(None, 0)),
     ];
-    let extreme: &[(u32, FormText)] = &[
-        (0, meet(Some(i64::MIN), 0)),
-        (1, meet(Some(i64::MAX), 0)),
-    ];
+    let extreme: &[(u32, FormText)] = &[(0, meet(Some(i64::MIN), 0)), (1, meet(Some(i64::MAX), 0))];
     let rows = [
         (forms(alloc, all)?, "x=-7,y,z y=undef z=?"),
         (forms(alloc, &[(1, meet(None, 5))])?, "x=x y=x,z z=z"),

@@ -10,8 +10,7 @@ loop-number-preserved-then-not-has g c =
     let names = c.args.items.now in
     let test = has_effect g.row.N c.args.effect c.args.weight.now in
     let k = c.loop-number.number in
-    let fails = sym c.has.ensures ∙ c.if-not-has.true in
-    (
+    let fails = sym c.has.ensures ∙ c.if-not-has.true in (
       c.loop-number.invariant.0 ∙ ap (λ ns. not (has_some ns)) (sym (name_stays_out names test k fails)),
       λ mark texts is. without_name names test k mark texts c.loop-number.row fails (c.loop-number.invariant.1 mark texts is),
     )
@@ -22,8 +21,7 @@ loop-number-preserved g c =
     let test = has_effect g.row.N c.args.effect c.args.weight.now in
     let k = c.loop-number.number in
     let passes = sym c.has.ensures ∙ c.if-not-has.false in
-    let found = names_below names test k in
-    (
+    let found = names_below names test k in (
       sym (ap (λ ns. not (has_some ns)) (name_passes names test k passes) ∙ ap not (some_now found (name names k))),
       λ mark texts is.
           with_name names test k mark texts c.loop-number.row c.push.new.self passes (c.loop-number.invariant.1 mark texts is)
