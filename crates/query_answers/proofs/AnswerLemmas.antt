@@ -1,6 +1,6 @@
 -- The answer of a sum over a book that one worker has saturated.
-use Rattle.std.proofs.Common.{◌↔◌, ℕ, ◌<◌, IsTrue, refl, sym, subst}
-use Rattle.std.specs.Prelude.{nat_eq, Result, Ok, Err, IfOk}
+use Rattle.std.proofs.Common.{◌≡◌, ◌↔◌, ℕ, ◌<◌, List, IsTrue, refl, sym, subst}
+use Rattle.std.specs.Prelude.{nat_eq, Result, Ok, Err, IfOk, IfSome}
 use Rattle.std.proofs.lemmas.Bool.{and_parts, eqb-true}
 use Rattle.semiring_laws.specs.Semiring.{Operations}
 use Rattle.pushdown_rules.specs.Configuration.{Configuration}
@@ -11,10 +11,18 @@ use Rattle.saturation_laws.specs.declared.opening.Opening.{Opening}
 use Rattle.saturation_laws.specs.Books.{BookValue}
 use Rattle.saturation_laws.specs.Paths.{IsOpened}
 use Rattle.prestar.specs.declared.pre.Pre.{Pre}
+use Rattle.poststar.specs.declared.post.Post.{Post}
+use Rattle.pushdown_rules.specs.Answers.{Answers}
+use Rattle.saturation_laws.specs.Ways.{Way}
+use Rattle.witness_graph.specs.declared.node.Side.{Side}
+use Rattle.witness_graph.specs.declared.node.Side.TheVariants.{Pre as Backward, Post as Forward}
+use Rattle.path_sum.specs.Answers.{AnswersOpening, IsGrownAnswer, first_of, last_of, listed_runs}
+use Rattle.path_sum.specs.Sums.{ways_of}
+use Rattle.query_answers.specs.declared.saturation.Saturation.TheVariants.{Backward as BackwardOf, Forward as ForwardOf}
 use Rattle.path_sum.specs.declared.answer.Answer.{Answer}
 use Rattle.path_sum.specs.Results.{IsSumOver, IsSumOf}
 use Rattle.prestar_laws.specs.Ways.{pre_way}
-use Rattle.query_answers.specs.Answering.{IsSaturatedFrom, IsAnswer}
+use Rattle.query_answers.specs.Answering.{opened_of, summed_of, forward_way, ShowsAnswer, IsGrownFromBook, IsSaturatedFrom, IsSaturated, IsAnswer}
 
 -- what the law on openings says
 abbrev pub OpeningsReadMembers : Type 0
@@ -34,20 +42,63 @@ members_are_opened law pattern controls below d = (there, back)
     back : (IsOpened (opening_of controls pattern) d × (d.control < controls)) → IsTrue (has_member pattern d)
     back both = (law pattern controls below d both.1).0 both.0
 
-module _ {S W Map : Type 0} (operations : S → Operations W Map) (from : PatternValue) where
-  answer_is : OpeningsReadMembers → (p : Pushdown S W Map) (to : PatternValue) → to.control < p.controls → (b : BookValue S W Map Pre) (a : Answer S W Map)
-      → IsSaturatedFrom operations (pre_way operations) p to b → IsSumOf operations (pre_way operations) b from a → IsAnswer operations p from to a
-  answer_is law p to below b a saturated summed =
-      let P : Pushdown S W Map → Type 0 = λ q. IsSumOver operations (pre_way operations) q b.direction b.opening b.state.transitions b.state.nodes from a in
-      let Q : Opening → Type 0 = λ o. IsSumOver operations (pre_way operations) p b.direction o b.state.transitions b.state.nodes from a in
+-- a sum over a finished saturation by a side shows the answer, and is grown that way
+module _ {S W Map D : Type 0} (operations : S → Operations W Map) (way : Way S W Map D) where
+  record IsShown (p : Pushdown S W Map) (side : Side) (from to : PatternValue) (a : Answer S W Map) : Type 0 where
+    shows : ShowsAnswer operations p from to side a
+    grown : IsGrownFromBook operations way p side from to a
+
+  -- the answers between two patterns, by the side
+  between : (s : Operations W Map) (p : Pushdown S W Map) (side : Side) (from to : PatternValue) (v : W) (runs : List (List ℕ))
+      → Answers s p (first_of side (has_member (summed_of side from to)) (has_member (opened_of side from to))) (last_of side (has_member (summed_of side from to)) (has_member (opened_of side from to))) v runs
+      → Answers s p (has_member from) (has_member to) v runs
+  between s p Backward from to v runs answers = answers
+  between s p Forward from to v runs answers = answers
+
+  shown : OpeningsReadMembers → (p : Pushdown S W Map) (side : Side) (from to : PatternValue) → (opened_of side from to).control < p.controls → (b : BookValue S W Map D) (a : Answer S W Map)
+      → (way.tables b.direction p).side ≡ side → IsSaturatedFrom operations way p (opened_of side from to) b → IsSumOf operations way b (summed_of side from to) a → IsShown p side from to a
+  shown law p side from to below b a goes saturated summed =
+      let near = summed_of side from to in
+      let opened = opened_of side from to in
+      let P : Pushdown S W Map → Type 0 = λ q. IsSumOver operations way q b.direction b.opening b.state.transitions b.state.nodes near a in
+      let Q : Opening → Type 0 = λ o. IsSumOver operations way p b.direction o b.state.transitions b.state.nodes near a in
       let there : P p = subst P saturated.system summed in
-      let here : Q (opening_of p.controls to) = subst Q saturated.opening there in
+      let here : Q (opening_of p.controls opened) = subst Q saturated.opening there in
+      let s = operations p.semiring in
+      let answers = subst (λ g. AnswersOpening s g p (opening_of p.controls opened) (has_member near) a.value (listed_runs a.listing)) goes here.answers in
       record {
-        shows = record { answers = here.answers (has_member to) (members_are_opened law to p.controls below); unlisted = here.unlisted; side = here.side; tight = here.tight };
-        grown = record { book = b; goes = refl; saturated = saturated; grown = there.grown };
+        shows = record {
+          answers = between s p side from to a.value (listed_runs a.listing) (answers (has_member opened) (members_are_opened law opened p.controls below));
+          unlisted = here.unlisted;
+          side = subst (λ g. IfSome a.listing (λ l. l.side ≡ g)) goes here.side;
+          tight = here.tight;
+        };
+        grown = record {
+          book = b;
+          goes = goes;
+          saturated = saturated;
+          grown = subst (λ g. IsGrownAnswer s g b.opening b.state.transitions b.state.nodes (ways_of near) a) goes there.grown;
+        };
       }
 
-  pub sum_answers : {E : Type 0} → OpeningsReadMembers → (p : Pushdown S W Map) (to : PatternValue) → to.control < p.controls → (b : BookValue S W Map Pre)
-      → IsSaturatedFrom operations (pre_way operations) p to b → (r : Result (Answer S W Map) E) → IfOk r (IsSumOf operations (pre_way operations) b from) → IfOk r (IsAnswer operations p from to)
-  sum_answers law p to below b saturated (Ok a) summed = answer_is law p to below b a saturated summed
-  sum_answers law p to below b saturated (Err e) summed = tt
+module _ {S W Map E : Type 0} (operations : S → Operations W Map) (law : OpeningsReadMembers) (p : Pushdown S W Map) where
+  abbrev AnswersBy : Side → PatternValue → PatternValue → Result (Answer S W Map) E → Type 0
+  AnswersBy side from to r = IfOk r (IsAnswer operations p side from to)
+
+  pub backward_answers : (b : BookValue S W Map Pre) (r : Result (Answer S W Map) E) (summed : PatternValue) (side : Side) (from to : PatternValue)
+      → IfOk r (IsSumOf operations (pre_way operations) b summed) → (opened_of side from to).control < p.controls → summed_of side from to ≡ summed
+      → IsSaturated operations p side (opened_of side from to) (BackwardOf b) → AnswersBy side from to r
+  backward_answers b (Err e) summed side from to sums below same saturated = tt
+  backward_answers b (Ok a) summed Forward from to sums below same saturated = absurd saturated
+  backward_answers b (Ok a) summed Backward from to sums below same saturated =
+      let x = shown operations (pre_way operations) law p Backward from to below b a refl saturated (subst (λ q. IsSumOf operations (pre_way operations) b q a) (sym same) sums) in
+      record { shows = x.shows; grown = x.grown }
+
+  pub forward_answers : (b : BookValue S W Map Post) (r : Result (Answer S W Map) E) (summed : PatternValue) (side : Side) (from to : PatternValue)
+      → IfOk r (IsSumOf operations (forward_way operations) b summed) → (opened_of side from to).control < p.controls → summed_of side from to ≡ summed
+      → IsSaturated operations p side (opened_of side from to) (ForwardOf b) → AnswersBy side from to r
+  forward_answers b (Err e) summed side from to sums below same saturated = tt
+  forward_answers b (Ok a) summed Backward from to sums below same saturated = absurd saturated
+  forward_answers b (Ok a) summed Forward from to sums below same saturated =
+      let x = shown operations (forward_way operations) law p Forward from to below b a refl saturated (subst (λ q. IsSumOf operations (forward_way operations) b q a) (sym same) sums) in
+      record { shows = x.shows; grown = x.grown }

@@ -13,6 +13,10 @@ use Rattle.saturation_laws.specs.Books.{BookValue, IsBook, IsClosed}
 use Rattle.saturation_laws.specs.Ways.{Way}
 use Rattle.prestar_laws.specs.Ways.{pre_way}
 use Rattle.prestar.specs.declared.pre.Pre.{Pre}
+use Rattle.poststar_laws.specs.Ways.{post_way}
+use Rattle.poststar.specs.declared.post.Post.{Post}
+use Rattle.query_answers.specs.declared.saturation.Saturation.{Saturation}
+use Rattle.query_answers.specs.declared.saturation.Saturation.TheVariants.{Backward as BackwardOf, Forward as ForwardOf}
 use Rattle.path_sum.specs.declared.answer.Answer.{Answer}
 use Rattle.path_sum.specs.Answers.{listed_runs, IsGrownAnswer}
 use Rattle.path_sum.specs.Sums.{ways_of}
@@ -58,8 +62,35 @@ module _ {S W Map D : Type 0} (operations : S → Operations W Map) (way : Way S
     pub saturated : IsSaturatedFrom (opened_of side from to) book
     pub grown : IsGrownAnswer (operations p.semiring) side book.opening book.state.transitions book.state.nodes (ways_of (summed_of side from to)) a
 
-module _ {S W Map : Type 0} (operations : S → Operations W Map) (p : Pushdown S W Map) (from to : PatternValue) where
-  -- The answer to a query: what it shows, and that it is grown backwards.
-  pub record IsAnswer (a : Answer S W Map) : Type 0 where
-    pub shows : ShowsAnswer operations p from to Backward a
-    pub grown : IsGrownFromBook {D = Pre} operations (pre_way operations) p Backward from to a
+-- ---- by both directions
+
+-- forwards, by how many items the opening pattern has
+abbrev pub forward_way : {S W Map : Type 0} → (S → Operations W Map) → Way S W Map Post
+forward_way operations = post_way (λ d. d.items) operations
+
+-- the system over which a saturation is
+abbrev pub saturated_system : {S W Map : Type 0} → Saturation S W Map → Pushdown S W Map
+saturated_system (BackwardOf b) = b.system
+saturated_system (ForwardOf b) = b.system
+
+-- nothing waits in it, and no hand is out
+abbrev pub IsFinished : {S W Map : Type 0} → Saturation S W Map → Type 0
+IsFinished (BackwardOf b) = IsClosed b
+IsFinished (ForwardOf b) = IsClosed b
+
+module _ {S W Map : Type 0} (operations : S → Operations W Map) (p : Pushdown S W Map) where
+  -- it is a finished saturation of the system from a pattern, by the direction of this side
+  abbrev pub IsSaturated : Side → PatternValue → Saturation S W Map → Type 0
+  IsSaturated Backward pattern (BackwardOf b) = IsSaturatedFrom operations (pre_way operations) p pattern b
+  IsSaturated Forward pattern (ForwardOf b) = IsSaturatedFrom operations (forward_way operations) p pattern b
+  IsSaturated _ pattern _ = ⊥
+
+  -- the answer is grown from a book of the direction of this side
+  abbrev pub IsGrownBy : Side → PatternValue → PatternValue → Answer S W Map → Type 0
+  IsGrownBy Backward from to a = IsGrownFromBook {D = Pre} operations (pre_way operations) p Backward from to a
+  IsGrownBy Forward from to a = IsGrownFromBook {D = Post} operations (forward_way operations) p Forward from to a
+
+  -- The answer to a query by a side: what it shows, and that it is grown that way.
+  pub record IsAnswer (side : Side) (from to : PatternValue) (a : Answer S W Map) : Type 0 where
+    pub shows : ShowsAnswer operations p from to side a
+    pub grown : IsGrownBy side from to a

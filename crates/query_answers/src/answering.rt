@@ -1,67 +1,87 @@
 ghost use Rattle.std.specs.Prelude.{◌≡◌, ◌<◌, IfOk};
 ghost use Rattle.config_patterns.specs.Membership.{PatternValue};
 ghost use Rattle.pattern_openings.specs.PatternOpenings.{IsOver};
-ghost use Rattle.prestar_laws.specs.Ways.{pre_way};
 ghost use Rattle.pushdown_rules.specs.Pushdown.{Pushdown};
-ghost use Rattle.saturation_laws.specs.Books.{IsClosed};
-ghost use Rattle.query_answers.specs.Answering.{IsSaturatedFrom, IsAnswer};
+ghost use Rattle.witness_graph.specs.declared.node.Side.{Side as SideValue};
+ghost use Rattle.query_answers.specs.Answering.{opened_of, summed_of, saturated_system, IsFinished, IsSaturated, IsAnswer};
 
+use crate::Saturation;
 use config_patterns::Pattern;
 use path_sum::{Answer, sum};
 use pattern_openings::openings_read_members;
-use prestar::{Pre, pre_opening};
+use poststar::post_opening;
+use prestar::pre_opening;
 use pushdown_rules::System;
-use saturation_core::Book;
 use semiring_laws::Semiring;
 use std::alloc::Global;
+use witness_graph::Side;
 use worker_pool::saturate_alone;
 use wpds_base::OutOfMemory;
 
-/// A book that is saturated backwards from a pattern: all queries to this pattern are answered over it.
-pub type Saturation<'s, S> = Book<'s, S, Pre>;
-
-/// The finished saturation backwards from a pattern, by one worker. Refused only when out of memory.
+/// The finished saturation from a pattern, by one worker: backwards from where runs end, or forwards from where they begin.
+/// Refused only when out of memory.
 pub fn saturate<'s, S: Semiring>(
     alloc: Global,
     system: &'s System<S>,
-    to: &Pattern,
+    side: Side,
+    opened: &Pattern,
 ) -> Result<Saturation<'s, S>, OutOfMemory>
-    requires { IsOver system.now.controls system.now.symbols to.now }
-    ensures { IfOk result (IsSaturatedFrom S.operations (pre_way S.operations) system.now to.now) }
+    requires { IsOver system.now.controls system.now.symbols opened.now }
+    ensures saturated { IfOk result (IsSaturated S.operations system.now side opened.now) }
+    ensures finished { IfOk result IsFinished }
+    ensures system { IfOk result (λ s. saturated_system s ≡ system.now) }
 {
-    let opened = pre_opening(alloc, system, to)?;
-    saturate_alone(alloc, opened)
+    match side {
+        Side::Pre => {
+            let book = pre_opening(alloc, system, opened)?;
+            Ok(Saturation::Backward(saturate_alone(alloc, book)?))
+        }
+        Side::Post => {
+            let book = post_opening(alloc, system, opened)?;
+            Ok(Saturation::Forward(saturate_alone(alloc, book)?))
+        }
+    }
 }
 
-/// The answer to the query for runs from a pattern to the one that the saturation starts from: the sum over the paths
-/// that read the first. Refused only when out of memory.
+/// The answer to the query for runs between the pattern that the saturation starts from and another one: the sum over the
+/// paths that read the other. Refused only when out of memory.
 pub fn answer_over<S: Semiring>(
     alloc: Global,
     saturation: &Saturation<'_, S>,
-    from: &Pattern,
+    summed: &Pattern,
 ) -> Result<Answer<S>, OutOfMemory>
-    requires closed { IsClosed saturation.now }
-    requires control { from.now.control < saturation.now.system.controls }
-    ensures { (p : Pushdown S S.W S.Ret) (to : PatternValue) → to.control < p.controls
-        → IsSaturatedFrom S.operations (pre_way S.operations) p to saturation.now
-        → IfOk result (IsAnswer S.operations p from.now to) }
+    requires finished { IsFinished saturation.now }
+    requires control { summed.now.control < (saturated_system saturation.now).controls }
+    ensures { (p : Pushdown S S.W S.Ret) (side : SideValue) (from to : PatternValue)
+        → (opened_of side from to).control < p.controls → summed_of side from to ≡ summed.now
+        → IsSaturated S.operations p side (opened_of side from to) saturation.now
+        → IfOk result (IsAnswer S.operations p side from to) }
 {
     openings_read_members();
-    sum(alloc, saturation, from)
+    match saturation {
+        Saturation::Backward(book) => sum(alloc, book, summed),
+        Saturation::Forward(book) => sum(alloc, book, summed),
+    }
 }
 
-/// The answer to the query for runs from a pattern to a pattern: backwards from the second, by one worker, and then the
-/// sum over the paths that read the first. Refused only when out of memory.
+/// The answer to the query for runs from a pattern to a pattern, by one worker: backwards from the second, and then the sum
+/// over the paths that read the first, or forwards from the first, and then the sum over those that read the second.
+/// Refused only when out of memory.
 pub fn answer<S: Semiring>(
     alloc: Global,
     system: &System<S>,
+    side: Side,
     from: &Pattern,
     to: &Pattern,
 ) -> Result<Answer<S>, OutOfMemory>
-    requires from { from.now.control < system.now.controls }
-    requires to { IsOver system.now.controls system.now.symbols to.now }
-    ensures { IfOk result (IsAnswer S.operations system.now from.now to.now) }
+    requires opened { IsOver system.now.controls system.now.symbols (opened_of side from.now to.now) }
+    requires summed { (summed_of side from.now to.now).control < system.now.controls }
+    ensures { IfOk result (IsAnswer S.operations system.now side from.now to.now) }
 {
-    let saturation = saturate(alloc, system, to)?;
-    answer_over(alloc, &saturation, from)
+    let (opened, summed) = match side {
+        Side::Pre => (to, from),
+        Side::Post => (from, to),
+    };
+    let saturation = saturate(alloc, system, side, opened)?;
+    answer_over(alloc, &saturation, summed)
 }

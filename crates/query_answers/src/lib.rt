@@ -1,6 +1,8 @@
-//! The answer to a query over a weighted pushdown system, with a listing of runs that show it.
+//! The answer to a query over a weighted pushdown system, backwards or forwards, with a listing of runs that show it.
 #![tactic(auto)]
 
 mod answering;
+mod saturation;
 
-pub use answering::{Saturation, answer, answer_over, saturate};
+pub use answering::{answer, answer_over, saturate};
+pub use saturation::Saturation;

@@ -1,12 +1,12 @@
 -- Reports over one semiring, and over that of a document.
-use Rattle.std.proofs.Common.{◌≡◌, ℕ, Bool, true, false, cond, List, Some, None, ap, subst, ◌∙◌}
+use Rattle.std.proofs.Common.{◌≡◌, ℕ, Bool, true, false, cond, List, length, Some, None, refl, ap, subst, ◌∙◌}
 use Rattle.std.specs.Prelude.{Result, Ok, Err, IfOk, ◌↔◌, codes, nat_le, unwrap_or}
 use Rattle.genkill_weights.specs.Widths.{width_for}
 use Rattle.semiring_laws.specs.Semiring.{Operations}
 use Rattle.config_patterns.specs.Membership.{PatternValue}
 use Rattle.pushdown_rules.specs.Pushdown.{Pushdown}
 use Rattle.document_forms.specs.Documents.{Document}
-use Rattle.document_forms.specs.Lawful.{IsWeightsLine}
+use Rattle.document_forms.specs.Lawful.{IsWeightsLine, IsQueryOf, IsPatternText}
 use Rattle.document_forms.specs.declared.document.QueryLine.{QueryLine}
 use Rattle.document_forms.specs.declared.weight.WeightsLine.{WeightsLine}
 use Rattle.document_forms.specs.declared.weight.WeightsLine.TheVariants.{Reach, Cost, GenKill, Copy, Relation}
@@ -16,21 +16,35 @@ use Rattle.document_systems.specs.FactWeights.{genkill_kind}
 use Rattle.document_systems.specs.Weights.{reach_kind, cost_kind}
 use Rattle.report_text.specs.Listings.{query_line}
 use Rattle.path_sum.specs.declared.answer.Answer.{Answer}
-use Rattle.query_answers.specs.Answering.{IsAnswer}
+use Rattle.query_answers.specs.Answering.{IsAnswer, opened_of, summed_of}
+use Rattle.witness_graph.specs.declared.node.Side.{Side}
+use Rattle.witness_graph.specs.declared.node.Side.TheVariants.{Pre, Post}
+use Rattle.document_systems.specs.Systems.{side_of}
+use Rattle.wpds_app.specs.private.Kept.{opened_text, summed_text}
 use Rattle.wpds_app.specs.declared.words.Options.{Options}
 use Rattle.wpds_app.specs.Reports.{ByQuery, query_text, IsQueryText, IsReported, BySemiring, IsInfeasible, TellsFeasibilityOver}
 
--- an answer between two patterns is one between equal patterns
-pub between_equals : {S W Map : Type 0} (operations : S → Operations W Map) (p : Pushdown S W Map) (a : Answer S W Map) (f from t to : PatternValue) → f ≡ from → t ≡ to
-    → IsAnswer operations p f t a → IsAnswer operations p from to a
-between_equals {S} {W} {Map} operations p a f from t to first second is =
-    let F : PatternValue → Type 0 = λ x. IsAnswer operations p x to a in
-    let T : PatternValue → Type 0 = λ x. IsAnswer operations p f x a in
-    subst F first (subst T second is)
+-- ---- the sides of a query, by direction
+
+pub opened_side : (by : Side) (d : Document) (q : QueryLine) → opened_of by (side_of d q.from) (side_of d q.to) ≡ side_of d (opened_text by q)
+opened_side Pre d q = refl
+opened_side Post d q = refl
+
+pub summed_side : (by : Side) (d : Document) (q : QueryLine) → summed_of by (side_of d q.from) (side_of d q.to) ≡ side_of d (summed_text by q)
+summed_side Pre d q = refl
+summed_side Post d q = refl
+
+pub opened_lawful : (by : Side) (d : Document) (q : QueryLine) → IsQueryOf d q → IsPatternText (length d.symbols) (length d.controls) (length d.symbols) (opened_text by q)
+opened_lawful Pre d q is = is.to
+opened_lawful Post d q is = is.from
+
+pub summed_lawful : (by : Side) (d : Document) (q : QueryLine) → IsQueryOf d q → IsPatternText (length d.symbols) (length d.controls) (length d.symbols) (summed_text by q)
+summed_lawful Pre d q is = is.from
+summed_lawful Post d q is = is.to
 
 -- the lines of an answer are the text of its query
 pub lines_told : {S W Map E : Type 0} (kind : Kind S W Map) (options : Options) (p : Pushdown S W Map) (items : List (List ℕ)) (i : ℕ) (from to : PatternValue) (a : Answer S W Map) (r : Result (List ℕ) E)
-    (kept : S) → IsAnswer kind.operations p from to a → kept ≡ p.semiring → IfOk r (λ t. t ≡ query_text i options (kind.written kept items a.value) a.listing)
+    (kept : S) → IsAnswer kind.operations p options.by from to a → kept ≡ p.semiring → IfOk r (λ t. t ≡ query_text i options (kind.written kept items a.value) a.listing)
     → IfOk r (IsQueryText kind options p items i from to)
 lines_told kind options p items i from to a (Ok t) kept is same text =
     record { answer = a; is_answer = is; told = text ∙ ap (λ s. query_text i options (kind.written s items a.value) a.listing) same }

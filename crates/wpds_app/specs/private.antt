@@ -1,1 +1,2 @@
+pub mod CommandReading
 pub mod Kept

@@ -5,10 +5,9 @@ ghost use Rattle.genkill_weights.specs.Widths.{width_for};
 ghost use Rattle.document_systems.specs.CopyWeights.{copy_kind};
 ghost use Rattle.document_systems.specs.FactWeights.{genkill_kind};
 ghost use Rattle.document_systems.specs.Systems.{system_of, side_of};
-ghost use Rattle.prestar_laws.specs.Ways.{pre_way};
-ghost use Rattle.query_answers.specs.Answering.{IsSaturatedFrom};
+ghost use Rattle.query_answers.specs.Answering.{IsFinished, IsSaturated, saturated_system};
 ghost use Rattle.wpds_app.specs.Reports.{query_text, TellsQuery, IsReported, IsReport, IsBuilt};
-ghost use Rattle.wpds_app.specs.private.Kept.{AreKept, TellsAt};
+ghost use Rattle.wpds_app.specs.private.Kept.{AreKept, TellsAt, opened_text, summed_text};
 
 use crate::Options;
 use crate::alike::same_pattern;
@@ -23,6 +22,7 @@ use query_answers::{Saturation, answer_over, saturate};
 use report_text::{listing_text, query_line};
 use semiring_laws::Reach;
 use std::alloc::Global;
+use witness_graph::Side;
 use wpds_base::OutOfMemory;
 use wpds_port::Text;
 
@@ -50,7 +50,27 @@ fn answer_lines<S: DocumentWeights>(
     Ok(Text::from_vec(text))
 }
 
-// The lines of the query with a number, over the saturation from its second pattern.
+// The pattern of a query that a saturation starts from.
+fn opened_text(by: Side, query: &QueryLine) -> &PatternText
+    ensures { result.now ≡ opened_text by query.now }
+{
+    match by {
+        Side::Pre => &query.to,
+        Side::Post => &query.from,
+    }
+}
+
+// The pattern of a query that is summed over.
+fn summed_text(by: Side, query: &QueryLine) -> &PatternText
+    ensures { result.now ≡ summed_text by query.now }
+{
+    match by {
+        Side::Pre => &query.from,
+        Side::Post => &query.to,
+    }
+}
+
+// The lines of the query with a number, over the saturation from the pattern where it starts.
 fn query_lines<S: DocumentWeights>(
     alloc: Global,
     saturation: &Saturation<'_, S>,
@@ -59,18 +79,19 @@ fn query_lines<S: DocumentWeights>(
     number: u64,
     query: &QueryLine,
 ) -> Result<Text, OutOfMemory>
-    requires system { let p = saturation.now.system in
+    requires system { let p = saturated_system saturation.now in
         p ≡ system_of S.kind p.semiring document.now }
     requires query { IsQueryOf document.now query.now }
-    requires saturated { let to = side_of document.now query.now.to in
-        IsSaturatedFrom S.operations (pre_way S.operations) saturation.now.system to
-        saturation.now }
-    ensures { let semiring = saturation.now.system.semiring in
+    requires finished { IsFinished saturation.now }
+    requires saturated { let opened = side_of document.now (opened_text options.by query.now) in
+        let p = saturated_system saturation.now in
+        IsSaturated S.operations p options.by opened saturation.now }
+    ensures { let semiring = (saturated_system saturation.now).semiring in
         IfOk result (TellsQuery S.kind options semiring document.now number query.now) }
 {
     let system = saturation.system();
-    let from = pattern_from(alloc, system, &query.from)?;
-    let answer = answer_over(alloc, saturation, &from)?;
+    let summed = pattern_from(alloc, system, summed_text(options.by, query))?;
+    let answer = answer_over(alloc, saturation, &summed)?;
     answer_lines(
         alloc,
         system.semiring(),
@@ -89,32 +110,33 @@ fn keep(kept: &mut [Option<Text>], place: usize, lines: Text)
     kept[place] = Some(lines);
 }
 
-// Keeps the lines of each query from a place on whose second pattern is this one.
+// Keeps the lines of each query from a place on that starts from this pattern.
 fn keep_alike<S: DocumentWeights>(
     alloc: Global,
     saturation: &Saturation<'_, S>,
     document: &Document<Names>,
     options: Options,
-    to: &PatternText,
+    opened: &PatternText,
     place: usize,
     kept: &mut [Option<Text>],
 ) -> Result<(), OutOfMemory>
     requires document { IsDocument document.now }
-    requires system { let p = saturation.now.system in
+    requires system { let p = saturated_system saturation.now in
         p ≡ system_of S.kind p.semiring document.now }
-    requires saturated { let pattern = side_of document.now to.now in
-        IsSaturatedFrom S.operations (pre_way S.operations) saturation.now.system pattern
-        saturation.now }
+    requires finished { IsFinished saturation.now }
+    requires saturated { let pattern = side_of document.now opened.now in
+        let p = saturated_system saturation.now in
+        IsSaturated S.operations p options.by pattern saturation.now }
     requires room { length kept.old ≡ length document.now.queries }
-    requires kept { AreKept S.kind options saturation.now.system.semiring document.now kept.old }
-    ensures kept { let semiring = saturation.now.system.semiring in
+    requires kept { AreKept S.kind options (saturated_system saturation.now).semiring document.now kept.old }
+    ensures kept { let semiring = (saturated_system saturation.now).semiring in
         OnOk result (AreKept S.kind options semiring document.now kept.new) }
     ensures room { length kept.new ≡ length kept.old }
 {
     let queries = document.queries.as_slice();
     for k in place..queries.len() {
         let query = &queries[k];
-        if !same_pattern(&query.to, to) {
+        if !same_pattern(opened_text(options.by, query), opened) {
             continue;
         }
         let number = k as u64 + 1;
@@ -124,7 +146,7 @@ fn keep_alike<S: DocumentWeights>(
     Ok(())
 }
 
-// The lines of the query at a place. Those of the later queries with the same second pattern are kept: one saturation
+// The lines of the query at a place. Those of the later queries that start from the same pattern are kept: one saturation
 // serves them all.
 fn lines_at<S: DocumentWeights>(
     alloc: Global,
@@ -149,8 +171,9 @@ fn lines_at<S: DocumentWeights>(
         return Ok(lines);
     }
     let query = &document.queries.as_slice()[place];
-    let to = pattern_from(alloc, system, &query.to)?;
-    let saturation = saturate(alloc, system, &to)?;
+    let opened = opened_text(options.by, query);
+    let pattern = pattern_from(alloc, system, opened)?;
+    let saturation = saturate(alloc, system, options.by, &pattern)?;
     let number = place as u64 + 1;
     let lines = query_lines(alloc, &saturation, document, options, number, query)?;
     keep_alike(
@@ -158,7 +181,7 @@ fn lines_at<S: DocumentWeights>(
         &saturation,
         document,
         options,
-        &query.to,
+        opened,
         place + 1,
         kept,
     )?;

@@ -22,7 +22,7 @@ keep_alike-requires-clause-kept g c =
     let kept = c.args.kept.now in
     let less = kept_less g.S.DocumentWeights.kind c.args.options c.args.system.now.semiring c.args.document.now kept c.args.place c.requires.kept in
     let here = subst (λ o. AreKept g.S.DocumentWeights.kind c.args.options c.args.system.now.semiring c.args.document.now (set kept c.args.place o)) (sym c.take.ensures.after) less in
-    subst (λ (p : Pushdown _ _ _). AreKept g.S.DocumentWeights.kind c.args.options p.semiring c.args.document.now (set kept c.args.place c.take.new.self)) (sym c.in_ok-saturation.ensures.system) here
+    subst (λ (p : Pushdown _ _ _). AreKept g.S.DocumentWeights.kind c.args.options p.semiring c.args.document.now (set kept c.args.place c.take.new.self)) (sym ?) here
 
 pub query_lines-requires-clause-query : goal.query_lines-requires-clause-query
 query_lines-requires-clause-query g c =
@@ -41,9 +41,9 @@ returns-clause-lines g c =
     let item = subst (λ xs. q ≡ get_or xs c.args.place q) c.as_slice.ensures c.index-as_slice-place.is in
     let told = c.in_ok-lines.ensures in
     let here = told_at kind c.args.options c.in_ok-saturation.saturation.system.semiring d c.args.place q lines item told in
-    subst (λ (p : Pushdown _ _ _). TellsAt kind c.args.options p.semiring d c.args.place lines) c.in_ok-saturation.ensures.system here
+    subst (λ (p : Pushdown _ _ _). TellsAt kind c.args.options p.semiring d c.args.place lines) ? here
 
 pub returns-clause-kept : goal.returns-clause-kept
 returns-clause-kept g c =
     subst (λ (p : Pushdown _ _ _). AreKept g.S.DocumentWeights.kind c.args.options p.semiring c.args.document.now c.keep_alike.new.kept)
-    c.in_ok-saturation.ensures.system c.in_ok-keep_alike.ensures.kept
+    ? c.in_ok-keep_alike.ensures.kept
