@@ -15,29 +15,41 @@ type Query = (u32, Items<'static>, u32, Items<'static>);
 // A query with the cost of its answer.
 type Row = (Query, Option<u64>);
 
-// The answer to a query between controls of the system.
+// The answer to a query between controls of the system, by a direction.
 fn answer_to<S: Semiring>(
     alloc: Global,
     system: &System<S>,
+    side: Side,
     query: Query,
 ) -> Result<Answer<S>, Fail> {
     let (start, start_items, end, end_items) = query;
     let from = pattern_over(alloc, system, start, start_items)?;
     let to = pattern_over(alloc, system, end, end_items)?;
-    Ok(answer(alloc, system, &from, &to)?)
+    let found = match side {
+        Side::Pre => answer(alloc, system, Side::Pre, &from, &to)?,
+        Side::Post => answer(alloc, system, Side::Post, &from, &to)?,
+    };
+    Ok(found)
 }
 
 // The value of the answer to a query, asked of any semiring.
-fn value_of<S: Semiring>(alloc: Global, system: &System<S>, query: Query) -> Result<S::W, Fail> {
-    let Answer { value, listing: _ } = answer_to(alloc, system, query)?;
+fn value_of<S: Semiring>(
+    alloc: Global,
+    system: &System<S>,
+    side: Side,
+    query: Query,
+) -> Result<S::W, Fail> {
+    let Answer { value, listing: _ } = answer_to(alloc, system, side, query)?;
     Ok(value)
 }
 
-// The first row whose query has another cost.
+// The first row whose query has another cost, backwards or forwards.
 fn wrong_row(alloc: Global, system: &System<Cost>, rows: &[Row]) -> Result<Option<usize>, Fail> {
     for (k, (query, cost)) in rows.iter().enumerate() {
-        if value_of(alloc, system, *query)? != *cost {
-            return Ok(Some(k));
+        for side in [Side::Pre, Side::Post] {
+            if value_of(alloc, system, side, *query)? != *cost {
+                return Ok(Some(k));
+            }
         }
     }
     Ok(None)
@@ -85,8 +97,8 @@ fn costs_at_the_cap(rt: HostRuntime) -> Result<(), Fail> {
     // 3 and 3, cut at the cap
     for (cap, cost) in [(5, 5u64), (6, 6), (100, 6)] {
         let system = steps(alloc, Cost::new(cap)?)?;
-        let cost_found = value_of(alloc, &system, (0, &[A], 0, &[C]))?;
-        assert_eq!(rt; cost_found, Some(cost), "up to {cap}");
+        let rows: [Row; 1] = [((0, &[A], 0, &[C]), Some(cost))];
+        assert_eq!(rt; wrong_row(alloc, &system, &rows)?, None, "up to {cap}");
     }
     Ok(())
 }
@@ -139,13 +151,15 @@ fn rule_digits(listing: &Listing) -> u64 {
 fn the_run_is_listed(rt: HostRuntime) -> Result<(), Fail> {
     let alloc = rt.alloc();
     let system = calls(alloc, Cost::new(100)?)?;
-    let found = answer_to(alloc, &system, (0, &[A], 1, &[A]))?;
-    let Some(listing) = found.listing else {
-        return Err(Fail::new("nothing is listed"));
-    };
-    assert_eq!(rt; listing.side, Side::Pre);
-    // the return is listed before the call that needs it
-    assert_eq!(rt; rule_digits(&listing), 21);
+    // backwards the return is listed before the call that needs it, and forwards the call before its return
+    for (side, digits) in [(Side::Pre, 21), (Side::Post, 12)] {
+        let found = answer_to(alloc, &system, side, (0, &[A], 1, &[A]))?;
+        let Some(listing) = found.listing else {
+            return Err(Fail::new("nothing is listed"));
+        };
+        assert_eq!(rt; listing.side, side);
+        assert_eq!(rt; rule_digits(&listing), digits);
+    }
     Ok(())
 }
 
@@ -154,7 +168,9 @@ fn reached_or_not(rt: HostRuntime) -> Result<(), Fail> {
     let alloc = rt.alloc();
     let mut system = System::new(alloc, Reach, 2, 2);
     system.add_rule(alloc, 0, 1, 1, &[], true, None)?;
-    assert!(rt; !value_of(alloc, &system, (0, &[A], 1, &[A]))?);
-    assert!(rt; value_of(alloc, &system, (0, &[B], 1, &[]))?);
+    for side in [Side::Pre, Side::Post] {
+        assert!(rt; !value_of(alloc, &system, side, (0, &[A], 1, &[A]))?);
+        assert!(rt; value_of(alloc, &system, side, (0, &[B], 1, &[]))?);
+    }
     Ok(())
 }

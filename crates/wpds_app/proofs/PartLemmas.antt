@@ -1,5 +1,5 @@
 -- Texts of a part for each query.
-use Rattle.std.proofs.Common.{◌≡◌, ℕ, ◌+◌, List, [], ◌∷◌, ◌++◌, length, refl, sym, ap, subst, ◌∙◌, append-nil, append_assoc, arith}
+use Rattle.std.proofs.Common.{◌≡◌, ℕ, ◌+◌, List, [], ◌∷◌, ◌++◌, length, refl, sym, ap, ap₂, subst, ◌∙◌, append-nil, append_assoc, arith}
 use Rattle.document_forms.specs.declared.document.QueryLine.{QueryLine}
 use Rattle.wpds_app.specs.Reports.{ByQuery}
 
@@ -23,3 +23,10 @@ one_more P i (r ∷ qs) text q part is holds =
       is.3,
       one_more P (i + 1) qs is.1 q part is.4 (subst (λ k. P k q part) count holds),
     )
+
+-- texts of which each part of the one is that of the other are the same
+pub same_parts : {holds says : ℕ → QueryLine → List ℕ → Type 0} → ((i : ℕ) (q : QueryLine) (t u : List ℕ) → holds i q t → says i q u → t ≡ u) → (i : ℕ) (qs : List QueryLine) (text other : List ℕ)
+    → ByQuery holds i qs text → ByQuery says i qs other → text ≡ other
+same_parts same i [] text other h k = h ∙ sym k
+same_parts same i (q ∷ qs) text other (part, rest, is, here, later) (part', rest', is', here', later') =
+    is ∙ ap₂ (λ x y. x ++ y) (same i q part part' here here') (same_parts same (i + 1) qs rest rest' later later') ∙ sym is'

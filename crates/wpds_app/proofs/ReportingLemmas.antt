@@ -1,6 +1,7 @@
 -- Reports over one semiring, and over that of a document.
 use Rattle.std.proofs.Common.{◌≡◌, ℕ, Bool, true, false, cond, List, length, Some, None, refl, ap, subst, ◌∙◌}
-use Rattle.std.specs.Prelude.{Result, Ok, Err, IfOk, ◌↔◌, codes, nat_le, unwrap_or}
+use Rattle.std.specs.Prelude.{Result, Ok, Err, IfOk, Option, ◌↔◌, [], ◌++◌, if◌then◌else◌, codes, nat_le, unwrap_or}
+use Rattle.witness_graph.specs.declared.listing.Listing.{Listing}
 use Rattle.genkill_weights.specs.Widths.{width_for}
 use Rattle.semiring_laws.specs.Semiring.{Operations}
 use Rattle.config_patterns.specs.Membership.{PatternValue}
@@ -22,7 +23,7 @@ use Rattle.witness_graph.specs.declared.node.Side.TheVariants.{Pre, Post}
 use Rattle.document_systems.specs.Systems.{side_of}
 use Rattle.wpds_app.specs.private.Kept.{opened_text, summed_text}
 use Rattle.wpds_app.specs.declared.words.Options.{Options}
-use Rattle.wpds_app.specs.Reports.{ByQuery, query_text, IsQueryText, IsReported, BySemiring, IsInfeasible, TellsFeasibilityOver}
+use Rattle.wpds_app.specs.Reports.{ByQuery, shown, query_text, IsQueryText, IsReported, BySemiring, IsInfeasible, TellsFeasibilityOver}
 
 -- ---- the sides of a query, by direction
 
@@ -111,3 +112,36 @@ by_weights d options report reach cost facts copy (Cost cap) items named reporte
 by_weights d options report reach cost facts copy GenKill items named reported = over_facts d options report facts items reported
 by_weights d options report reach cost facts copy Copy items named reported = copy items reported
 by_weights d options report reach cost facts copy Relation items named reported = absurd reported
+
+-- ---- reports without listings
+
+-- without listings the text of a query has its value alone
+pub brief_text : (i : ℕ) (options : Options) (value : List ℕ) (listing : Option Listing) → options.brief ≡ true → query_text i options value listing ≡ query_line i value ++ []
+brief_text i options value listing is = ap (λ b. query_line i value ++ (if b then [] else shown listing)) is
+
+-- two reports over this semiring are equal
+abbrev pub AgreeOver : {S W Map : Type 0} → Kind S W Map → S → Document → Options → Options → List ℕ → List ℕ → Type 0
+AgreeOver kind semiring d one other report text = IsReported kind one semiring d report → IsReported kind other semiring d text → report ≡ text
+
+pub record AgreeOverFacts (d : Document) (one other : Options) (report text : List ℕ) : Type 0 where
+  pub one_word : AgreeOver (genkill_kind 1) (record {}) d one other report text
+  pub two : AgreeOver (genkill_kind 2) (record {}) d one other report text
+  pub four : AgreeOver (genkill_kind 4) (record {}) d one other report text
+  pub eight : AgreeOver (genkill_kind 8) (record {}) d one other report text
+  pub sixteen : AgreeOver (genkill_kind 16) (record {}) d one other report text
+
+module _ (d : Document) (one other : Options) (report text : List ℕ) where
+  abbrev Reported : Options → List ℕ → WeightsLine → ℕ → Type 0
+  Reported options written weights items = BySemiring (λ S W Map kind semiring. IsReported kind options semiring d written) weights items
+
+  pub agree_by_weights : AgreeOver reach_kind (record {}) d one other report text
+      → ((cap : ℕ) → IsWeightsLine (Cost cap) → AgreeOver cost_kind cap d one other report text)
+      → AgreeOverFacts d one other report text
+      → ((variables : ℕ) → AgreeOver copy_kind variables d one other report text)
+      → (weights : WeightsLine) (items : ℕ) → IsWeightsLine weights → Reported one report weights items → Reported other text weights items → report ≡ text
+  agree_by_weights reach cost facts copy Reach items named r t = reach r t
+  agree_by_weights reach cost facts copy (Cost cap) items named r t = cost cap named r t
+  agree_by_weights reach cost facts copy GenKill items named r t =
+      of_widths (λ n. AgreeOver (genkill_kind n) (record {}) d one other report text) facts.one_word facts.two facts.four facts.eight facts.sixteen items r t
+  agree_by_weights reach cost facts copy Copy items named r t = copy items r t
+  agree_by_weights reach cost facts copy Relation items named r t = absurd r

@@ -17,7 +17,7 @@ by_read (b ∷ []) side is = cc
 by_read (b ∷ w ∷ []) side is = go (bytes_eq b (codes "--by")) (bytes_eq w (codes "pre")) (bytes_eq w (codes "post")) refl refl refl side is
   where
     go : (x y z : Bool) → bytes_eq b (codes "--by") ≡ x → bytes_eq w (codes "pre") ≡ y → bytes_eq w (codes "post") ≡ z
-        → (s : Side) → cond x (cond y (Some Pre) (cond z (Some Post) None)) ≡ Some s → IsBy (b ∷ w ∷ []) s
+        → (s : Side) → cond x (cond y (Some Pre) (cond z (Some Post) None)) None ≡ Some s → IsBy (b ∷ w ∷ []) s
     go false y z by pre post s is = cc
     go true true z by pre post Pre is =
         inr (ap (λ x. x ∷ w ∷ []) ((bytes_eq-Decides b (codes "--by")).0 by) ∙ ap (λ x. codes "--by" ∷ x ∷ []) ((bytes_eq-Decides w (codes "pre")).0 pre))

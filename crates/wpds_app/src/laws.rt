@@ -1,4 +1,4 @@
-ghost use Rattle.std.specs.Prelude.{◌≡◌, ◌↔◌, ℕ, List, Option, codes};
+ghost use Rattle.std.specs.Prelude.{◌≡◌, ◌↔◌, IsTrue, ℕ, List, Option, codes};
 ghost use Rattle.semiring_laws.specs.declared.reach.NoMap.{NoMap as NoMapValue};
 ghost use Rattle.pushdown_rules.specs.Pushdown.{Pushdown, IsSystem};
 ghost use Rattle.pushdown_rules.specs.Answers.{HasNoFeasibleRun};
@@ -15,7 +15,7 @@ use copy_weights::CopyConst;
 use cost_weights::{Cost, below_is_no_dearer};
 use document_systems::{DocumentWeights, documents_are_systems, unreachable_is_zero};
 use genkill_weights::GenKill;
-use pushdown_rules::{answers_are_greatest_below, zero_where_infeasible};
+use pushdown_rules::{answers_agree, answers_are_greatest_below, zero_where_infeasible};
 use semiring_laws::Reach;
 
 /// What is written for a query is `unreachable` exactly when no feasible run leads from its first pattern to its second,
@@ -79,6 +79,32 @@ pub fn reports_tell_feasibility()
     reports_over_tell_feasibility::<GenKill<8>>();
     reports_over_tell_feasibility::<GenKill<16>>();
     reports_over_tell_feasibility::<CopyConst>();
+}
+
+// Over one semiring two reports without listings are equal, whatever their directions.
+fn brief_reports_over_agree<S: DocumentWeights>()
+    ensures { (s : S) (d : Document) (one other : OptionsValue) (report text : List ℕ)
+        → S.kind.named s → IsDocument d → IsTrue one.brief → IsTrue other.brief
+        → IsReported S.kind one s d report → IsReported S.kind other s d text → report ≡ text }
+{
+    answers_agree::<S>();
+    documents_are_systems::<S>();
+}
+
+/// Two reports without listings on a document are equal: backwards and forwards the same values are written.
+pub fn brief_reports_agree()
+    ensures { (d : Document) (one other : OptionsValue) (report text : List ℕ)
+        → IsDocument d → IsTrue one.brief → IsTrue other.brief
+        → IsReport one d report → IsReport other d text → report ≡ text }
+{
+    brief_reports_over_agree::<Reach>();
+    brief_reports_over_agree::<Cost>();
+    brief_reports_over_agree::<GenKill<1>>();
+    brief_reports_over_agree::<GenKill<2>>();
+    brief_reports_over_agree::<GenKill<4>>();
+    brief_reports_over_agree::<GenKill<8>>();
+    brief_reports_over_agree::<GenKill<16>>();
+    brief_reports_over_agree::<CopyConst>();
 }
 
 /// The report on a document with `weights cost CAP` says of each query that no run leads there, or the cost of a

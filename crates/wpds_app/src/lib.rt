@@ -12,7 +12,7 @@ mod words;
 
 pub use input::Input;
 pub use laws::{
-    costs_are_the_cheapest, reports_tell_costs, reports_tell_feasibility,
+    brief_reports_agree, costs_are_the_cheapest, reports_tell_costs, reports_tell_feasibility,
     reports_tell_reachability, unreachable_where_infeasible,
 };
 pub use program::run;

@@ -1,5 +1,6 @@
 use Rattle.std.proofs.Common.{◌≡◌, length, get_or, sym, ap, subst, ◌∙◌, length-set}
 use Rattle.std.specs.Prelude.{Some}
+use Rattle.query_answers.specs.Answering.{saturated_system}
 use Rattle.wpds_app.specs.private.Kept.{AreKept}
 use Rattle.wpds_app.proofs.KeptLemmas.{kept_more, told_at}
 use Rattle.wpds_app.proofs.report.keep_alike.Goals as goal
@@ -8,7 +9,7 @@ pub loop-k-preserved : goal.loop-k-preserved
 loop-k-preserved g c =
     let d = c.args.document.now in
     let kind = g.S.DocumentWeights.kind in
-    let semiring = c.args.saturation.now.system.semiring in
+    let semiring = (saturated_system c.args.saturation.now).semiring in
     let i = c.loop-k.k in
     let q = c.index-queries-k.result in
     let lines = c.in_ok-lines.lines in

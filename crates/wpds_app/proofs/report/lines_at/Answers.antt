@@ -1,6 +1,7 @@
 use Rattle.std.proofs.Common.{◌≡◌, ◌<◌, get_or, set, sym, subst, ◌∙◌}
 use Rattle.document_forms.specs.Lawful.{IsQueryOf}
 use Rattle.pushdown_rules.specs.Pushdown.{Pushdown}
+use Rattle.query_answers.specs.Answering.{saturated_system}
 use Rattle.wpds_app.specs.private.Kept.{TellsAt, AreKept}
 use Rattle.wpds_app.proofs.KeptLemmas.{kept_at, kept_less, told_at}
 use Rattle.wpds_app.proofs.report.lines_at.Goals as goal
@@ -22,7 +23,7 @@ keep_alike-requires-clause-kept g c =
     let kept = c.args.kept.now in
     let less = kept_less g.S.DocumentWeights.kind c.args.options c.args.system.now.semiring c.args.document.now kept c.args.place c.requires.kept in
     let here = subst (λ o. AreKept g.S.DocumentWeights.kind c.args.options c.args.system.now.semiring c.args.document.now (set kept c.args.place o)) (sym c.take.ensures.after) less in
-    subst (λ (p : Pushdown _ _ _). AreKept g.S.DocumentWeights.kind c.args.options p.semiring c.args.document.now (set kept c.args.place c.take.new.self)) (sym ?) here
+    subst (λ (p : Pushdown _ _ _). AreKept g.S.DocumentWeights.kind c.args.options p.semiring c.args.document.now (set kept c.args.place c.take.new.self)) (sym c.in_ok-saturation.ensures.system) here
 
 pub query_lines-requires-clause-query : goal.query_lines-requires-clause-query
 query_lines-requires-clause-query g c =
@@ -40,10 +41,10 @@ returns-clause-lines g c =
     let lines = c.in_ok-lines.lines in
     let item = subst (λ xs. q ≡ get_or xs c.args.place q) c.as_slice.ensures c.index-as_slice-place.is in
     let told = c.in_ok-lines.ensures in
-    let here = told_at kind c.args.options c.in_ok-saturation.saturation.system.semiring d c.args.place q lines item told in
-    subst (λ (p : Pushdown _ _ _). TellsAt kind c.args.options p.semiring d c.args.place lines) ? here
+    let here = told_at kind c.args.options (saturated_system c.in_ok-saturation.saturation).semiring d c.args.place q lines item told in
+    subst (λ (p : Pushdown _ _ _). TellsAt kind c.args.options p.semiring d c.args.place lines) c.in_ok-saturation.ensures.system here
 
 pub returns-clause-kept : goal.returns-clause-kept
 returns-clause-kept g c =
     subst (λ (p : Pushdown _ _ _). AreKept g.S.DocumentWeights.kind c.args.options p.semiring c.args.document.now c.keep_alike.new.kept)
-    ? c.in_ok-keep_alike.ensures.kept
+    c.in_ok-saturation.ensures.system c.in_ok-keep_alike.ensures.kept
