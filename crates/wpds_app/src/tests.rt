@@ -113,15 +113,11 @@ fn refuses_other_documents(rt: HostRuntime) -> Result<(), Fail> {
     Ok(())
 }
 
-// What is not built: a program, and weights that no semiring answers yet.
-const NOT_BUILT: [(&str, &str); 4] = [
+// What is not built: a program, and relations as weights. A refusal on a line is told before those.
+const NOT_BUILT: [(&str, &str); 3] = [
     ("# a program\n\nbool 1\n", "refused: line 3: 14 NotBuilt\n"),
     (
-        "wpds 1\nweights genkill\ncontrols p\nquery p: => p:\n",
-        "refused: line 0: 14 NotBuilt\n",
-    ),
-    (
-        "wpds 1\nweights copy\ncontrols p\nquery p: => p:\n",
+        "wpds 1\nweights relation\ncontrols p\nquery p: => p:\n",
         "refused: line 0: 14 NotBuilt\n",
     ),
     (
@@ -135,6 +131,28 @@ fn refuses_what_is_not_built(rt: HostRuntime) -> Result<(), Fail> {
     for (document, text) in NOT_BUILT {
         let (ended, written) = outcome(rt.alloc(), &BRIEF, document.as_bytes(), &[], 100, &[])?;
         assert_eq!(rt; ended, Status::DocumentRefused, "at {document}");
+        assert_eq!(rt; written.as_slice(), text.as_bytes(), "at {document}");
+    }
+    Ok(())
+}
+
+// Documents over facts and over variables.
+const OTHER_WEIGHTS: [(&str, &str); 2] = [
+    (
+        "wpds 1\nweights genkill\ncontrols p\nsymbols a b\nfacts f g\nrule p a -> p b : +f -g\nquery p: a => p: b\n",
+        "query 1: gen f kill g\n",
+    ),
+    (
+        "wpds 1\nweights copy\ncontrols p\nsymbols a b\nvariables x y\nrule p a -> p b : x=7,y\nquery p: a => p: b\n",
+        "query 1: x=7,y y=y\n",
+    ),
+];
+
+#[test]
+fn answers_documents_over_facts_and_variables(rt: HostRuntime) -> Result<(), Fail> {
+    for (document, text) in OTHER_WEIGHTS {
+        let (ended, written) = outcome(rt.alloc(), &BRIEF, document.as_bytes(), &[], 100, &[])?;
+        assert_eq!(rt; ended, Status::Answered, "at {document}");
         assert_eq!(rt; written.as_slice(), text.as_bytes(), "at {document}");
     }
     Ok(())
