@@ -13,18 +13,26 @@ const PIECE: usize = 4096;
 
 /// What `check --brief` writes on a document.
 pub(crate) fn written(alloc: Global, document: &[u8]) -> Result<Vec<u8>, OutOfMemory> {
+    written_by(alloc, document, "pre")
+}
+
+// What `check --brief --by` writes on a document by a direction, `pre` or `post`.
+fn written_by(alloc: Global, document: &[u8], by: &str) -> Result<Vec<u8>, OutOfMemory> {
     let mut words = Vec::new(alloc);
-    words.push(String::from_str(alloc, "check")?)?;
-    words.push(String::from_str(alloc, "--brief")?)?;
+    for word in ["check", "--brief", "--by", by] {
+        words.push(String::from_str(alloc, word)?)?;
+    }
     let mut source = MemSource::new(document.to_vec(alloc)?, PIECE, Vec::new(alloc));
     let mut sink = MemSink::new(alloc, ROOM, PIECE, Vec::new(alloc))?;
     let _ = run(alloc, &words, &mut source, &mut sink);
     Ok(sink.written().to_vec(alloc)?)
 }
 
-/// Whether `check --brief` writes this text on a document.
+/// Whether `check --brief` writes this text on a document, backwards and forwards.
 pub(crate) fn writes(alloc: Global, document: &[u8], text: &str) -> Result<bool, OutOfMemory> {
-    Ok(written(alloc, document)?.as_slice() == text.as_bytes())
+    let backwards = written_by(alloc, document, "pre")?;
+    let forwards = written_by(alloc, document, "post")?;
+    Ok(backwards.as_slice() == text.as_bytes() && forwards.as_slice() == text.as_bytes())
 }
 
 // Whether a row says what is written.

@@ -198,6 +198,13 @@ fn refuses_words(rt: HostRuntime) -> Result<(), Fail> {
         &["check", "brief"],
         &["--brief", "check"],
         &["check", "--brief", "--brief"],
+        &["check", "--by"],
+        &["check", "--by", "both"],
+        &["check", "--by", "pre", "post"],
+        &["check", "--by", "pre", "--brief"],
+        &["check", "--brief", "--by"],
+        &["check", "post"],
+        &["--by", "post"],
         &["--help"],
         &[""],
     ] {
@@ -336,6 +343,27 @@ fn costs(rt: HostRuntime) -> Result<(), Fail> {
         let (ended, written) = outcome(rt.alloc(), &BRIEF, document.as_bytes(), &[], 100, &[])?;
         assert_eq!(rt; ended, Status::Answered, "at {query}");
         assert_eq!(rt; written.as_slice(), text.as_bytes(), "at {query}");
+    }
+    Ok(())
+}
+
+// A call by rule 1 that returns by rule 2, forwards. Set 0 is the empty run, with which a run begins; set 1 the runs before
+// the call, which leave below it what waits; set 2 the call up to where the callee begins; set 3 the call and what its
+// callee does until it returns; and set 4 the glue of both, what lies deeper first.
+#[test]
+fn forward_listings(rt: HostRuntime) -> Result<(), Fail> {
+    let system =
+        "wpds 1\nweights cost 100\ncontrols p q\nsymbols a b\nrule p a -> p b a : 2\nrule p b -> q : 1\n";
+    let forwards = "query 1: 3\n  set 0 = empty\n  set 1 = set 0\n  set 2 = rule 1\n  set 3 = set 2 then rule 2\n  set 4 = set 1 then set 3\n  answer set 4\n";
+    for (words, text) in [
+        (["check", "--by", "post"].as_slice(), forwards),
+        (["check", "--brief", "--by", "post"].as_slice(), "query 1: 3\n"),
+        (["check", "--brief", "--by", "pre"].as_slice(), "query 1: 3\n"),
+    ] {
+        let document = format!(in rt.alloc(); "{system}query p: a => q: a\n")?;
+        let (ended, written) = outcome(rt.alloc(), words, document.as_bytes(), &[], 1000, &[])?;
+        assert_eq!(rt; ended, Status::Answered);
+        assert_eq!(rt; written.as_slice(), text.as_bytes());
     }
     Ok(())
 }
