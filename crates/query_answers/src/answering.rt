@@ -74,7 +74,8 @@ pub fn answer<S: Semiring>(
     from: &Pattern,
     to: &Pattern,
 ) -> Result<Answer<S>, OutOfMemory>
-    requires opened { IsOver system.now.controls system.now.symbols (opened_of side from.now to.now) }
+    requires opened { let opened = opened_of side from.now to.now in
+        IsOver system.now.controls system.now.symbols opened }
     requires summed { (summed_of side from.now to.now).control < system.now.controls }
     ensures { IfOk result (IsAnswer S.operations system.now side from.now to.now) }
 {

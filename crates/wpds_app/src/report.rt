@@ -128,7 +128,8 @@ fn keep_alike<S: DocumentWeights>(
         let p = saturated_system saturation.now in
         IsSaturated S.operations p options.by pattern saturation.now }
     requires room { length kept.old ≡ length document.now.queries }
-    requires kept { AreKept S.kind options (saturated_system saturation.now).semiring document.now kept.old }
+    requires kept { let semiring = (saturated_system saturation.now).semiring in
+        AreKept S.kind options semiring document.now kept.old }
     ensures kept { let semiring = (saturated_system saturation.now).semiring in
         OnOk result (AreKept S.kind options semiring document.now kept.new) }
     ensures room { length kept.new ≡ length kept.old }
