@@ -354,11 +354,18 @@ fn costs(rt: HostRuntime) -> Result<(), Fail> {
 fn forward_listings(rt: HostRuntime) -> Result<(), Fail> {
     let system =
         "wpds 1\nweights cost 100\ncontrols p q\nsymbols a b\nrule p a -> p b a : 2\nrule p b -> q : 1\n";
-    let forwards = "query 1: 3\n  set 0 = empty\n  set 1 = set 0\n  set 2 = rule 1\n  set 3 = set 2 then rule 2\n  set 4 = set 1 then set 3\n  answer set 4\n";
+    let forwards =
+        "query 1: 3\n  set 0 = empty\n  set 1 = set 0\n  set 2 = rule 1\n  set 3 = set 2 then rule 2\n  set 4 = set 1 then set 3\n  answer set 4\n";
     for (words, text) in [
         (["check", "--by", "post"].as_slice(), forwards),
-        (["check", "--brief", "--by", "post"].as_slice(), "query 1: 3\n"),
-        (["check", "--brief", "--by", "pre"].as_slice(), "query 1: 3\n"),
+        (
+            ["check", "--brief", "--by", "post"].as_slice(),
+            "query 1: 3\n",
+        ),
+        (
+            ["check", "--brief", "--by", "pre"].as_slice(),
+            "query 1: 3\n",
+        ),
     ] {
         let document = format!(in rt.alloc(); "{system}query p: a => q: a\n")?;
         let (ended, written) = outcome(rt.alloc(), words, document.as_bytes(), &[], 1000, &[])?;

@@ -19,8 +19,8 @@ returns g c = λ s d one other report text named is brief brief' reported told.
     let a = subst (λ operations. IsAnswer operations p one.by from to h.answer) g.met.S.DocumentWeights.computes h.is_answer in
     let b = subst (λ operations. IsAnswer operations p other.by from to k.answer) g.met.S.DocumentWeights.computes k.is_answer in
     let same =
-        c.answers_agree.ensures p (has_member from) (has_member to) h.answer.value k.answer.value
-        (listed_runs h.answer.listing) (listed_runs k.answer.listing) system a.shows.answers b.shows.answers
+    c.answers_agree.ensures p (has_member from) (has_member to) h.answer.value k.answer.value
+    (listed_runs h.answer.listing) (listed_runs k.answer.listing) system a.shows.answers b.shows.answers
     in
     h.told
     ∙ brief_text i one (kind.written s d.items h.answer.value) h.answer.listing brief
