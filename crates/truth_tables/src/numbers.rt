@@ -1,0 +1,13 @@
+ghost use Rattle.std.specs.Prelude.{◌≡◌};
+
+/// The number that the digits write, if it is at most `most`.
+pub(crate) fn table_number(digits: &[u8], most: u8) -> Option<u8> {
+    let mut number: u32 = 0;
+    for digit in digits {
+        number = 10 * number + u32::from(digit.saturating_sub(b'0'));
+        if number > u32::from(most) {
+            return None;
+        }
+    }
+    Some(number as u8)
+}
