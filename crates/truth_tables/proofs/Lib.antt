@@ -1,11 +1,8 @@
-mod AnswerLemmas
 mod DepthLemmas
+mod KeptLemmas
 mod MachineLemmas
-mod OperandLemmas
-mod OutcomeLemmas
 mod PostfixLemmas
 mod Readings
 mod ShapeLemmas
-mod StackLemmas
 mod Trees
 mod VariableLemmas

@@ -1,7 +1,6 @@
 pub mod Formulas
 pub mod Grammar
 pub mod Machine
-pub mod Operands
 pub mod Postfix
 pub mod Stacks
 pub mod Tables

@@ -1,6 +1,12 @@
 //! Words are read as an expression, a word at a time. What is built stands in one list, each part
 //! behind its operands, and of what is open only what can't be told from that list.
 
+ghost use Rattle.std.specs.Prelude.{◌≡◌, ◌+◌, ℕ, List, nat_lt, if◌then◌else◌, Ok, Err};
+ghost use Rattle.wpds_port.specs.Words.{word_of};
+ghost use Rattle.truth_tables.specs.Stacks.{Reading, at_end};
+ghost use Rattle.truth_tables.specs.private.Kept.{IsAt, IsEnd, IsMade, IsJoining, IsOpening, IsStepping};
+ghost use Rattle.truth_tables.specs.declared.stop.Stop.TheVariants.{Excess};
+
 use crate::numbers::table_number;
 use crate::stop::Stop;
 use crate::{Operator, Part, Postfix};
@@ -40,13 +46,14 @@ pub(crate) enum Position {
 /// What was read of an expression: what stands open, the newest last, and what is built.
 #[derive(Drop)]
 pub(crate) struct Reader {
-    limit: u32,
     open: Vec<OpenPart>,
     parts: Postfix,
 }
 
 // The depth of an expression over parts of this depth.
-fn above(limit: u32, below: u32) -> Result<u32, Stop> {
+fn above(limit: u32, below: u32) -> Result<u32, Stop>
+    ensures { result ≡ (if nat_lt below limit then Ok (below + 1) else Err Excess) }
+{
     if below < limit {
         Ok(below + 1)
     } else {
@@ -54,26 +61,31 @@ fn above(limit: u32, below: u32) -> Result<u32, Stop> {
     }
 }
 
+// Puts the last part of an operand behind the others, whose operands are so deep. It tells its depth.
+#[tactic(auto, using(crate::proofs::KeptLemmas::made_deep, crate::proofs::KeptLemmas::made_so))]
+fn put(parts: &mut Postfix, limit: u32, below: u32, part: Part) -> Result<u32, Stop>
+    ensures { IsMade limit below part parts.old result parts.new }
+{
+    let made = above(limit, below)?;
+    parts.push(part)?;
+    Ok(made)
+}
+
 impl Reader {
-    /// Nothing is read yet. An expression may be `limit` deep.
-    pub(crate) fn new(alloc: Global, limit: u32) -> Reader {
+    /// Nothing is read yet.
+    pub(crate) fn new(alloc: Global) -> Reader {
         Reader {
-            limit,
             open: Vec::new(alloc),
             parts: Postfix::new(alloc),
         }
     }
 
-    // An operand whose last part is this one, over parts of this depth. It tells its depth.
-    fn built(&mut self, below: u32, part: Part) -> Result<u32, Stop> {
-        let depth = above(self.limit, below)?;
-        self.parts.push(part)?;
-        Ok(depth)
-    }
-
     // Leaves a part open, behind which an operand is wanted.
-    fn opened(&mut self, part: OpenPart) -> Result<Position, Stop> {
-        if self.open.len() >= self.limit as usize {
+    fn opened(&mut self, limit: u32, part: OpenPart) -> Result<Position, Stop>
+        ensures open { IsOpening limit self.old.open.items part result self.new.open.items }
+        ensures built { self.new.parts ≡ self.old.parts }
+    {
+        if self.open.len() >= limit as usize {
             return Err(Stop::Excess);
         }
         self.open.push(part)?;
@@ -81,19 +93,23 @@ impl Reader {
     }
 
     // Joins an operand with what is open before it and binds at least as strongly.
-    fn join(&mut self, level: u8, depth: u32) -> Result<u32, Stop> {
-        let mut joined = depth;
+    #[tactic(auto, using(crate::proofs::KeptLemmas::not_more, crate::proofs::KeptLemmas::not_excess, crate::proofs::KeptLemmas::operator_more, crate::proofs::KeptLemmas::operator_excess, crate::proofs::KeptLemmas::operator_less, crate::proofs::KeptLemmas::other_stays, crate::proofs::KeptLemmas::empty_stays, crate::proofs::KeptLemmas::no_memory, crate::proofs::KeptLemmas::at_start))]
+    fn join(&mut self, limit: u32, level: u8, operand: u32) -> Result<u32, Stop>
+        ensures { IsJoining limit level self.old.open.items self.old.parts operand result
+            self.new.open.items self.new.parts }
+    {
+        let mut joined = operand;
         while let Some(top) = self.open.pop() {
             match top {
                 OpenPart::Not => {
-                    joined = self.built(joined, Part::Not)?;
+                    joined = put(&mut self.parts, limit, joined, Part::Not)?;
                 }
                 OpenPart::Operator(operator, left) => {
                     if operator.level() < level {
                         self.open.push(top)?;
                         return Ok(joined);
                     }
-                    joined = self.built(left.max(joined), Part::Two(operator.table()))?;
+                    joined = put(&mut self.parts, limit, left.max(joined), Part::Two(operator.table()))?;
                 }
                 other => {
                     self.open.push(other)?;
@@ -105,7 +121,7 @@ impl Reader {
     }
 
     // A name where an operand is wanted, in this place among the variables.
-    fn at_name(&mut self, name: &[u8], place: u32) -> Result<Position, Stop> {
+    fn at_name(&mut self, limit: u32, name: &[u8], place: u32) -> Result<Position, Stop> {
         if name == b"return".as_slice() {
             return Err(Stop::Form);
         }
@@ -115,48 +131,48 @@ impl Reader {
         if name == b"tab3".as_slice() {
             return Ok(Position::Behind3);
         }
-        Ok(Position::Behind(self.built(0, Part::Var(place))?))
+        Ok(Position::Behind(put(&mut self.parts, limit, 0, Part::Var(place))?))
     }
 
     // A number where an operand is wanted.
-    fn at_number(&mut self, digits: &[u8]) -> Result<Position, Stop> {
+    fn at_number(&mut self, limit: u32, digits: &[u8]) -> Result<Position, Stop> {
         if digits == b"0".as_slice() {
-            return Ok(Position::Behind(self.built(0, Part::Const(false))?));
+            return Ok(Position::Behind(put(&mut self.parts, limit, 0, Part::Const(false))?));
         }
         if digits == b"1".as_slice() {
-            return Ok(Position::Behind(self.built(0, Part::Const(true))?));
+            return Ok(Position::Behind(put(&mut self.parts, limit, 0, Part::Const(true))?));
         }
         Err(Stop::Form)
     }
 
     // A word where an operand is wanted.
-    fn at_operand(&mut self, lexeme: Lexeme<'_>, place: u32) -> Result<Position, Stop> {
+    fn at_operand(&mut self, limit: u32, lexeme: Lexeme<'_>, place: u32) -> Result<Position, Stop> {
         match lexeme {
-            Lexeme::Name(name) => self.at_name(name, place),
-            Lexeme::Number(digits) => self.at_number(digits),
-            Lexeme::Mark(Mark::Not) => self.opened(OpenPart::Not),
-            Lexeme::Mark(Mark::Open) => self.opened(OpenPart::Bracket),
+            Lexeme::Name(name) => self.at_name(limit, name, place),
+            Lexeme::Number(digits) => self.at_number(limit, digits),
+            Lexeme::Mark(Mark::Not) => self.opened(limit, OpenPart::Not),
+            Lexeme::Mark(Mark::Open) => self.opened(limit, OpenPart::Bracket),
             Lexeme::Mark(_) => Err(Stop::Form),
         }
     }
 
     // A comma behind an operand that is joined.
-    fn at_comma(&mut self, depth: u32) -> Result<Position, Stop> {
+    fn at_comma(&mut self, limit: u32, depth: u32) -> Result<Position, Stop> {
         match self.open.pop() {
-            Some(OpenPart::First2(table)) => self.opened(OpenPart::Second2(table, depth)),
-            Some(OpenPart::First3(table)) => self.opened(OpenPart::Second3(table, depth)),
-            Some(OpenPart::Second3(table, a)) => self.opened(OpenPart::Third3(table, a, depth)),
+            Some(OpenPart::First2(table)) => self.opened(limit, OpenPart::Second2(table, depth)),
+            Some(OpenPart::First3(table)) => self.opened(limit, OpenPart::Second3(table, depth)),
+            Some(OpenPart::Second3(table, a)) => self.opened(limit, OpenPart::Third3(table, a, depth)),
             _ => Err(Stop::Form),
         }
     }
 
     // A closing bracket behind an operand that is joined.
-    fn at_close(&mut self, depth: u32) -> Result<Position, Stop> {
+    fn at_close(&mut self, limit: u32, depth: u32) -> Result<Position, Stop> {
         let closed = match self.open.pop() {
-            Some(OpenPart::Bracket) => above(self.limit, depth)?,
-            Some(OpenPart::Second2(table, a)) => self.built(a.max(depth), Part::Two(table))?,
+            Some(OpenPart::Bracket) => above(limit, depth)?,
+            Some(OpenPart::Second2(table, a)) => put(&mut self.parts, limit, a.max(depth), Part::Two(table))?,
             Some(OpenPart::Third3(table, a, b)) => {
-                self.built(a.max(b.max(depth)), Part::Three(table))?
+                put(&mut self.parts, limit, a.max(b.max(depth)), Part::Three(table))?
             }
             _ => return Err(Stop::Form),
         };
@@ -164,19 +180,19 @@ impl Reader {
     }
 
     // A mark behind an operand.
-    fn behind_operand(&mut self, depth: u32, mark: Mark) -> Result<Position, Stop> {
+    fn behind_operand(&mut self, limit: u32, depth: u32, mark: Mark) -> Result<Position, Stop> {
         if let Some(operator) = Operator::of(mark) {
-            let joined = self.join(operator.least_left(), depth)?;
-            return self.opened(OpenPart::Operator(operator, joined));
+            let joined = self.join(limit, operator.least_left(), depth)?;
+            return self.opened(limit, OpenPart::Operator(operator, joined));
         }
         match mark {
             Mark::Comma => {
-                let joined = self.join(1, depth)?;
-                self.at_comma(joined)
+                let joined = self.join(limit, 1, depth)?;
+                self.at_comma(limit, joined)
             }
             Mark::Close => {
-                let joined = self.join(1, depth)?;
-                self.at_close(joined)
+                let joined = self.join(limit, 1, depth)?;
+                self.at_close(limit, joined)
             }
             _ => Err(Stop::Form),
         }
@@ -193,12 +209,16 @@ impl Reader {
     /// One word more, in this place among the variables if it is one.
     pub(crate) fn step(
         &mut self,
+        limit: u32,
         position: Position,
         lexeme: Lexeme<'_>,
         place: u32,
-    ) -> Result<Position, Stop> {
+    ) -> Result<Position, Stop>
+        ensures { IsStepping limit position (word_of lexeme.entry) place self.old.open.items
+            self.old.parts result self.new.open.items self.new.parts }
+    {
         match (position, lexeme) {
-            (Position::Wanted, lexeme) => self.at_operand(lexeme, place),
+            (Position::Wanted, lexeme) => self.at_operand(limit, lexeme, place),
             (Position::Behind2, Lexeme::Number(digits)) => {
                 Ok(Position::Counted2(Reader::at_table(digits, 15)?))
             }
@@ -206,22 +226,26 @@ impl Reader {
                 Ok(Position::Counted3(Reader::at_table(digits, 255)?))
             }
             (Position::Counted2(number), Lexeme::Mark(Mark::Open)) => {
-                self.opened(OpenPart::First2(number))
+                self.opened(limit, OpenPart::First2(number))
             }
             (Position::Counted3(number), Lexeme::Mark(Mark::Open)) => {
-                self.opened(OpenPart::First3(number))
+                self.opened(limit, OpenPart::First3(number))
             }
-            (Position::Behind(depth), Lexeme::Mark(mark)) => self.behind_operand(depth, mark),
+            (Position::Behind(depth), Lexeme::Mark(mark)) => self.behind_operand(limit, depth, mark),
             _ => Err(Stop::Form),
         }
     }
 
     /// The expression behind the last word, if nothing else is open there.
-    pub(crate) fn finish(mut self, position: Position) -> Result<Postfix, Stop> {
+    pub(crate) fn finish(mut self, limit: u32, position: Position) -> Result<Postfix, Stop>
+        ensures { (names : List (List ℕ)) (r : Reading)
+            → IsAt limit names r position self.entry.open.items self.entry.parts
+            → IsEnd limit names (at_end r) result }
+    {
         let Position::Behind(depth) = position else {
             return Err(Stop::Form);
         };
-        self.join(1, depth)?;
+        self.join(limit, 1, depth)?;
         if self.open.is_empty() {
             Ok(self.parts)
         } else {

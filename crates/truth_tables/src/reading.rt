@@ -1,3 +1,7 @@
+ghost use Rattle.std.specs.Prelude.{◌≡◌, IfOk};
+ghost use Rattle.truth_tables.specs.Texts.{IsAnswer};
+ghost use Rattle.truth_tables.specs.private.Kept.{IsBuilding};
+
 use crate::reader::{Position, Reader};
 use crate::shape::large_table;
 use crate::stop::Stop;
@@ -32,17 +36,19 @@ fn place_behind(place: u32, is_variable: bool) -> Result<u32, Stop> {
 
 // Builds the expression that the words are, as long as it can be one that is to be read. So no more
 // is open at once than `limit`.
-fn build(alloc: Global, limit: u32, words: Words<'_>) -> Result<Postfix, Stop> {
-    let mut reader = Reader::new(alloc, limit);
+fn build(alloc: Global, limit: u32, words: Words<'_>) -> Result<Postfix, Stop>
+    ensures { IsBuilding limit words.entry result }
+{
+    let mut reader = Reader::new(alloc);
     let mut position = Position::Wanted;
     let mut place = 0;
     let mut left = words;
     while let Some((lexeme, rest)) = left.split_first() {
-        position = reader.step(position, lexeme, place)?;
+        position = reader.step(limit, position, lexeme, place)?;
         place = place_behind(place, is_variable(lexeme))?;
         left = rest;
     }
-    reader.finish(position)
+    reader.finish(limit, position)
 }
 
 // The answer where the words are no expression that is to be read, by its large table if they are
@@ -62,7 +68,9 @@ fn unbuilt(large: Option<bool>) -> ExprRead {
 ///
 /// Words that are no expression are told before a table number that is too large, and that before
 /// an expression that is too deep.
-pub fn read_expr(alloc: Global, words: &Words<'_>, depth: u32) -> Result<ExprRead, OutOfMemory> {
+pub fn read_expr(alloc: Global, words: &Words<'_>, depth: u32) -> Result<ExprRead, OutOfMemory>
+    ensures { IfOk result (IsAnswer words.now depth) }
+{
     match build(alloc, depth, words.reborrow()) {
         Ok(parts) => Ok(ExprRead::Read(parts)),
         Err(Stop::Form) => Ok(ExprRead::Form),
