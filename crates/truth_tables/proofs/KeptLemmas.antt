@@ -73,11 +73,11 @@ operator_on_top o d (Third3 n a b ∷ ps) rest h = cc
 
 -- an operand that is partly joined
 pub record IsReached (limit : ℕ) (names : List (List ℕ)) (level : ℕ) (ps : List Pending) (e : Tree) (now : List OpenPart) (fs : List (Formula ℕ)) (d : ℕ) : Type 0 where
-  pub open : List Pending
+  pub pending : List Pending
   pub operand : Tree
-  pub has : HasOperand limit names open operand now fs d
-  pub same : joined level open operand ≡ joined level ps e
-  pub as_deep : least open (depth operand) ≡ least ps (depth e)
+  pub has : HasOperand limit names pending operand now fs d
+  pub same : joined level pending operand ≡ joined level ps e
+  pub as_deep : least pending (depth operand) ≡ least ps (depth e)
 
 -- what is open and built, from what it was at first
 abbrev pub Reaches : ℕ → ℕ → List OpenPart → List (Formula ℕ) → ℕ → List OpenPart → List (Formula ℕ) → ℕ → Type 0
@@ -140,33 +140,35 @@ none_joined k [] e h = refl
 none_joined k (q ∷ qs) e h = cc
 
 pub at_start : (limit level : ℕ) (old : List OpenPart) (fs : List (Formula ℕ)) (d : ℕ) → Reaches limit level old fs d old fs d
-at_start limit level old fs d names ps e h = record { open = ps; operand = e; has = h; same = refl; as_deep = refl }
+at_start limit level old fs d names ps e h = record { pending = ps; operand = e; has = h; same = refl; as_deep = refl }
 
 module _ (limit level : ℕ) (old : List OpenPart) (gs : List (Formula ℕ)) (operand : ℕ) (now rest : List OpenPart) (fs : List (Formula ℕ)) (d : ℕ) (reached : Reaches limit level old gs operand now fs d) where
   -- what stays joined so
-  ended : (names : List (List ℕ)) (ps : List Pending) (e : Tree) (then : List OpenPart) (q : IsReached limit names level ps e now fs d) → then ≡ now → joined level q.open q.operand ≡ (q.open, q.operand)
-      → IsJoined limit names (joined level ps e) (least ps (depth e)) (Ok d) then fs
-  ended names ps e then q same is =
-      subst (λ (r : List Pending × Tree). HasOperand limit names r.0 r.1 then fs d) (sym is ∙ q.same)
-      (subst (λ x. HasOperand limit names q.open q.operand x fs d) (sym same) q.has)
+  ended : (names : List (List ℕ)) (ps : List Pending) (e : Tree) (last : List OpenPart) (q : IsReached limit names level ps e now fs d) → last ≡ now → joined level q.pending q.operand ≡ (q.pending, q.operand)
+      → IsJoined limit names (joined level ps e) (least ps (depth e)) (Ok d) last fs
+  ended names ps e last q same is =
+      subst (λ (r : List Pending × Tree). HasOperand limit names r.0 r.1 last fs d) (sym is ∙ q.same)
+      (subst (λ x. HasOperand limit names q.pending q.operand x fs d) (sym same) q.has)
 
   pub not_more : (more : ℕ) (hs : List (Formula ℕ)) → now ≡ rest ++ Not ∷ [] → IsMade limit d NotPart fs (Ok more) hs → Reaches limit level old gs operand rest hs more
   not_more more hs h made names ps e k =
       let q = reached names ps e k in
-      let top = not_on_top q.open (reverse rest) (q.has.opened ∙ top_first now rest Not h) in
+      let top = not_on_top q.pending (reverse rest) (q.has.opened ∙ top_first now rest Not h) in
       let formulas = opposite_taken names fs (formula_of q.operand) (held top.0) (ap (λ x. formula_of q.operand ∷ held x) (sym top.1) ∙ q.has.built) in
       record {
-        open = top.0;
+        pending = top.0;
         operand = Inverse q.operand;
         has = record { opened = top.2; built = formulas ∙ sym (ap (named names) made.2); depth_is = omega (arith, q.has.depth_is, made.0); shallow = omega (arith, made.0, made.1) };
         same = sym (ap (λ x. joined level x q.operand) top.1) ∙ q.same;
         as_deep = sym (ap (λ x. least x (depth q.operand)) top.1) ∙ q.as_deep;
       }
 
-  pub not_excess : (then : List OpenPart) (hs ks : List (Formula ℕ)) → now ≡ rest ++ Not ∷ [] → IsMade limit d NotPart fs (Err Excess) hs → IsJoining limit level old gs operand (Err Excess) then ks
-  not_excess then hs ks h made names ps e k =
+  pub not_stops : (s : Stop) (last : List OpenPart) (hs ks : List (Formula ℕ)) → now ≡ rest ++ Not ∷ [] → IsMade limit d NotPart fs (Err s) hs → IsJoining limit level old gs operand (Err s) last ks
+  not_stops Form last hs ks h made names ps e k = absurd made
+  not_stops Memory last hs ks h made names ps e k = tt
+  not_stops Excess last hs ks h made names ps e k =
       let q = reached names ps e k in
-      let top = not_on_top q.open (reverse rest) (q.has.opened ∙ top_first now rest Not h) in
+      let top = not_on_top q.pending (reverse rest) (q.has.opened ∙ top_first now rest Not h) in
       let deep = sym (ap (λ x. least x (depth q.operand)) top.1) ∙ q.as_deep in
       omega (arith, made, q.has.depth_is, deep, at_least top.0 (depth q.operand + 1))
 
@@ -174,41 +176,43 @@ module _ (limit level : ℕ) (old : List OpenPart) (gs : List (Formula ℕ)) (op
       → Reaches limit level old gs operand rest hs more
   operator_more o left more hs h l made names ps e k =
       let q = reached names ps e k in
-      let top = operator_on_top o left q.open (reverse rest) (q.has.opened ∙ top_first now rest (Operator o left) h) in
-      let formulas = binary_taken names fs (table_of o) (formula_of top.0) (formula_of q.operand) (held top.1) (ap (λ x. formula_of q.operand ∷ held x) (sym top.2.0) ∙ q.has.built) in
+      let top = operator_on_top o left q.pending (reverse rest) (q.has.opened ∙ top_first now rest (Operator o left) h) in
+      let formulas = binary_taken names fs (table_of o) (formula_of top.0) (formula_of q.operand) (held top.1) (ap (λ x. formula_of q.operand ∷ held x) (sym top.2) ∙ q.has.built) in
       record {
-        open = top.1;
+        pending = top.1;
         operand = Two o top.0 q.operand;
-        has = record { opened = top.2.2; built = formulas ∙ sym (ap (named names) made.2); depth_is = omega (arith, q.has.depth_is, made.0, top.2.1); shallow = omega (arith, made.0, made.1) };
-        same = sym (joined_on level o top.0 q.operand top.1 l) ∙ sym (ap (λ x. joined level x q.operand) top.2.0) ∙ q.same;
-        as_deep = sym (ap (λ x. least x (depth q.operand)) top.2.0) ∙ q.as_deep;
+        has = record { opened = top.4; built = formulas ∙ sym (ap (named names) made.2); depth_is = omega (arith, q.has.depth_is, made.0, top.3); shallow = omega (arith, made.0, made.1) };
+        same = sym (joined_on level o top.0 q.operand top.1 l) ∙ sym (ap (λ x. joined level x q.operand) top.2) ∙ q.same;
+        as_deep = sym (ap (λ x. least x (depth q.operand)) top.2) ∙ q.as_deep;
       }
 
-  pub operator_excess : (o : OperatorValue) (left : ℕ) (then : List OpenPart) (hs ks : List (Formula ℕ)) → now ≡ rest ++ Operator o left ∷ [] → IsMade limit (max left d) (TwoPart (table_of o)) fs (Err Excess) hs
-      → IsJoining limit level old gs operand (Err Excess) then ks
-  operator_excess o left then hs ks h made names ps e k =
+  pub operator_stops : (s : Stop) (o : OperatorValue) (left : ℕ) (last : List OpenPart) (hs ks : List (Formula ℕ)) → now ≡ rest ++ Operator o left ∷ [] → IsMade limit (max left d) (TwoPart (table_of o)) fs (Err s) hs
+      → IsJoining limit level old gs operand (Err s) last ks
+  operator_stops Form o left last hs ks h made names ps e k = absurd made
+  operator_stops Memory o left last hs ks h made names ps e k = tt
+  operator_stops Excess o left last hs ks h made names ps e k =
       let q = reached names ps e k in
-      let top = operator_on_top o left q.open (reverse rest) (q.has.opened ∙ top_first now rest (Operator o left) h) in
-      let deep = sym (ap (λ x. least x (depth q.operand)) top.2.0) ∙ q.as_deep in
-      omega (arith, made, q.has.depth_is, top.2.1, deep, at_least top.1 (max (depth top.0) (depth q.operand) + 1))
+      let top = operator_on_top o left q.pending (reverse rest) (q.has.opened ∙ top_first now rest (Operator o left) h) in
+      let deep = sym (ap (λ x. least x (depth q.operand)) top.2) ∙ q.as_deep in
+      omega (arith, made, q.has.depth_is, top.3, deep, at_least top.1 (max (depth top.0) (depth q.operand) + 1))
 
-  pub operator_less : (o : OperatorValue) (left : ℕ) (then : List OpenPart) → now ≡ rest ++ Operator o left ∷ [] → then ≡ rest ++ Operator o left ∷ [] → operator_level o < level
-      → IsJoining limit level old gs operand (Ok d) then fs
-  operator_less o left then h g l names ps e k =
+  pub operator_less : (o : OperatorValue) (left : ℕ) (last : List OpenPart) → now ≡ rest ++ Operator o left ∷ [] → last ≡ rest ++ Operator o left ∷ [] → operator_level o < level
+      → IsJoining limit level old gs operand (Ok d) last fs
+  operator_less o left last h g l names ps e k =
       let q = reached names ps e k in
-      let top = operator_on_top o left q.open (reverse rest) (q.has.opened ∙ top_first now rest (Operator o left) h) in
-      ended names ps e then q (g ∙ sym h) (ap (λ x. joined level x q.operand) top.2.0 ∙ joined_off level o top.0 q.operand top.1 l ∙ ap (λ x. (x, q.operand)) (sym top.2.0))
+      let top = operator_on_top o left q.pending (reverse rest) (q.has.opened ∙ top_first now rest (Operator o left) h) in
+      ended names ps e last q (g ∙ sym h) (ap (λ x. joined level x q.operand) top.2 ∙ joined_off level o top.0 q.operand top.1 l ∙ ap (λ x. (x, q.operand)) (sym top.2))
 
-  pub other_stays : (p : OpenPart) (then : List OpenPart) → now ≡ rest ++ p ∷ [] → then ≡ rest ++ p ∷ [] → IsOther p → IsJoining limit level old gs operand (Ok d) then fs
-  other_stays p then h g i names ps e k =
+  pub other_stays : (p : OpenPart) (last : List OpenPart) → now ≡ rest ++ p ∷ [] → last ≡ rest ++ p ∷ [] → IsOther p → IsJoining limit level old gs operand (Ok d) last fs
+  other_stays p last h g i names ps e k =
       let q = reached names ps e k in
-      ended names ps e then q (g ∙ sym h) (other_joined level q.open q.operand p (reverse rest) (q.has.opened ∙ top_first now rest p h) i)
+      ended names ps e last q (g ∙ sym h) (other_joined level q.pending q.operand p (reverse rest) (q.has.opened ∙ top_first now rest p h) i)
 
 pub empty_stays : (limit level : ℕ) (old : List OpenPart) (gs : List (Formula ℕ)) (operand : ℕ) (now : List OpenPart) (fs : List (Formula ℕ)) (d : ℕ) → Reaches limit level old gs operand now fs d → now ≡ []
     → IsJoining limit level old gs operand (Ok d) now fs
 empty_stays limit level old gs operand now fs d reached h names ps e k =
     let q = reached names ps e k in
-    ended limit level old gs operand now now fs d reached names ps e now q refl (none_joined level q.open q.operand (q.has.opened ∙ ap reverse h))
+    ended limit level old gs operand now now fs d reached names ps e now q refl (none_joined level q.pending q.operand (q.has.opened ∙ ap reverse h))
 
-pub no_memory : (limit level : ℕ) (old : List OpenPart) (gs : List (Formula ℕ)) (operand : ℕ) (now : List OpenPart) (fs : List (Formula ℕ)) → IsJoining limit level old gs operand (Err Memory) now fs
-no_memory limit level old gs operand now fs names ps e k = tt
+pub no_memory : (s : Stop) (limit level : ℕ) (old : List OpenPart) (gs : List (Formula ℕ)) (operand : ℕ) (now : List OpenPart) (fs : List (Formula ℕ)) → s ≡ Memory → IsJoining limit level old gs operand (Err s) now fs
+no_memory s limit level old gs operand now fs is names ps e k = subst (λ x. IsJoined limit names (joined level ps e) (least ps (depth e)) (Err x) now fs) (sym is) tt

@@ -46,7 +46,7 @@ pub(crate) enum Position {
 /// What was read of an expression: what stands open, the newest last, and what is built.
 #[derive(Drop)]
 pub(crate) struct Reader {
-    open: Vec<OpenPart>,
+    pending: Vec<OpenPart>,
     parts: Postfix,
 }
 
@@ -75,44 +75,44 @@ impl Reader {
     /// Nothing is read yet.
     pub(crate) fn new(alloc: Global) -> Reader {
         Reader {
-            open: Vec::new(alloc),
+            pending: Vec::new(alloc),
             parts: Postfix::new(alloc),
         }
     }
 
     // Leaves a part open, behind which an operand is wanted.
     fn opened(&mut self, limit: u32, part: OpenPart) -> Result<Position, Stop>
-        ensures open { IsOpening limit self.old.open.items part result self.new.open.items }
+        ensures open { IsOpening limit self.old.pending.items part result self.new.pending.items }
         ensures built { self.new.parts ≡ self.old.parts }
     {
-        if self.open.len() >= limit as usize {
+        if self.pending.len() >= limit as usize {
             return Err(Stop::Excess);
         }
-        self.open.push(part)?;
+        self.pending.push(part)?;
         Ok(Position::Wanted)
     }
 
     // Joins an operand with what is open before it and binds at least as strongly.
-    #[tactic(auto, using(crate::proofs::KeptLemmas::not_more, crate::proofs::KeptLemmas::not_excess, crate::proofs::KeptLemmas::operator_more, crate::proofs::KeptLemmas::operator_excess, crate::proofs::KeptLemmas::operator_less, crate::proofs::KeptLemmas::other_stays, crate::proofs::KeptLemmas::empty_stays, crate::proofs::KeptLemmas::no_memory, crate::proofs::KeptLemmas::at_start))]
+    #[tactic(auto, using(crate::proofs::KeptLemmas::not_more, crate::proofs::KeptLemmas::not_stops, crate::proofs::KeptLemmas::operator_more, crate::proofs::KeptLemmas::operator_stops, crate::proofs::KeptLemmas::operator_less, crate::proofs::KeptLemmas::other_stays, crate::proofs::KeptLemmas::empty_stays, crate::proofs::KeptLemmas::no_memory, crate::proofs::KeptLemmas::at_start))]
     fn join(&mut self, limit: u32, level: u8, operand: u32) -> Result<u32, Stop>
-        ensures { IsJoining limit level self.old.open.items self.old.parts operand result
-            self.new.open.items self.new.parts }
+        ensures { IsJoining limit level self.old.pending.items self.old.parts operand result
+            self.new.pending.items self.new.parts }
     {
         let mut joined = operand;
-        while let Some(top) = self.open.pop() {
+        while let Some(top) = self.pending.pop() {
             match top {
                 OpenPart::Not => {
                     joined = put(&mut self.parts, limit, joined, Part::Not)?;
                 }
                 OpenPart::Operator(operator, left) => {
                     if operator.level() < level {
-                        self.open.push(top)?;
+                        self.pending.push(top)?;
                         return Ok(joined);
                     }
                     joined = put(&mut self.parts, limit, left.max(joined), Part::Two(operator.table()))?;
                 }
                 other => {
-                    self.open.push(other)?;
+                    self.pending.push(other)?;
                     return Ok(joined);
                 }
             }
@@ -158,7 +158,7 @@ impl Reader {
 
     // A comma behind an operand that is joined.
     fn at_comma(&mut self, limit: u32, depth: u32) -> Result<Position, Stop> {
-        match self.open.pop() {
+        match self.pending.pop() {
             Some(OpenPart::First2(table)) => self.opened(limit, OpenPart::Second2(table, depth)),
             Some(OpenPart::First3(table)) => self.opened(limit, OpenPart::Second3(table, depth)),
             Some(OpenPart::Second3(table, a)) => self.opened(limit, OpenPart::Third3(table, a, depth)),
@@ -168,7 +168,7 @@ impl Reader {
 
     // A closing bracket behind an operand that is joined.
     fn at_close(&mut self, limit: u32, depth: u32) -> Result<Position, Stop> {
-        let closed = match self.open.pop() {
+        let closed = match self.pending.pop() {
             Some(OpenPart::Bracket) => above(limit, depth)?,
             Some(OpenPart::Second2(table, a)) => put(&mut self.parts, limit, a.max(depth), Part::Two(table))?,
             Some(OpenPart::Third3(table, a, b)) => {
@@ -214,8 +214,8 @@ impl Reader {
         lexeme: Lexeme<'_>,
         place: u32,
     ) -> Result<Position, Stop>
-        ensures { IsStepping limit position (word_of lexeme.entry) place self.old.open.items
-            self.old.parts result self.new.open.items self.new.parts }
+        ensures { IsStepping limit position (word_of lexeme.entry) place self.old.pending.items
+            self.old.parts result self.new.pending.items self.new.parts }
     {
         match (position, lexeme) {
             (Position::Wanted, lexeme) => self.at_operand(limit, lexeme, place),
@@ -239,14 +239,14 @@ impl Reader {
     /// The expression behind the last word, if nothing else is open there.
     pub(crate) fn finish(mut self, limit: u32, position: Position) -> Result<Postfix, Stop>
         ensures { (names : List (List ℕ)) (r : Reading)
-            → IsAt limit names r position self.entry.open.items self.entry.parts
+            → IsAt limit names r position self.entry.pending.items self.entry.parts
             → IsEnd limit names (at_end r) result }
     {
         let Position::Behind(depth) = position else {
             return Err(Stop::Form);
         };
         self.join(limit, 1, depth)?;
-        if self.open.is_empty() {
+        if self.pending.is_empty() {
             Ok(self.parts)
         } else {
             Err(Stop::Form)
