@@ -1,6 +1,6 @@
 ghost use Rattle.std.specs.Prelude.{◌≡◌, ◌++◌, IfOk, OnOk};
 ghost use Rattle.semiring_laws.specs.Semiring.{Fits};
-ghost use Rattle.weighted_automata.specs.declared.place.Label.TheVariants.{Symbol};
+ghost use Rattle.direction_parts.specs.Places.{arrow};
 ghost use Rattle.poststar_laws.specs.Rows.{is_pop, skip, step_drawn, return_drawn, pop_drawn, enter_drawn, leave_drawn, drawn};
 ghost use Rattle.poststar_laws.specs.Jobs.{drawn_job, rule_jobs};
 ghost use Rattle.poststar.specs.private.Passes.{kind_of};
@@ -18,7 +18,7 @@ use wpds_base::OutOfMemory;
 
 // The place over a symbol.
 fn over(from: u32, symbol: u32, to: u32) -> Place
-    ensures { result ≡ record { from = from; label = Symbol symbol; to = to } }
+    ensures { result ≡ arrow from symbol to }
 {
     Place {
         from,

@@ -33,7 +33,7 @@ pub fn forward_places_are_counted<S: Semiring>()
         ≡ p.controls * (p.symbols + 1) * (items + pushes) + pushes * (items + pushes) }
 {}
 
-/// The states of these places are fewer than 132,001, so that their numbers fit in 32 bits: at most as many as the limits
+/// The states of these places have numbers below 132,000, which fit in 32 bits: there are at most as many as the limits
 /// allow of controls, items and rules.
 pub fn forward_states_are_few<S: Semiring>()
     ensures { (items : ℕ) (p : Pushdown S S.W S.Ret) → IsSystem S.operations p → items ≤ most_items
