@@ -2,4 +2,6 @@ mod PlaceLemmas
 mod IndexLemmas
 mod EntryLemmas
 mod RoomLemmas
+mod RowLemmas
+mod FindLemmas
 pub mod CallerLemmas

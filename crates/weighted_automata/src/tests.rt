@@ -47,6 +47,18 @@ fn lowers_and_finds(rt: HostRuntime) -> Result<(), Fail> {
             assert_eq!(rt; transitions.from_state(state, label, k), stands);
         }
     }
+    // the same, each from the one before it
+    for (state, label, first) in [
+        (0, A, Some(0u64)),
+        (0, B, Some(3)),
+        (2, A, Some(4)),
+        (1, A, None),
+    ] {
+        assert_eq!(rt; transitions.first_from(state, label), first);
+    }
+    for (k, next) in [Some(2u64), None, None, None, None].into_iter().enumerate() {
+        assert_eq!(rt; transitions.next_from(k as u64), next);
+    }
     // a state, and where the transitions into it stand
     for (state, stand) in [
         (1, [Some(0u64), Some(1), Some(3), Some(4), None]),

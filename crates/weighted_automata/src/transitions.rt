@@ -1,8 +1,10 @@
-ghost use Rattle.std.specs.Prelude.{◌≡◌, ◌<◌, ◌++◌, List, [], ◌∷◌, length, slice_get, filter, IsTrue, IsOk, IsSome, IfOk, OnOk, OnErr, IfSome, option_and_then};
+ghost use Rattle.std.specs.Prelude.{◌≡◌, ◌+◌, ◌<◌, ◌++◌, List, [], ◌∷◌, length, slice_get, filter, Some, IsTrue, IsOk, IsSome, IfOk, OnOk, OnErr, IfSome, option_and_then};
 ghost use Rattle.weighted_automata.specs.declared.place.Place.{Place as PlaceValue};
 ghost use Rattle.weighted_automata.specs.Places.{has_place, AreAmong};
-ghost use Rattle.weighted_automata.specs.Entries.{entry_at, index_at, lowered, indices_from, is_from, is_into, HasDistinctPlaces};
+ghost use Rattle.weighted_automata.specs.Entries.{entry_at, index_at, index_where, index_from, lowered, indices_from, is_from, is_into, HasDistinctPlaces};
+ghost use Rattle.weighted_automata.specs.declared.transitions.Entry.{Entry as EntryValue};
 
+use crate::index::PlaceIndex;
 use crate::room::{add, position, replace, wait};
 use crate::{Label, Place};
 use semiring_laws::Semiring;
@@ -25,12 +27,14 @@ pub struct Entry<S: Semiring> {
 #[derive(Drop)]
 pub struct Transitions<S: Semiring> {
     entries: Vec<Entry<S>>,
-    // Places for which `entries` has capacity beside its own.
+    // Their places, in the same order.
+    index: PlaceIndex,
+    // Places for which `entries` and `index` have room beside their own.
     waiting: Vec<Place>,
 }
 
 impl<S: Semiring> Model for Transitions<S> {
-    ghost use Rattle.std.specs.Prelude.{◌+◌, ◌≤◌, ◌++◌, length, vec_len, vec_capacity};
+    ghost use Rattle.std.specs.Prelude.{◌≡◌, ◌+◌, ◌≤◌, ◌++◌, length, vec_len, vec_capacity};
     ghost use Rattle.weighted_automata.specs.Entries.{HasDistinctPlaces, TransitionList, places_of};
 
     ghost Value = { TransitionList S S.W S.Ret };
@@ -41,7 +45,9 @@ impl<S: Semiring> Model for Transitions<S> {
     } };
 
     ghost invariant = { λ t. HasDistinctPlaces t.entries.items
-        × (vec_len t.entries + length t.waiting.items ≤ vec_capacity t.entries) };
+        × (vec_len t.entries + length t.waiting.items ≤ vec_capacity t.entries)
+        × (t.index.places ≡ places_of t.entries.items)
+        × (length t.waiting.items ≤ t.index.spare) };
 }
 
 impl<S: Semiring> Transitions<S> {
@@ -51,6 +57,7 @@ impl<S: Semiring> Transitions<S> {
     {
         Transitions {
             entries: Vec::new(alloc),
+            index: PlaceIndex::new(alloc),
             waiting: Vec::new(alloc),
         }
     }
@@ -77,12 +84,26 @@ impl<S: Semiring> Transitions<S> {
         ensures entry { option_and_then (slice_get self.now.transitions) result
             ≡ entry_at place self.now.transitions }
     {
-        for (i, entry) in self.entries.iter().enumerate() {
-            if entry.place.is(place) {
-                return Some(i as u64);
-            }
+        match self.index.find(place) {
+            Some(k) => Some(k as u64),
+            None => None,
         }
-        None
+    }
+
+    /// Where the first transition stands that goes from a state and reads a label.
+    pub fn first_from(&self, state: u32, label: Label) -> Option<u64>
+        ensures { result ≡ index_where (is_from state label) self.now.transitions }
+    {
+        self.index.first_from(state, label)
+    }
+
+    /// Where the next transition stands that goes from the state of the `k`-th and reads its label.
+    pub fn next_from(&self, k: u64) -> Option<u64>
+        requires { k < length self.now.transitions }
+        ensures { (t : EntryValue S S.W S.Ret) → slice_get self.now.transitions k ≡ Some t →
+            result ≡ index_from (is_from t.place.from t.place.label) (k + 1) self.now.transitions }
+    {
+        self.index.next_from(k)
     }
 
     /// Where the `k`-th transition stands, counted from 0, of those that go from a state and read a label.
@@ -153,7 +174,7 @@ impl<S: Semiring> Transitions<S> {
             }
             None => {
                 let k = self.len();
-                add(&mut self.entries, &mut self.waiting, entry)?;
+                add(&mut self.entries, &mut self.index, &mut self.waiting, entry)?;
                 Ok(k)
             }
         }
@@ -207,7 +228,7 @@ impl<S: Semiring> Transitions<S> {
         if self.has_room(place) {
             return Ok(());
         }
-        wait(&mut self.entries, &mut self.waiting, place)?;
+        wait(&mut self.entries, &mut self.index, &mut self.waiting, place)?;
         Ok(())
     }
 }

@@ -16,3 +16,13 @@ returns-clause-room g c = elim c.if-not-take_out.branch [
   | then-not-take_out+in_ok-make_space w ↦ omega (arith, ap length c.take_out.ensures.left, length-without_le c.args.entry.place c.args.waiting.now.items, w.in_ok-make_space.ensures.ok, ap vec_len w.entries-is, ap vec_capacity w.entries-is)
   | else-not-take_out w ↦ omega (arith, ap length c.take_out.ensures.left, length-without c.args.entry.place c.args.waiting.now.items (sym w.if-not-take_out.ensures.taken), ap vec_len w.entries-is, ap vec_capacity w.entries-is)
 ]
+
+pub returns-in_err-make_space-clause-indexed : goal.returns-in_err-make_space-clause-indexed
+returns-in_err-make_space-clause-indexed g c =
+    omega (arith, ap length c.take_out.ensures.left, length-without_le c.args.entry.place c.args.waiting.now.items, c.make_space.ensures.spare, c.requires.indexed)
+
+pub returns-clause-indexed : goal.returns-clause-indexed
+returns-clause-indexed g c = elim c.if-not-take_out.branch [
+  | then-not-take_out+in_ok-make_space w ↦ omega (arith, ap length c.take_out.ensures.left, length-without_le c.args.entry.place c.args.waiting.now.items, w.in_ok-make_space.ensures.indexed, ap (λ i. i.spare) w.index-is, c.add.ensures.spare)
+  | else-not-take_out w ↦ omega (arith, ap length c.take_out.ensures.left, length-without c.args.entry.place c.args.waiting.now.items (sym w.if-not-take_out.ensures.taken), c.requires.indexed, ap (λ i. i.spare) w.index-is, c.add.ensures.spare)
+]

@@ -1,17 +1,19 @@
 use Rattle.std.proofs.Common.{sym, ap, ◌∙◌}
-use Rattle.weighted_automata.specs.Places.{same_place}
-use Rattle.weighted_automata.proofs.IndexLemmas.{index_where-found, index_where-none}
-use Rattle.weighted_automata.proofs.EntryLemmas.{entry_found, entry_missed}
+use Rattle.std.specs.Prelude.{option_and_then, slice_get}
+use Rattle.weighted_automata.proofs.FindLemmas.{found_at}
+use Rattle.weighted_automata.proofs.EntryLemmas.{at_index_at}
 use Rattle.weighted_automata.proofs.transitions.Transitions.find.Goals as goal
 
-pub returns-then-is-clause-entry : goal.returns-then-is-clause-entry
-returns-then-is-clause-entry g c =
-    entry_found c.args.place c.deref-entry-items.result.now c.args.self.now.transitions c.loop-i.i
-    (c.deref-entry-items.ensures.value ∙ ap (λ v. v.transitions) c.self.view_is)
-    (index_where-found (λ t. same_place t.place c.args.place) c.deref-entry-items.result.now c.loop-i.i c.entry-item.result c.loop-i-test.true c.entry-item.is c.loop-i.invariant (sym c.is.ensures ∙ c.if-is.true))
+pub returns-in-Some-clause-index : goal.returns-in-Some-clause-index
+returns-in-Some-clause-index g c =
+    sym c.in-Some.is ∙ found_at c.args.place c.self.inside.entries.items c.args.self.now.transitions c.self.inside.index.places c.find.result c.find.ensures c.self.invariant.2 (ap (λ v. v.transitions) c.self.view_is)
 
-pub returns-clause-entry : goal.returns-clause-entry
-returns-clause-entry g c =
-    entry_missed c.args.place c.deref-entry-items.result.now c.args.self.now.transitions
-    (c.deref-entry-items.ensures.value ∙ ap (λ v. v.transitions) c.self.view_is)
-    (index_where-none (λ t. same_place t.place c.args.place) c.deref-entry-items.result.now c.loop-i.i c.loop-i.invariant c.loop-i-test.false)
+pub returns-in-Some-clause-entry : goal.returns-in-Some-clause-entry
+returns-in-Some-clause-entry g c = ap (option_and_then (slice_get c.args.self.now.transitions)) (returns-in-Some-clause-index g c) ∙ at_index_at c.args.place c.args.self.now.transitions
+
+pub returns-in-None-clause-index : goal.returns-in-None-clause-index
+returns-in-None-clause-index g c =
+    sym c.in-None.is ∙ found_at c.args.place c.self.inside.entries.items c.args.self.now.transitions c.self.inside.index.places c.find.result c.find.ensures c.self.invariant.2 (ap (λ v. v.transitions) c.self.view_is)
+
+pub returns-in-None-clause-entry : goal.returns-in-None-clause-entry
+returns-in-None-clause-entry g c = ap (option_and_then (slice_get c.args.self.now.transitions)) (returns-in-None-clause-index g c) ∙ at_index_at c.args.place c.args.self.now.transitions

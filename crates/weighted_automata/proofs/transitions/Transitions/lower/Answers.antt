@@ -1,7 +1,8 @@
-use Rattle.std.proofs.Common.{◌≡◌, true, false, ◌∷◌, ◌++◌, length, sym, ap, ◌∙◌, subst, arith}
+use Rattle.weighted_automata.proofs.FindLemmas.{places-lowered, places-added, index_of_places}
+use Rattle.std.proofs.Common.{◌≡◌, true, false, [], ◌∷◌, ◌++◌, length, sym, ap, ◌∙◌, subst, arith}
 use Rattle.std.specs.Prelude.{Some, is_some, unwrap_or}
-use Rattle.weighted_automata.specs.Places.{has_place}
-use Rattle.weighted_automata.specs.Entries.{index_at, lowered, places_of, HasDistinctPlaces}
+use Rattle.weighted_automata.specs.Places.{same_place, has_place}
+use Rattle.weighted_automata.specs.Entries.{index_where, index_at, lowered, places_of, HasDistinctPlaces}
 use Rattle.weighted_automata.proofs.EntryLemmas.{distinct-lowered, lowered_at, lowered_last, index_at-lowered}
 use Rattle.weighted_automata.proofs.RoomLemmas.{missed_has, room_kept, room_stays, room_only, without_only, waits_beside}
 use Rattle.weighted_automata.proofs.transitions.Transitions.lower.Goals as goal
@@ -15,6 +16,9 @@ pub invariant_of-self : goal.invariant_of-self
 invariant_of-self g c = (
   subst HasDistinctPlaces (sym (replaced g c)) (distinct-lowered c.args.place c.args.weight c.args.node c.self.inside.entries.items c.self.invariant.0),
   omega (arith, c.replace.ensures.len, c.replace.ensures.room, c.self.invariant.1),
+  c.self.invariant.2
+      ∙ sym (ap places_of (replaced g c) ∙ places-lowered c.args.place c.args.weight c.args.node c.self.inside.entries.items c.in-Some.k (ap (λ v. index_at c.args.place v.transitions) c.self.view_is ∙ sym c.find.ensures.index ∙ c.in-Some.is)),
+  c.self.invariant.3,
 )
 
 pub returns-in-Some-clause-ok : goal.returns-in-Some-clause-ok
@@ -46,6 +50,9 @@ pub invariant_of-self-in-None : goal.invariant_of-self-in-None
 invariant_of-self-in-None g c = (
   subst HasDistinctPlaces (sym (added g c)) (distinct-lowered c.args.place c.args.weight c.args.node c.self.inside.entries.items c.self.invariant.0),
   c.add.ensures.room,
+  c.in_ok-add-in-None.ensures.added ∙ ap (λ ys. ys ++ c.args.place ∷ []) c.self.invariant.2
+      ∙ sym (ap places_of c.in_ok-add-in-None.ensures.ok ∙ places-added c.self.inside.entries.items (record { place = c.args.place; weight = c.args.weight; node = c.args.node })),
+  c.add.ensures.indexed,
 )
 
 pub returns-in_ok-add-in-None-clause-ok : goal.returns-in_ok-add-in-None-clause-ok
@@ -81,3 +88,8 @@ returns-in_err-add-in-None-clause-room g c = λ h.
     (waits_beside c.args.place (places_of c.self.inside.entries.items) c.self.inside.waiting.items
     (missed_has c.args.place c.self.inside.entries.items (ap (λ v. index_at c.args.place v.transitions) c.self.view_is ∙ sym c.find.ensures.index ∙ c.in-None.is)).0
     (ap (λ v. has_place c.args.place v.room) c.self.view_is ∙ h)) in cc
+
+pub add-requires-clause-absent : goal.add-requires-clause-absent
+add-requires-clause-absent g c =
+    ap (index_where (λ y. same_place y c.args.place)) c.self.invariant.2 ∙ index_of_places c.args.place c.self.inside.entries.items
+    ∙ ap (λ v. index_at c.args.place v.transitions) c.self.view_is ∙ sym c.find.ensures.index ∙ c.in-None.is
