@@ -1,10 +1,10 @@
-ghost use Rattle.std.specs.Prelude.{◌≡◌, ◌<◌, ◌≤◌, ◌++◌, ◌∷◌, [], length, ◌+◌, ◌*◌, if◌then◌else◌, IsTrue, IfOk, OnOk, OnErr, All, nat_le, false};
+ghost use Rattle.std.specs.Prelude.{◌≡◌, ◌<◌, ◌≤◌, ◌++◌, ◌∷◌, [], length, ◌+◌, ◌*◌, if◌then◌else◌, IsTrue, IfOk, OnOk, OnErr, All, nat_le, false, slice_get, Some};
 ghost use Rattle.std.specs.List.{list_any, list_all};
 ghost use Rattle.wpds_base.specs.Limits.{most_items};
 ghost use Rattle.config_patterns.specs.declared.pattern.PatternFault.TheVariants.{Memory};
 ghost use Rattle.config_patterns.specs.Membership.{has_member, with_item};
 ghost use Rattle.config_patterns.specs.Edges.{edges_of, is_final_of, is_starred};
-ghost use Rattle.config_patterns.specs.Validity.{is_set, IsPattern, IsWithin};
+ghost use Rattle.config_patterns.specs.Validity.{is_set, IsItem, IsPattern, IsWithin};
 ghost use Rattle.config_patterns.specs.Fault.{item_fault, refusal_of, IsAccepted};
 
 use crate::edge_list::list_edges;
@@ -117,8 +117,18 @@ impl Pattern {
     pub fn items(&self) -> u32
         ensures value { result ≡ length self.now.items }
         ensures limit { result ≤ most_items }
+        ensures valid { IsPattern self.now }
     {
         self.items.len() as u32
+    }
+
+    /// An item, counted from 0.
+    pub fn item(&self, k: u32) -> &Item
+        requires { k < length self.now.items }
+        ensures item { slice_get self.now.items k ≡ Some result.now }
+        ensures valid { IsItem self.now.symbols result.now }
+    {
+        &self.items[k as usize]
     }
 
     /// Whether a configuration is one of its own. It takes no memory; its time is that of the depth times the symbols of

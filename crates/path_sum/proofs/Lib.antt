@@ -10,6 +10,8 @@ mod BookLemmas
 mod ChangeLemmas
 mod ReadyLemmas
 mod LoopLemmas
+mod ItemLemmas
+mod LookupLemmas
 mod PlaceLemmas
 mod RoundLemmas
 mod MemberLemmas

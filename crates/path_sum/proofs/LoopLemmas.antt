@@ -1,50 +1,26 @@
 -- The moves of a pair, one after another.
-use Rattle.std.proofs.Common.{◌≡◌, inl, inr, ℕ, zero, suc, ◌+◌, ◌<◌, ◌≤◌, Bool, true, false, List, [], ◌∷◌, ◌++◌, map, length, get_or, drop, refl, sym, ap, ap₂, ◌∙◌, subst, arith}
-use Rattle.std.specs.Prelude.{Option, None, Some, ◌&&◌, nat_eq, cond, slice_get, option_and_then}
-use Rattle.std.proofs.lemmas.Bool.{and_parts, or_left, or_right, eqb-true}
-use Rattle.std.proofs.lemmas.List.{at_drop_more, at_drop_all}
+use Rattle.std.proofs.Common.{◌≡◌, inl, inr, ℕ, zero, suc, ◌+◌, ◌≤◌, Bool, true, false, List, [], ◌∷◌, ◌++◌, map, length, drop, refl, sym, ap, ◌∙◌, subst}
+use Rattle.std.specs.Prelude.{Option, None, Some, nat_eq, cond, slice_get, option_and_then}
+use Rattle.std.specs.List.{All}
+use Rattle.std.proofs.lemmas.List.{at_drop_all}
 use Rattle.std.proofs.lemmas.Option.{same_Some}
 use Rattle.semiring_laws.specs.Semiring.{Operations}
 use Rattle.weighted_automata.specs.declared.place.Place.{Place}
 use Rattle.weighted_automata.specs.declared.place.Label.{Label}
-use Rattle.weighted_automata.specs.declared.place.Label.TheVariants.{Symbol, Empty}
+use Rattle.weighted_automata.specs.declared.place.Label.TheVariants.{Empty, Symbol}
 use Rattle.weighted_automata.specs.declared.transitions.Entry.{Entry}
 use Rattle.weighted_automata.specs.Entries.{Present, HasDistinctPlaces}
-use Rattle.weighted_automata.specs.Places.{same_place, has_place}
-use Rattle.weighted_automata.proofs.CallerLemmas.{same_place_itself}
 use Rattle.witness_graph.specs.declared.node.Side.{Side}
-use Rattle.config_patterns.specs.declared.edge.Edge.{Edge}
+use Rattle.config_patterns.specs.declared.item.Item.{Item}
+use Rattle.config_patterns.specs.Edges.{edges_of}
 use Rattle.saturation_laws.specs.declared.opening.Opening.{Opening}
 use Rattle.saturation_laws.specs.States.{CoreState}
 use Rattle.wpds_base.specs.Lists.{IsIn}
 use Rattle.saturation_laws.proofs.CallerLemmas.{in_present}
 use Rattle.saturation_core.proofs.CallerLemmas.{drop_at}
-use Rattle.path_sum.specs.Sums.{Ways, edge_place, can_move, Move, Along, move, grow}
-use Rattle.path_sum.specs.private.Work.{edge_moves, moves_by, pair_moves, end_moves, moves_of}
-
-has_at : (es : List Edge) (k : ℕ) (d : Edge) → k < length es → has_place (edge_place (get_or es k d)) (map edge_place es) ≡ true
-has_at [] k d within = absurd (omega (arith, within))
-has_at (e ∷ es) zero d within = or_left (same_place (edge_place e) (edge_place e)) (has_place (edge_place e) (map edge_place es)) (same_place_itself (edge_place e))
-has_at (e ∷ es) (suc k) d within =
-    let x = edge_place (get_or es k d) in
-    let w : suc k < suc (length es) = within in
-    or_right (same_place (edge_place e) x) (has_place x (map edge_place es)) (has_at es k d (omega (arith, w)))
-
--- an edge of a list is among its places
-pub has_edge : (es all : List Edge) (k : ℕ) (d : Edge) → k < length es → es ≡ all → has_place (edge_place (get_or es k d)) (map edge_place all) ≡ true
-has_edge es all k d within same =
-    let P : List Edge → Type 0 = λ ds. has_place (edge_place (get_or es k d)) (map edge_place ds) ≡ true in
-    subst P same (has_at es k d within)
-
--- the pattern goes along an edge that passes the test
-pub edge_goes : (es : List Place) (e : Edge) (i g : ℕ) (l : Label) → has_place (edge_place e) es ≡ true → l ≡ Symbol g → (nat_eq e.from i && nat_eq e.symbol g) ≡ true → can_move es i l e.to ≡ true
-edge_goes es e i g l there label test =
-    let tests = and_parts (nat_eq e.from i) (nat_eq e.symbol g) test in
-    let to : ℕ → ℕ → Place = λ a b. record { from = a; label = Symbol b; to = e.to } in
-    let is : edge_place e ≡ to i g = ap₂ to (eqb-true e.from i tests.0) (eqb-true e.symbol g tests.1) in
-    let Q : Label → Type 0 = λ m. can_move es i m e.to ≡ true in
-    let R : Place → Type 0 = λ x. has_place x es ≡ true in
-    subst Q (sym label) (subst R is there)
+use Rattle.path_sum.specs.Sums.{Ways, edge_place, Move, move, grow}
+use Rattle.path_sum.proofs.ItemLemmas.{HasSet, by_items, on_step}
+use Rattle.path_sum.specs.private.Work.{edge_moves, into_moves, on_moves, back_moves, item_at, moves_by, pair_moves, end_moves, moves_of}
 
 module _ {S W Map : Type 0} where
   at_in : (ts : List (Entry S W Map)) (k : ℕ) (t : Entry S W Map) → slice_get ts k ≡ Some t → IsIn t ts
@@ -78,23 +54,20 @@ module _ {S W Map : Type 0} (s : Operations W Map) (side : Side) (o : Opening) (
   same_moves true xs more = refl
   same_moves false xs more = refl
 
-  -- one edge more
-  pub edge_more : (i g : ℕ) (x : Place) (es : List Edge) (k : ℕ) (d : Edge) (now new : CoreState S W Map) (all : Option (CoreState S W Map)) → k < length es
-      → growing now (edge_moves i g x (map edge_place (drop k es))) ≡ all
-      → growing now (cond (nat_eq (get_or es k d).from i && nat_eq (get_or es k d).symbol g) (Along i (get_or es k d).to x ∷ []) []) ≡ Some new
-      → growing new (edge_moves i g x (map edge_place (drop (k + 1) es))) ≡ all
-  edge_more i g x es k d now new all within was made =
-      let e = get_or es k d in
-      let test = nat_eq e.from i && nat_eq e.symbol g in
-      let rest = edge_moves i g x (map edge_place (drop (k + 1) es)) in
-      sym (grow_on (cond test (Along i e.to x ∷ []) []) rest now new made)
-      ∙ sym (ap (growing now) (same_moves test (Along i e.to x ∷ []) rest))
-      ∙ sym (at_drop_more (λ ds. growing now (edge_moves i g x (map edge_place ds))) es k d within) ∙ was
+  -- one item more
+  pub item_more : (i g : ℕ) (x : Place) (items : List Item) (k : ℕ) (y : Item) (now new : CoreState S W Map) (all : Option (CoreState S W Map)) → slice_get items k ≡ Some y
+      → growing now (on_moves i g x (k + 1) (drop k items)) ≡ all → growing now (into_moves i g x (k + 1) y) ≡ Some new
+      → growing new (cond y.star (on_moves i g x (k + 1 + 1) (drop (k + 1) items)) []) ≡ all
+  item_more i g x items k y now new all there was made =
+      sym (grow_on (into_moves i g x (k + 1) y) (cond y.star (on_moves i g x (k + 1 + 1) (drop (k + 1) items)) []) now new made)
+      ∙ sym (ap (growing now) (on_step i g x items k y there)) ∙ was
 
-  -- past all edges
-  pub edges_ended : (i g : ℕ) (x : Place) (es : List Edge) (k : ℕ) (now : CoreState S W Map) (all : Option (CoreState S W Map)) → length es ≤ k
-      → growing now (edge_moves i g x (map edge_place (drop k es))) ≡ all → Some now ≡ all
-  edges_ended i g x es k now all past was = sym (at_drop_all (λ ds. growing now (edge_moves i g x (map edge_place ds))) es k past) ∙ was
+  -- by all edges, of which one leads back
+  pub edges_made : (i g : ℕ) (x : Place) (items : List Item) (now mid new : CoreState S W Map) → All HasSet items
+      → growing now (back_moves i g x (item_at i items)) ≡ Some mid → growing mid (on_moves i g x (i + 1) (drop i items)) ≡ Some new
+      → growing now (edge_moves i g x (map edge_place (edges_of items))) ≡ Some new
+  edges_made i g x items now mid new sets first second =
+      ap (growing now) (by_items i g x items sets) ∙ grow_on (back_moves i g x (item_at i items)) (on_moves i g x (i + 1) (drop i items)) now mid first ∙ second
 
   -- one transition more
   pub pair_more : (i q k : ℕ) (us : List (Entry S W Map)) (t : Entry S W Map) (now new : CoreState S W Map) (all : Option (CoreState S W Map)) → slice_get us k ≡ Some t

@@ -3,3 +3,4 @@ pub mod Inputs
 pub mod Paths
 pub mod Work
 pub mod Growing
+pub mod Lookups

@@ -1,18 +1,18 @@
-ghost use Rattle.std.specs.Prelude.{◌≡◌, ◌<◌, ◌≤◌, ◌&&◌, ◌++◌, nat_eq, None, Some, IfOk, OnOk, IfSome, IsTrue, length, map, if◌then◌else◌, [], ◌∷◌};
+ghost use Rattle.std.specs.Prelude.{◌≡◌, ◌<◌, ◌≤◌, ◌+◌, ◌++◌, nat_eq, None, Some, IfOk, OnOk, IfSome, IsTrue, length, drop, slice_get, if◌then◌else◌, [], ◌∷◌};
+ghost use Rattle.config_patterns.specs.declared.item.Item.{Item as ItemValue};
+ghost use Rattle.wpds_base.specs.Limits.{most_items};
 ghost use Rattle.semiring_laws.specs.Semiring.{Fits};
 ghost use Rattle.weighted_automata.specs.declared.place.Label.TheVariants.{Symbol};
 ghost use Rattle.weighted_automata.specs.Entries.{Present};
-ghost use Rattle.weighted_automata.specs.Places.{has_place};
 ghost use Rattle.saturation_laws.specs.States.{apply};
 ghost use Rattle.saturation_laws.specs.Openings.{AreKept};
 ghost use Rattle.saturation_laws.specs.Paths.{in_order};
 ghost use Rattle.path_sum.specs.private.Growing.{CanDraw, MovesBy, GrowsBy, given, state_of};
-ghost use Rattle.path_sum.specs.Sums.{bare_sum, ways_of, pair_place, can_move, edge_place, first_part, second_part, Along};
-ghost use Rattle.path_sum.specs.private.Work.{edge_moves, moves_by, pair_moves, end_moves, moves_of};
+ghost use Rattle.path_sum.specs.Sums.{bare_sum, ways_of, pair_place, can_move, first_part, second_part, Along};
+ghost use Rattle.path_sum.specs.private.Work.{edge_moves, into_moves, on_moves, back_moves, item_at, HaveMoves, moves_by, pair_moves, end_moves, moves_of};
 
 use crate::change::apply_parts;
 use crate::sum_input::SumInput;
-use config_patterns::Edge;
 use semiring_laws::Semiring;
 use std::alloc::Global;
 use std::collections::VecDeque;
@@ -65,13 +65,6 @@ fn parts(side: Side, pair: u64, transition: u64) -> (u64, u64)
         Side::Pre => (pair, transition),
         Side::Post => (transition, pair),
     }
-}
-
-// Whether an edge goes from a state, on a symbol.
-fn goes(edge: Edge, state: u32, symbol: u32) -> bool
-    ensures { result ≡ (nat_eq edge.from state && nat_eq edge.symbol symbol) }
-{
-    edge.from == state && edge.symbol == symbol
 }
 
 impl<'g, S: Semiring> Growing<'g, S> {
@@ -152,33 +145,100 @@ impl<'g, S: Semiring> Growing<'g, S> {
         Ok(())
     }
 
-    // Goes along a transition on a symbol with an edge of the pattern, if it goes from the state on the symbol.
-    fn follow_edge(
+    // Goes along a transition on a symbol into an item of the pattern, if it takes the symbol.
+    fn follow_into(
         &mut self,
         alloc: Global,
         input: &SumInput<S>,
         i: u32,
         symbol: u32,
-        edge: Edge,
+        item: u32,
         transition: &Entry<S>,
     ) -> Result<(), OutOfMemory>
         requires ready { CanDraw S.operations input.now
             (pair_place i transition.now.place.from) (state_of self.old) }
         requires there { Present input.now.transitions transition.now }
         requires label { transition.now.place.label ≡ Symbol symbol }
-        requires edge { IsTrue (has_place (edge_place edge) (ways_of input.now.pattern).edges) }
-        ensures grows { OnOk result (GrowsBy S.operations input.now
-            (if nat_eq edge.from i && nat_eq edge.symbol symbol
-            then Along i edge.to transition.now.place ∷ [] else [])
+        requires item { item < length input.now.pattern.items }
+        requires few { length input.now.pattern.items ≤ most_items }
+        requires moves { (y : ItemValue) → slice_get input.now.pattern.items item ≡ Some y →
+            HaveMoves (ways_of input.now.pattern).edges i symbol transition.now.place
+            (into_moves i symbol transition.now.place (item + 1) y) }
+        ensures grows { OnOk result (
+            (y : ItemValue) → slice_get input.now.pattern.items item ≡ Some y →
+            GrowsBy S.operations input.now
+            (into_moves i symbol transition.now.place (item + 1) y)
             (state_of self.old) (state_of self.new)) }
         ensures ready { OnOk result (CanDraw S.operations input.now
             (pair_place i transition.now.place.from) (state_of self.new)) }
         ensures graph { self.new.nodes.graph ≡ self.old.nodes.graph }
     {
-        if !goes(edge, i, symbol) {
+        if !input.takes(item, symbol) {
             return Ok(());
         }
-        self.follow(alloc, input, i, edge.to, transition)?;
+        self.follow(alloc, input, i, item + 1, transition)?;
+        Ok(())
+    }
+
+    // Goes along a transition on a symbol into the items above a state, up to the first without star.
+    fn follow_on(
+        &mut self,
+        alloc: Global,
+        input: &SumInput<S>,
+        i: u32,
+        symbol: u32,
+        transition: &Entry<S>,
+    ) -> Result<(), OutOfMemory>
+        requires ready { CanDraw S.operations input.now
+            (pair_place i transition.now.place.from) (state_of self.old) }
+        requires there { Present input.now.transitions transition.now }
+        requires label { transition.now.place.label ≡ Symbol symbol }
+        requires moves { HaveMoves (ways_of input.now.pattern).edges i symbol transition.now.place
+            (on_moves i symbol transition.now.place (i + 1) (drop i input.now.pattern.items)) }
+        ensures grows { OnOk result (GrowsBy S.operations input.now
+            (on_moves i symbol transition.now.place (i + 1) (drop i input.now.pattern.items))
+            (state_of self.old) (state_of self.new)) }
+        ensures ready { OnOk result (CanDraw S.operations input.now
+            (pair_place i transition.now.place.from) (state_of self.new)) }
+        ensures graph { self.new.nodes.graph ≡ self.old.nodes.graph }
+    {
+        for item in i..input.items() {
+            self.follow_into(alloc, input, i, symbol, item, transition)?;
+            if !input.is_starred(item) {
+                return Ok(());
+            }
+        }
+        Ok(())
+    }
+
+    // Goes along a transition on a symbol to the state where it is, if that is an item's with a star.
+    fn follow_back(
+        &mut self,
+        alloc: Global,
+        input: &SumInput<S>,
+        i: u32,
+        symbol: u32,
+        transition: &Entry<S>,
+    ) -> Result<(), OutOfMemory>
+        requires ready { CanDraw S.operations input.now
+            (pair_place i transition.now.place.from) (state_of self.old) }
+        requires there { Present input.now.transitions transition.now }
+        requires label { transition.now.place.label ≡ Symbol symbol }
+        requires state { i ≤ length input.now.pattern.items }
+        requires few { length input.now.pattern.items ≤ most_items }
+        requires moves { HaveMoves (ways_of input.now.pattern).edges i symbol transition.now.place
+            (back_moves i symbol transition.now.place (item_at i input.now.pattern.items)) }
+        ensures grows { OnOk result (GrowsBy S.operations input.now
+            (back_moves i symbol transition.now.place (item_at i input.now.pattern.items))
+            (state_of self.old) (state_of self.new)) }
+        ensures ready { OnOk result (CanDraw S.operations input.now
+            (pair_place i transition.now.place.from) (state_of self.new)) }
+        ensures graph { self.new.nodes.graph ≡ self.old.nodes.graph }
+    {
+        if i == 0 || !input.is_starred(i - 1) {
+            return Ok(());
+        }
+        self.follow_into(alloc, input, i, symbol, i - 1, transition)?;
         Ok(())
     }
 
@@ -202,9 +262,11 @@ impl<'g, S: Semiring> Growing<'g, S> {
             (pair_place i transition.now.place.from) (state_of self.new)) }
         ensures graph { self.new.nodes.graph ≡ self.old.nodes.graph }
     {
-        for edge in input.edges() {
-            self.follow_edge(alloc, input, i, symbol, *edge, transition)?;
+        if i > input.items() {
+            return Ok(());
         }
+        self.follow_back(alloc, input, i, symbol, transition)?;
+        self.follow_on(alloc, input, i, symbol, transition)?;
         Ok(())
     }
 

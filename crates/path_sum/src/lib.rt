@@ -5,6 +5,7 @@
 mod answer;
 mod change;
 mod growing;
+mod lookup;
 mod sum_input;
 mod summing;
 

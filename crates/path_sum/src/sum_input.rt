@@ -1,8 +1,12 @@
-ghost use Rattle.std.specs.Prelude.{◌≡◌, ◌&&◌, IfOk};
-ghost use Rattle.config_patterns.specs.Edges.{edges_of, is_final_of};
+ghost use Rattle.std.specs.Prelude.{◌≡◌, ◌&&◌, ◌<◌, IfOk, Some, length, slice_get};
+ghost use Rattle.config_patterns.specs.Edges.{is_final_of};
+ghost use Rattle.config_patterns.specs.Membership.{has_symbol};
+ghost use Rattle.config_patterns.specs.Validity.{IsPattern};
+ghost use Rattle.config_patterns.specs.declared.item.Item.{Item as ItemValue};
 ghost use Rattle.path_sum.specs.Sums.{has_state};
 
-use config_patterns::{Edge, EdgeList, Pattern};
+use crate::lookup::{Lookup, lookups_of};
+use config_patterns::Pattern;
 use saturation_laws::Opening;
 use semiring_laws::Semiring;
 use std::alloc::Global;
@@ -11,7 +15,7 @@ use weighted_automata::Transitions;
 use witness_graph::Side;
 use wpds_base::OutOfMemory;
 
-/// What a sum goes over: transitions, the opening that they began with, and a pattern with its edges.
+/// What a sum goes over: transitions, the opening that they began with, and a pattern with the sets of its items.
 #[derive(Drop)]
 pub(crate) struct SumInput<'a, S: Semiring> {
     semiring: &'a S,
@@ -19,13 +23,12 @@ pub(crate) struct SumInput<'a, S: Semiring> {
     opening: &'a Opening,
     transitions: &'a Transitions<S>,
     pattern: &'a Pattern,
-    edges: EdgeList,
+    lookups: Vec<Lookup>,
 }
 
 impl<'a, S: Semiring> Model for SumInput<'a, S> {
-    ghost use Rattle.std.specs.Prelude.{◌≡◌};
-    ghost use Rattle.config_patterns.specs.Edges.{edges_of};
     ghost use Rattle.path_sum.specs.private.Inputs.{SumInputValue};
+    ghost use Rattle.path_sum.specs.private.Lookups.{AreLookups};
 
     ghost Value = { SumInputValue S S.W S.Ret };
 
@@ -37,12 +40,12 @@ impl<'a, S: Semiring> Model for SumInput<'a, S> {
       pattern = t.pattern.now;
     } };
 
-    ghost invariant = { λ t. t.edges ≡ edges_of t.pattern.now.items };
+    ghost invariant = { λ t. AreLookups t.lookups.items t.pattern.now.items };
 }
 
 impl<'a, S: Semiring> SumInput<'a, S> {
-    /// The input of a sum over these transitions, which read to the opening, and this pattern. The pattern's edges are
-    /// made here, once. Refused only when out of memory.
+    /// The input of a sum over these transitions, which read to the opening, and this pattern. The sets of its items are
+    /// sorted here, once. Refused only when out of memory.
     pub(crate) fn new(
         alloc: Global,
         semiring: &'a S,
@@ -59,14 +62,14 @@ impl<'a, S: Semiring> SumInput<'a, S> {
           pattern = pattern.now;
         }) }
     {
-        let edges = pattern.edges(alloc)?;
+        let lookups = lookups_of(alloc, pattern)?;
         Ok(SumInput {
             semiring,
             side,
             opening,
             transitions,
             pattern,
-            edges,
+            lookups,
         })
     }
 
@@ -98,11 +101,30 @@ impl<'a, S: Semiring> SumInput<'a, S> {
         self.pattern.control()
     }
 
-    /// The edges of the pattern.
-    pub(crate) fn edges(&self) -> &[Edge]
-        ensures { result.now ≡ edges_of self.now.pattern.items }
+    /// How many items the pattern has.
+    pub(crate) fn items(&self) -> u32
+        ensures count { result ≡ length self.now.pattern.items }
+        ensures valid { IsPattern self.now.pattern }
     {
-        self.edges.as_slice()
+        self.pattern.items()
+    }
+
+    /// Whether an item of the pattern, counted from 0, has a star.
+    pub(crate) fn is_starred(&self, item: u32) -> bool
+        requires { item < length self.now.pattern.items }
+        ensures { (y : ItemValue) → slice_get self.now.pattern.items item ≡ Some y →
+            result ≡ y.star }
+    {
+        self.pattern.item(item).star
+    }
+
+    /// Whether an item of the pattern, counted from 0, has a symbol in its set.
+    pub(crate) fn takes(&self, item: u32, symbol: u32) -> bool
+        requires { item < length self.now.pattern.items }
+        ensures { (y : ItemValue) → slice_get self.now.pattern.items item ≡ Some y →
+            result ≡ has_symbol symbol y.set }
+    {
+        self.lookups[item as usize].has(symbol)
     }
 
     /// Whether a state of the pattern is final, and one of the automaton.

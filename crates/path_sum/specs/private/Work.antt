@@ -1,5 +1,7 @@
 -- What is left to add to a sum, and what goes on from a pair.
-use Rattle.std.specs.Prelude.{◌≡◌, ◌⊎◌, ℕ, map, ◌&&◌, nat_eq, IsTrue, List, [], ◌∷◌, ◌++◌, Some, IsSome, if◌then◌else◌, zero, suc}
+use Rattle.std.specs.Prelude.{◌≡◌, ◌⊎◌, ℕ, ◌+◌, map, ◌&&◌, nat_eq, IsTrue, List, [], ◌∷◌, ◌++◌, drop, Option, None, Some, slice_get, IsSome, if◌then◌else◌, zero, suc}
+use Rattle.config_patterns.specs.declared.item.Item.{Item}
+use Rattle.config_patterns.specs.Membership.{has_symbol}
 use Rattle.saturation_laws.specs.Paths.{in_order}
 use Rattle.saturation_laws.specs.States.{CoreState, weight_at}
 use Rattle.saturation_laws.specs.declared.opening.Opening.{Opening}
@@ -12,7 +14,7 @@ use Rattle.weighted_automata.specs.declared.transitions.Entry.{Entry}
 use Rattle.witness_graph.specs.declared.node.Side.{Side}
 use Rattle.wpds_base.specs.Lists.{IsIn}
 use Rattle.path_sum.specs.Pairs.{states_of}
-use Rattle.path_sum.specs.Sums.{Ways, answer_place, pair_place, has_state, Move, Along, End, Done}
+use Rattle.path_sum.specs.Sums.{Ways, answer_place, pair_place, can_move, has_state, Move, Along, End, Done}
 use Rattle.path_sum.specs.private.Paths.{Moves}
 
 module _ {S W Map : Type 0} (s : Operations W Map) (side : Side) where
@@ -50,6 +52,33 @@ module _ {S W Map : Type 0} where
 abbrev pub edge_moves : ℕ → ℕ → Place → List Place → List Move
 edge_moves i g x [] = []
 edge_moves i g x (e ∷ es) = if nat_eq e.from i && same_label e.label (Symbol g) then Along i e.to x ∷ edge_moves i g x es else edge_moves i g x es
+
+-- The same by the items of a pattern: along a transition into an item, if it takes the symbol.
+abbrev pub into_moves : ℕ → ℕ → Place → ℕ → Item → List Move
+into_moves i g x to y = if has_symbol g y.set then Along i to x ∷ [] else []
+
+-- into the items above, up to the first without star; `to` is the state of the first of them
+abbrev pub on_moves : ℕ → ℕ → Place → ℕ → List Item → List Move
+on_moves i g x to [] = []
+on_moves i g x to (y ∷ ys) = into_moves i g x to y ++ (if y.star then on_moves i g x (suc to) ys else [])
+
+-- from the state of an item to itself, if it is starred
+abbrev pub back_moves : ℕ → ℕ → Place → Option Item → List Move
+back_moves i g x None = []
+back_moves i g x (Some y) = if y.star then into_moves i g x i y else []
+
+-- the item whose state this is
+abbrev pub item_at : ℕ → List Item → Option Item
+item_at zero items = None
+item_at (suc k) items = slice_get items k
+
+-- along a transition that reads a symbol, from a state of the pattern
+abbrev pub item_moves : ℕ → ℕ → Place → List Item → List Move
+item_moves i g x items = back_moves i g x (item_at i items) ++ on_moves i g x (i + 1) (drop i items)
+
+-- the edges have each of these moves along a transition that reads a symbol
+abbrev pub HaveMoves : List Place → ℕ → ℕ → Place → List Move → Type 0
+HaveMoves edges i g x ms = (j : ℕ) → IsIn (Along i j x) ms → IsTrue (can_move edges i (Symbol g) j)
 
 module _ {S W Map : Type 0} (o : Opening) (ways : Ways) where
   abbrev pub moves_by : ℕ → Entry S W Map → List Move
