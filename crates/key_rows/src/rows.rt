@@ -1,4 +1,4 @@
-ghost use Rattle.std.specs.Prelude.{◌≡◌, ℕ, ◌+◌, ◌<◌, ◌++◌, ◌∷◌, [], List, length, Option, None, Some, OnOk, vec_len, vec_capacity};
+ghost use Rattle.std.specs.Prelude.{◌≡◌, ◌↔◌, ℕ, ◌+◌, ◌<◌, ◌++◌, ◌∷◌, [], List, length, Option, None, Some, IsTrue, OnOk, vec_len, vec_capacity};
 ghost use Rattle.std.specs.Ordering.{eq_by_cmp};
 ghost use Rattle.std.specs.BTreeMap.{ContainsKey};
 ghost use Rattle.key_rows.specs.Rows.{index_where, has_key, next_alike, gap_to, cell, AreLinked, AreRows, HasCell, HasSpace};
@@ -96,7 +96,8 @@ fn link<K: Ord + Copy + Drop>(ends: &mut BTreeMap<K, Option<Ends>>, gaps: &mut V
 impl<K: Ord + Copy + Drop> KeyRows<K> {
     /// No rows. It takes no memory.
     pub fn new(alloc: Global) -> KeyRows<K>
-        ensures { AreRows K.cmp [] result }
+        ensures rows { AreRows K.cmp [] result }
+        ensures space { HasSpace 0 result }
     {
         KeyRows {
             ends: BTreeMap::new(alloc),
@@ -129,6 +130,13 @@ impl<K: Ord + Copy + Drop> KeyRows<K> {
             }
             None => None,
         }
+    }
+
+    /// Whether a member with this key can be added without a new cell.
+    pub fn has_cell(&self, key: K) -> bool
+        ensures { IsTrue result ↔ HasCell K.cmp self.now (Some key) }
+    {
+        self.ends.contains_key(&key)
     }
 
     /// Makes room for a member with this key, and space for so many members in all. It is refused only

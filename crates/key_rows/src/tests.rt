@@ -8,6 +8,7 @@ fn rows_by_key(rt: HostRuntime) -> Result<(), Fail> {
         rows.reserve(key, 1)?;
         rows.push(key);
     }
+    assert!(rt; rows.has_cell(5) && !rows.has_cell(7));
     // a key, and where the first stands that has it
     for (key, first) in [(3u32, Some(0u64)), (5, Some(2)), (7, None)] {
         assert_eq!(rt; rows.first(key), first);
