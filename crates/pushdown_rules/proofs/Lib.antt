@@ -10,5 +10,8 @@ mod PlainRunLemmas
 mod Walks
 mod RunLemmas
 mod AnswerLemmas
+mod SkipLemmas
+mod RowLemmas
+mod PushLemmas
 mod Examples
 pub mod CallerLemmas

@@ -203,3 +203,82 @@ fn laws() {
     values_fit::<Reach>();
     zero_where_infeasible::<Reach>();
 }
+
+// 0: p a -> q b; 1: p a -> q b c; 2: q a -> p; 3: p a -> p b c; 4: p b -> q b a; 5: p b -> q a.
+fn six_rules(alloc: Global) -> Result<System<Reach>, RuleFault> {
+    let mut system = System::new(alloc, Reach, 2, 3);
+    let rows: [(u32, u32, u32, &[u32]); 6] = [
+        (0, 0, 1, &[1]),
+        (0, 0, 1, &[1, 2]),
+        (1, 0, 0, &[]),
+        (0, 0, 0, &[1, 2]),
+        (0, 1, 1, &[1, 0]),
+        (0, 1, 1, &[0]),
+    ];
+    for (control, symbol, to, right) in rows {
+        system.add_rule(alloc, control, symbol, to, right, true, None)?;
+    }
+    Ok(system)
+}
+
+#[test]
+fn rows_of_rules(rt: HostRuntime) -> Result<(), Fail> {
+    let system = six_rules(rt.alloc())?;
+    let rows: [(u32, u32, [Option<u32>; 4], [Option<u32>; 4]); 4] = [
+        (0, 0, [Some(0), Some(1), Some(3), None], [None; 4]),
+        (
+            0,
+            1,
+            [Some(4), Some(5), None, None],
+            [Some(3), None, None, None],
+        ),
+        (
+            1,
+            0,
+            [Some(2), None, None, None],
+            [Some(5), None, None, None],
+        ),
+        (1, 1, [None; 4], [Some(0), Some(1), Some(4), None]),
+    ];
+    for (control, symbol, heads, firsts) in rows {
+        for k in 0..4 {
+            let head = system.with_head(control, symbol, k);
+            assert_eq!(rt; head, heads[k], "head {control} {symbol} {k}");
+            let first = system.with_first(control, symbol, k);
+            assert_eq!(rt; first, firsts[k], "first {control} {symbol} {k}");
+        }
+    }
+    assert_eq!(rt;
+        system.with_first(1, 2, 0),
+        None,
+        "the second symbol is not looked at"
+    );
+    Ok(())
+}
+
+#[test]
+fn push_rules(rt: HostRuntime) -> Result<(), Fail> {
+    let system = six_rules(rt.alloc())?;
+    let seconds: [(u32, [Option<u32>; 3]); 3] = [
+        (0, [Some(4), None, None]),
+        (1, [None; 3]),
+        (2, [Some(1), Some(3), None]),
+    ];
+    for (symbol, row) in seconds {
+        for k in 0..3 {
+            assert_eq!(rt;
+                system.with_second(symbol, k),
+                row[k],
+                "second {symbol} {k}"
+            );
+        }
+    }
+    for (k, rule) in [Some(1u32), Some(3), Some(4), None].into_iter().enumerate() {
+        assert_eq!(rt; system.push_rule(k as u32), rule);
+    }
+    let numbers = [None, Some(0u32), None, Some(1), Some(2), None, None];
+    for (rule, number) in numbers.into_iter().enumerate() {
+        assert_eq!(rt; system.push_number(rule as u32), number, "at {rule}");
+    }
+    Ok(())
+}

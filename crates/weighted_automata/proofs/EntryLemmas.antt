@@ -6,7 +6,7 @@ use Rattle.std.proofs.lemmas.Option.{same_Some}
 use Rattle.weighted_automata.specs.declared.place.Place.{Place}
 use Rattle.weighted_automata.specs.declared.transitions.Entry.{Entry}
 use Rattle.weighted_automata.specs.Places.{same_place}
-use Rattle.weighted_automata.specs.Entries.{entry_at, index_at, lowered, HasDistinctPlaces}
+use Rattle.weighted_automata.specs.Entries.{entry_at, index_at, lowered, places_of, HasDistinctPlaces}
 use Rattle.weighted_automata.proofs.PlaceLemmas.{same_place_is, same_place_itself, other_place}
 
 module _ {S W Map : Type 0} where
@@ -127,6 +127,24 @@ module _ {S W Map : Type 0} (x : Place) (ts us : List (Entry S W Map)) where
   entry_missed same e =
       let P : List (Entry S W Map) → Type 0 = λ vs. None ≡ entry_at x vs in
       subst P same (ap (option_and_then (slice_get ts)) e ∙ at_index_at x ts)
+
+-- To lower a place that is there leaves the places,
+pub places-lowered : {S W Map : Type 0} (x : Place) (w : W) (n : ℕ) (ts : List (Entry S W Map)) (k : ℕ) → index_at x ts ≡ Some k → places_of (lowered x w n ts) ≡ places_of ts
+places-lowered x w n [] k e = cc
+places-lowered x w n (t ∷ ts) k e = elim (cases_Bool (same_place t.place x)) [
+  | inl is ↦ ap places_of (cond-true (same_place t.place x) (record { place = x; weight = w; node = n } ∷ ts) (t ∷ lowered x w n ts) is) ∙ ap (λ y. y ∷ places_of ts) (sym (same_place_is t.place x is))
+  | inr differs ↦
+      ap places_of (cond-false (same_place t.place x) (record { place = x; weight = w; node = n } ∷ ts) (t ∷ lowered x w n ts) differs)
+      ∙ elim (index_at x ts) as (λ o. index_at x ts ≡ o → option_map (λ j. j + 1) o ≡ Some k → t.place ∷ places_of (lowered x w n ts) ≡ t.place ∷ places_of ts) [
+        | None ↦ λ was f. cc
+        | Some j ↦ λ was f. ap (λ ys. t.place ∷ ys) (places-lowered x w n ts j was)
+      ] refl (sym (cond-false (same_place t.place x) (Some 0) (option_map (λ j. j + 1) (index_at x ts)) differs) ∙ e)
+]
+
+-- and the place of one that is added goes last.
+pub places-added : {S W Map : Type 0} (ts : List (Entry S W Map)) (t : Entry S W Map) → places_of (ts ++ t ∷ []) ≡ places_of ts ++ t.place ∷ []
+places-added [] t = refl
+places-added (u ∷ ts) t = ap (λ ys. u.place ∷ ys) (places-added ts t)
 
 -- Where no place stands twice, what stands at a place is the transition there.
 module _ {S W Map : Type 0} where

@@ -270,7 +270,7 @@ some_index at x (t ∷ ts) = elim (same_place (at t) x) as (λ b. is_some (cond 
   | false ↦ some_more (index_where (λ u. same_place (at u) x) ts) ∙ some_index at x ts
 ]
 
-some_waiting : (x : Place) (ys : List Place) → is_some (index_where (λ y. same_place y x) ys) ≡ has_place x ys
+pub some_waiting : (x : Place) (ys : List Place) → is_some (index_where (λ y. same_place y x) ys) ≡ has_place x ys
 some_waiting x [] = refl
 some_waiting x (y ∷ ys) = elim (same_place y x) as (λ b. is_some (cond b (Some 0) (option_map (λ k. k + 1) (index_where (λ u. same_place u x) ys))) ≡ (b || has_place x ys)) [
   | true ↦ refl

@@ -1,6 +1,7 @@
 //! Weighted automata: places, and the transitions that a saturation has found, each with its weight and the node of its runs.
 #![tactic(auto)]
 
+mod index;
 mod laws;
 mod place;
 mod room;

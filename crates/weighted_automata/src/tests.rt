@@ -61,6 +61,57 @@ fn lowers_and_finds(rt: HostRuntime) -> Result<(), Fail> {
 }
 
 #[test]
+fn walks_rows(rt: HostRuntime) -> Result<(), Fail> {
+    let alloc = rt.alloc();
+    let mut transitions: Transitions<Reach> = Transitions::new(alloc);
+    for (from, label, to) in [
+        (0, A, 1),
+        (0, Label::Empty, 1),
+        (0, A, 2),
+        (0, B, 1),
+        (2, A, 1),
+        (3, Label::Empty, 1),
+    ] {
+        transitions.lower(alloc, place(from, label, to), true, 0)?;
+    }
+    // a state, a label, and where the first transition from there stands
+    for (state, label, first) in [
+        (0, A, Some(0u64)),
+        (0, B, Some(3)),
+        (2, A, Some(4)),
+        (1, A, None),
+    ] {
+        assert_eq!(rt; transitions.first_from(state, label), first);
+    }
+    // a state, and where the first transition out of it stands, and the first that reads nothing into it
+    for (state, out, empty) in [
+        (0, Some(0u64), None),
+        (1, None, Some(1u64)),
+        (2, Some(4), None),
+    ] {
+        assert_eq!(rt; transitions.first_out_of(state), out);
+        assert_eq!(rt; transitions.first_empty_into(state), empty);
+    }
+    // for each, and one behind the last: the next with its state and label, the next with its state, and
+    // the next that reads nothing into where it goes, if it reads nothing
+    let nexts = [
+        (Some(2u64), Some(1u64), None),
+        (None, Some(2), Some(5u64)),
+        (None, Some(3), None),
+        (None, None, None),
+        (None, None, None),
+        (None, None, None),
+        (None, None, None),
+    ];
+    for (k, (alike, out, empty)) in nexts.into_iter().enumerate() {
+        assert_eq!(rt; transitions.next_from(k as u64), alike);
+        assert_eq!(rt; transitions.next_out_of(k as u64), out);
+        assert_eq!(rt; transitions.next_empty_into(k as u64), empty);
+    }
+    Ok(())
+}
+
+#[test]
 fn room_first(rt: HostRuntime) -> Result<(), Fail> {
     let alloc = rt.alloc();
     let mut transitions: Transitions<Reach> = Transitions::new(alloc);

@@ -1,8 +1,11 @@
-ghost use Rattle.std.specs.Prelude.{◌≡◌, ◌<◌, ◌++◌, List, [], ◌∷◌, length, slice_get, filter, IsTrue, IsOk, IsSome, IfOk, OnOk, OnErr, IfSome, option_and_then};
+ghost use Rattle.std.specs.Prelude.{◌≡◌, ◌+◌, ◌<◌, ◌++◌, List, [], ◌∷◌, None, Some, length, slice_get, filter, IsTrue, IsFalse, IsOk, IsSome, IfOk, OnOk, OnErr, IfSome, option_and_then};
 ghost use Rattle.weighted_automata.specs.declared.place.Place.{Place as PlaceValue};
-ghost use Rattle.weighted_automata.specs.Places.{has_place, AreAmong};
-ghost use Rattle.weighted_automata.specs.Entries.{entry_at, index_at, lowered, indices_from, is_from, is_into, HasDistinctPlaces};
+ghost use Rattle.weighted_automata.specs.Places.{same_label, has_place, AreAmong};
+ghost use Rattle.weighted_automata.specs.Entries.{entry_at, index_at, index_where, index_from, lowered, indices_from, is_from, is_out_of, is_into, is_empty_into, HasDistinctPlaces};
+ghost use Rattle.weighted_automata.specs.declared.place.Label.TheVariants.{Empty};
+ghost use Rattle.weighted_automata.specs.declared.transitions.Entry.{Entry as EntryValue};
 
+use crate::index::{PlaceIndex, Source};
 use crate::room::{add, position, replace, wait};
 use crate::{Label, Place};
 use semiring_laws::Semiring;
@@ -25,13 +28,16 @@ pub struct Entry<S: Semiring> {
 #[derive(Drop)]
 pub struct Transitions<S: Semiring> {
     entries: Vec<Entry<S>>,
-    // Places for which `entries` has capacity beside its own.
+    // Where their places stand.
+    index: PlaceIndex,
+    // Places for which `entries` and `index` have room beside their own.
     waiting: Vec<Place>,
 }
 
 impl<S: Semiring> Model for Transitions<S> {
     ghost use Rattle.std.specs.Prelude.{◌+◌, ◌≤◌, ◌++◌, length, vec_len, vec_capacity};
     ghost use Rattle.weighted_automata.specs.Entries.{HasDistinctPlaces, TransitionList, places_of};
+    ghost use Rattle.weighted_automata.specs.private.Index.{AreIndexed, HasRoomFor};
 
     ghost Value = { TransitionList S S.W S.Ret };
 
@@ -41,7 +47,9 @@ impl<S: Semiring> Model for Transitions<S> {
     } };
 
     ghost invariant = { λ t. HasDistinctPlaces t.entries.items
-        × (vec_len t.entries + length t.waiting.items ≤ vec_capacity t.entries) };
+        × (vec_len t.entries + length t.waiting.items ≤ vec_capacity t.entries)
+        × AreIndexed (places_of t.entries.items) t.index
+        × HasRoomFor t.waiting.items t.index };
 }
 
 impl<S: Semiring> Transitions<S> {
@@ -51,6 +59,7 @@ impl<S: Semiring> Transitions<S> {
     {
         Transitions {
             entries: Vec::new(alloc),
+            index: PlaceIndex::new(alloc),
             waiting: Vec::new(alloc),
         }
     }
@@ -77,12 +86,59 @@ impl<S: Semiring> Transitions<S> {
         ensures entry { option_and_then (slice_get self.now.transitions) result
             ≡ entry_at place self.now.transitions }
     {
-        for (i, entry) in self.entries.iter().enumerate() {
-            if entry.place.is(place) {
-                return Some(i as u64);
-            }
-        }
-        None
+        self.index.places.first(place)
+    }
+
+    /// Where the first transition stands that goes from a state and reads a label.
+    pub fn first_from(&self, state: u32, label: Label) -> Option<u64>
+        ensures { result ≡ index_where (is_from state label) self.now.transitions }
+    {
+        self.index.sources.first(Source { state, label })
+    }
+
+    /// Where the next transition stands that goes from the state of the `k`-th and reads its label.
+    pub fn next_from(&self, k: u64) -> Option<u64>
+        ensures row { (t : EntryValue S S.W S.Ret) → slice_get self.now.transitions k ≡ Some t →
+            result ≡ index_from (is_from t.place.from t.place.label) (k + 1) self.now.transitions }
+        ensures past { slice_get self.now.transitions k ≡ None → result ≡ None }
+    {
+        self.index.sources.next(k)
+    }
+
+    /// Where the first transition stands that goes from a state, whatever it reads.
+    pub fn first_out_of(&self, state: u32) -> Option<u64>
+        ensures { result ≡ index_where (is_out_of state) self.now.transitions }
+    {
+        self.index.states.first(state)
+    }
+
+    /// Where the next transition stands that goes from the state of the `k`-th.
+    pub fn next_out_of(&self, k: u64) -> Option<u64>
+        ensures row { (t : EntryValue S S.W S.Ret) → slice_get self.now.transitions k ≡ Some t →
+            result ≡ index_from (is_out_of t.place.from) (k + 1) self.now.transitions }
+        ensures past { slice_get self.now.transitions k ≡ None → result ≡ None }
+    {
+        self.index.states.next(k)
+    }
+
+    /// Where the first transition stands that goes to a state and reads nothing.
+    pub fn first_empty_into(&self, state: u32) -> Option<u64>
+        ensures { result ≡ index_where (is_empty_into state) self.now.transitions }
+    {
+        self.index.empties.first(state)
+    }
+
+    /// Where the next transition stands that goes to the state of the `k`-th and reads nothing, if the
+    /// `k`-th reads nothing.
+    pub fn next_empty_into(&self, k: u64) -> Option<u64>
+        ensures row { (t : EntryValue S S.W S.Ret) → slice_get self.now.transitions k ≡ Some t →
+            t.place.label ≡ Empty →
+            result ≡ index_from (is_empty_into t.place.to) (k + 1) self.now.transitions }
+        ensures others { (t : EntryValue S S.W S.Ret) → slice_get self.now.transitions k ≡ Some t →
+            IsFalse (same_label t.place.label Empty) → result ≡ None }
+        ensures past { slice_get self.now.transitions k ≡ None → result ≡ None }
+    {
+        self.index.empties.next(k)
     }
 
     /// Where the `k`-th transition stands, counted from 0, of those that go from a state and read a label.
@@ -153,7 +209,7 @@ impl<S: Semiring> Transitions<S> {
             }
             None => {
                 let k = self.len();
-                add(&mut self.entries, &mut self.waiting, entry)?;
+                add(&mut self.entries, &mut self.index, &mut self.waiting, entry)?;
                 Ok(k)
             }
         }
@@ -193,7 +249,8 @@ impl<S: Semiring> Transitions<S> {
     pub fn has_room(&self, place: Place) -> bool
         ensures { result ≡ has_place place self.now.room }
     {
-        self.find(place).is_some() || position(&self.waiting, place).is_some()
+        self.find(place).is_some()
+            || (self.index.places.has_cell(place) && position(&self.waiting, place).is_some())
     }
 
     // Makes room for one place.
@@ -207,7 +264,7 @@ impl<S: Semiring> Transitions<S> {
         if self.has_room(place) {
             return Ok(());
         }
-        wait(&mut self.entries, &mut self.waiting, place)?;
+        wait(&mut self.entries, &mut self.index, &mut self.waiting, place)?;
         Ok(())
     }
 }

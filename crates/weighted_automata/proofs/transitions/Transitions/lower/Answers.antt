@@ -2,7 +2,8 @@ use Rattle.std.proofs.Common.{◌≡◌, true, false, ◌∷◌, ◌++◌, lengt
 use Rattle.std.specs.Prelude.{Some, is_some, unwrap_or}
 use Rattle.weighted_automata.specs.Places.{has_place}
 use Rattle.weighted_automata.specs.Entries.{index_at, lowered, places_of, HasDistinctPlaces}
-use Rattle.weighted_automata.proofs.EntryLemmas.{distinct-lowered, lowered_at, lowered_last, index_at-lowered}
+use Rattle.weighted_automata.specs.private.Index.{AreIndexed}
+use Rattle.weighted_automata.proofs.EntryLemmas.{distinct-lowered, places-lowered, places-added, lowered_at, lowered_last, index_at-lowered}
 use Rattle.weighted_automata.proofs.RoomLemmas.{missed_has, room_kept, room_stays, room_only, without_only, waits_beside}
 use Rattle.weighted_automata.proofs.transitions.Transitions.lower.Goals as goal
 
@@ -15,6 +16,11 @@ pub invariant_of-self : goal.invariant_of-self
 invariant_of-self g c = (
   subst HasDistinctPlaces (sym (replaced g c)) (distinct-lowered c.args.place c.args.weight c.args.node c.self.inside.entries.items c.self.invariant.0),
   omega (arith, c.replace.ensures.len, c.replace.ensures.room, c.self.invariant.1),
+  subst (λ ps. AreIndexed ps c.self.inside.index)
+      (sym (ap places_of (replaced g c)
+      ∙ places-lowered c.args.place c.args.weight c.args.node c.self.inside.entries.items c.in-Some.k (ap (λ v. index_at c.args.place v.transitions) c.self.view_is ∙ sym c.find.ensures.index ∙ c.in-Some.is)))
+      c.self.invariant.2,
+  c.self.invariant.3,
 )
 
 pub returns-in-Some-clause-ok : goal.returns-in-Some-clause-ok
@@ -46,6 +52,9 @@ pub invariant_of-self-in-None : goal.invariant_of-self-in-None
 invariant_of-self-in-None g c = (
   subst HasDistinctPlaces (sym (added g c)) (distinct-lowered c.args.place c.args.weight c.args.node c.self.inside.entries.items c.self.invariant.0),
   c.add.ensures.room,
+  subst (λ ps. AreIndexed ps c.add.new.index) (sym (ap places_of c.in_ok-add-in-None.ensures.ok ∙ places-added c.self.inside.entries.items _))
+      (c.in_ok-add-in-None.ensures.added (places_of c.self.inside.entries.items) c.self.invariant.2),
+  c.add.ensures.rooms,
 )
 
 pub returns-in_ok-add-in-None-clause-ok : goal.returns-in_ok-add-in-None-clause-ok

@@ -1,0 +1,10 @@
+//! Rows of numbers by key: for things that are numbered in order of addition and have a key each, where
+//! the first with a key stands, and where the next one stands behind it.
+#![tactic(auto)]
+
+mod rows;
+
+pub use rows::KeyRows;
+
+#[cfg(test)]
+mod tests;
