@@ -11,6 +11,7 @@ mod ChangeLemmas
 mod ReadyLemmas
 mod LoopLemmas
 mod ItemLemmas
+mod RowLemmas
 mod LookupLemmas
 mod PlaceLemmas
 mod RoundLemmas

@@ -1,8 +1,8 @@
 -- The moves of a pair, one after another.
-use Rattle.std.proofs.Common.{◌≡◌, inl, inr, ℕ, zero, suc, ◌+◌, ◌≤◌, Bool, true, false, List, [], ◌∷◌, ◌++◌, map, length, drop, refl, sym, ap, ◌∙◌, subst}
-use Rattle.std.specs.Prelude.{Option, None, Some, nat_eq, cond, slice_get, option_and_then}
+use Rattle.std.proofs.Common.{◌≡◌, inl, inr, ℕ, zero, suc, ◌+◌, List, [], ◌∷◌, ◌++◌, map, drop, sym, ap, ◌∙◌, subst}
+use Rattle.std.specs.Prelude.{Option, None, Some, cond, slice_get, option_and_then}
 use Rattle.std.specs.List.{All}
-use Rattle.std.proofs.lemmas.List.{at_drop_all}
+use Rattle.std.proofs.lemmas.Bool.{eq-eqb}
 use Rattle.std.proofs.lemmas.Option.{same_Some}
 use Rattle.semiring_laws.specs.Semiring.{Operations}
 use Rattle.weighted_automata.specs.declared.place.Place.{Place}
@@ -47,13 +47,6 @@ module _ {S W Map : Type 0} (s : Operations W Map) (side : Side) (o : Opening) (
         | Some n ↦ λ h. grow_on ms more n mid h
       ] at
 
-  abbrev moves_at : ℕ → ℕ → Entry S W Map → List Move
-  moves_at i q t = cond (nat_eq t.place.from q) (moves_by o ways i t) []
-
-  same_moves : (b : Bool) (xs more : List Move) → cond b (xs ++ more) more ≡ cond b xs [] ++ more
-  same_moves true xs more = refl
-  same_moves false xs more = refl
-
   -- one item more
   pub item_more : (i g : ℕ) (x : Place) (items : List Item) (k : ℕ) (y : Item) (now new : CoreState S W Map) (all : Option (CoreState S W Map)) → slice_get items k ≡ Some y
       → growing now (on_moves i g x (k + 1) (drop k items)) ≡ all → growing now (into_moves i g x (k + 1) y) ≡ Some new
@@ -70,17 +63,13 @@ module _ {S W Map : Type 0} (s : Operations W Map) (side : Side) (o : Opening) (
       ap (growing now) (by_items i g x items sets) ∙ grow_on (back_moves i g x (item_at i items)) (on_moves i g x (i + 1) (drop i items)) now mid first ∙ second
 
   -- one transition more
-  pub pair_more : (i q k : ℕ) (us : List (Entry S W Map)) (t : Entry S W Map) (now new : CoreState S W Map) (all : Option (CoreState S W Map)) → slice_get us k ≡ Some t
-      → growing now (pair_moves o ways i q (drop k us)) ≡ all → growing now (moves_at i q t) ≡ Some new → growing new (pair_moves o ways i q (drop (k + 1) us)) ≡ all
-  pair_more i q k us t now new all there was made =
+  pub pair_more : (i q k : ℕ) (us : List (Entry S W Map)) (t : Entry S W Map) (now new : CoreState S W Map) (all : Option (CoreState S W Map)) → slice_get us k ≡ Some t → t.place.from ≡ q
+      → growing now (pair_moves o ways i q (drop k us)) ≡ all → growing now (moves_by o ways i t) ≡ Some new → growing new (pair_moves o ways i q (drop (k + 1) us)) ≡ all
+  pair_more i q k us t now new all there from was made =
       let rest = pair_moves o ways i q (drop (k + 1) us) in
-      sym (grow_on (moves_at i q t) rest now new made)
-      ∙ sym (ap (growing now) (same_moves (nat_eq t.place.from q) (moves_by o ways i t) rest))
+      sym (grow_on (moves_by o ways i t) rest now new made)
+      ∙ sym (ap (λ b. growing now (cond b (moves_by o ways i t ++ rest) rest)) (eq-eqb t.place.from q from))
       ∙ sym (ap (λ vs. growing now (pair_moves o ways i q vs)) (drop_at us k t there)) ∙ was
-
-  pub pairs_ended : (i q k : ℕ) (us : List (Entry S W Map)) (now : CoreState S W Map) (all : Option (CoreState S W Map)) → length us ≤ k
-      → growing now (pair_moves o ways i q (drop k us)) ≡ all → Some now ≡ all
-  pairs_ended i q k us now all past was = sym (at_drop_all (λ vs. growing now (pair_moves o ways i q vs)) us k past) ∙ was
 
   -- all that goes on from a pair
   pub drawn_all : (x : Place) (now mid new : CoreState S W Map) → x.label ≡ Empty → growing now (pair_moves o ways x.from x.to ts) ≡ Some mid → growing mid (end_moves o ways x.from x.to) ≡ Some new

@@ -270,29 +270,24 @@ impl<'g, S: Semiring> Growing<'g, S> {
         Ok(())
     }
 
-    // Goes along a transition from a pair, if it goes from the pair's state.
+    // Goes along a transition from a pair with its source.
     fn follow_any(
         &mut self,
         alloc: Global,
         input: &SumInput<S>,
         i: u32,
-        state: u32,
         transition: &Entry<S>,
     ) -> Result<(), OutOfMemory>
-        requires ready { CanDraw S.operations input.now (pair_place i state) (state_of self.old) }
+        requires ready { CanDraw S.operations input.now
+            (pair_place i transition.now.place.from) (state_of self.old) }
         requires there { Present input.now.transitions transition.now }
         ensures grows { OnOk result (GrowsBy S.operations input.now
-            (if nat_eq transition.now.place.from state
-            then moves_by input.now.opening (ways_of input.now.pattern) i transition.now
-            else [])
+            (moves_by input.now.opening (ways_of input.now.pattern) i transition.now)
             (state_of self.old) (state_of self.new)) }
         ensures ready { OnOk result (CanDraw S.operations input.now
-            (pair_place i state) (state_of self.new)) }
+            (pair_place i transition.now.place.from) (state_of self.new)) }
         ensures graph { self.new.nodes.graph ≡ self.old.nodes.graph }
     {
-        if transition.place.from != state {
-            return Ok(());
-        }
         match transition.place.label {
             Label::Empty => self.follow(alloc, input, i, i, transition),
             Label::Symbol(symbol) => self.follow_edges(alloc, input, i, symbol, transition),
@@ -316,9 +311,12 @@ impl<'g, S: Semiring> Growing<'g, S> {
         ensures graph { self.new.nodes.graph ≡ self.old.nodes.graph }
     {
         let transitions = input.transitions();
-        for k in 0..transitions.len() {
-            let transition = transitions.entry(k);
-            self.follow_any(alloc, input, i, state, transition)?;
+        // the places of the transitions are distinct
+        let _count = transitions.len();
+        let mut at = transitions.first_out_of(state);
+        while let Some(k) = at {
+            self.follow_any(alloc, input, i, transitions.entry(k))?;
+            at = transitions.next_out_of(k);
         }
         Ok(())
     }
