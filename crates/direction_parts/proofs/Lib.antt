@@ -1,4 +1,5 @@
 mod PassLemmas
+mod MergeLemmas
 mod LabelLemmas
 mod EdgeLemmas
 mod WeightLemmas

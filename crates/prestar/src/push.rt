@@ -1,11 +1,17 @@
-ghost use Rattle.std.specs.Prelude.{◌≡◌, ◌++◌, IfOk, OnOk};
+ghost use Rattle.std.specs.Prelude.{◌≡◌, ◌+◌, ◌++◌, ◌&&◌, IfOk, OnOk};
 ghost use Rattle.std.specs.List.{flat_map};
 ghost use Rattle.semiring_laws.specs.Semiring.{Fits};
 ghost use Rattle.prestar_laws.specs.Jobs.{push_job, goes_on, are_inputs, pair_jobs, may_be_input, pairs_of};
 ghost use Rattle.direction_parts.specs.Worths.{AreFit};
 ghost use Rattle.prestar.specs.private.Pushes.{kind_of};
+ghost use Rattle.weighted_automata.specs.declared.place.Label.TheVariants.{Symbol};
+ghost use Rattle.weighted_automata.specs.Places.{same_label};
+ghost use Rattle.weighted_automata.specs.Entries.{is_from};
+ghost use Rattle.prestar.specs.private.Rows.{is_first, is_second};
+ghost use Rattle.key_rows.specs.Rows.{index_where, index_from};
 ghost use Rattle.direction_parts.specs.Passes.{only_if};
 
+use direction_parts::lower_index;
 use pushdown_rules::Rule;
 use saturation_core::copy_input;
 use saturation_laws::{Job, JobKind};
@@ -32,6 +38,16 @@ impl Callee {
             Callee::StaysOpen => JobKind::PrePushOther,
         }
     }
+
+    /// Whether a push of this kind goes on in a state.
+    pub(crate) fn goes_on(self, controls: u32, state: u32) -> bool
+        ensures { result ≡ goes_on controls (kind_of self) state }
+    {
+        match self {
+            Callee::Returns => state < controls,
+            Callee::StaysOpen => state >= controls,
+        }
+    }
 }
 
 /// A push rule, in a pass for pushes of one kind. It leaves `top` above `below`.
@@ -50,10 +66,7 @@ impl<'a, S: Semiring> Push<'a, S> {
     fn goes_on(&self, state: u32) -> bool
         ensures { result ≡ goes_on self.now.controls (kind_of self.now.callee) state }
     {
-        match self.callee {
-            Callee::Returns => state < self.controls,
-            Callee::StaysOpen => state >= self.controls,
-        }
+        self.callee.goes_on(self.controls, state)
     }
 
     // Whether two transitions are its inputs.
@@ -151,7 +164,101 @@ impl<'a, S: Semiring> Push<'a, S> {
         self.list_if(alloc, semiring, second, other, taken, jobs)
     }
 
-    // Adds its jobs from a transition and each of these.
+    // Whether a transition can be its first input, and its callee goes on behind it.
+    fn fits_first(&self, taken: &Entry<S>) -> bool
+        ensures { let push = self.now in
+            let goes = goes_on push.controls (kind_of push.callee) taken.now.place.to in
+            result ≡ (is_from push.rule.now.to (Symbol push.top) taken.now && goes) }
+    {
+        taken.place.is_from(self.rule.to, Label::Symbol(self.top)) && self.goes_on(taken.place.to)
+    }
+
+    // Whether a transition can be its second input, and its callee goes on there.
+    fn fits_second(&self, taken: &Entry<S>) -> bool
+        ensures { let push = self.now in
+            let goes = goes_on push.controls (kind_of push.callee) taken.now.place.from in
+            result ≡ (same_label taken.now.place.label (Symbol push.below) && goes) }
+    {
+        taken.place.label.is(Label::Symbol(self.below)) && self.goes_on(taken.place.from)
+    }
+
+    // Where the first transition stands that is its second input, if this one is the first.
+    fn first_second(&self, transitions: &Transitions<S>, taken: &Entry<S>) -> Option<u64>
+        ensures { let push = self.now in
+            let test = is_second push.controls (kind_of push.callee) push.rule.now push.top in
+            result ≡ index_where (test push.below taken.now) transitions.now.transitions }
+    {
+        if !self.fits_first(taken) {
+            return None;
+        }
+        transitions.first_from(taken.place.to, Label::Symbol(self.below))
+    }
+
+    // Where the transition stands that is its first input, if this one is the second.
+    fn only_first(&self, transitions: &Transitions<S>, taken: &Entry<S>) -> Option<u64>
+        ensures { let push = self.now in
+            let test = is_first push.controls (kind_of push.callee) push.rule.now push.top in
+            result ≡ index_where (test push.below taken.now) transitions.now.transitions }
+    {
+        if !self.fits_second(taken) {
+            return None;
+        }
+        transitions.find(Place {
+            from: self.rule.to,
+            label: Label::Symbol(self.top),
+            to: taken.place.from,
+        })
+    }
+
+    // Where its next second input stands behind one place of the list, if it stands there or behind it.
+    fn second_behind(
+        &self,
+        transitions: &Transitions<S>,
+        taken: &Entry<S>,
+        at: Option<u64>,
+        i: u64,
+    ) -> Option<u64>
+        ensures { let push = self.now in
+            let kind = kind_of push.callee in
+            let test = is_second push.controls kind push.rule.now push.top push.below taken.now in
+            let ts = transitions.now.transitions in
+            at ≡ index_from test i ts → result ≡ index_from test (i + 1) ts }
+    {
+        let Some(j) = at else {
+            return None;
+        };
+        if j != i {
+            return at;
+        }
+        transitions.next_from(i)
+    }
+
+    // The same for its first input, of which there is one at most.
+    fn first_behind(
+        &self,
+        transitions: &Transitions<S>,
+        taken: &Entry<S>,
+        at: Option<u64>,
+        i: u64,
+    ) -> Option<u64>
+        ensures { let push = self.now in
+            let kind = kind_of push.callee in
+            let test = is_first push.controls kind push.rule.now push.top push.below taken.now in
+            let ts = transitions.now.transitions in
+            at ≡ index_from test i ts → result ≡ index_from test (i + 1) ts }
+    {
+        // the places of the transitions are distinct
+        let _count = transitions.len();
+        let Some(j) = at else {
+            return None;
+        };
+        if j != i {
+            return at;
+        }
+        None
+    }
+
+    // Adds its jobs from a transition and each other that can be its other input, in their order.
     fn list_pairs(
         &self,
         alloc: Global,
@@ -168,8 +275,12 @@ impl<'a, S: Semiring> Push<'a, S> {
             let more = flat_map (made taken.now) transitions.now.transitions in
             OnOk result (jobs.new.items ≡ jobs.old.items ++ more) }
     {
-        for i in 0..transitions.len() {
+        let mut second = self.first_second(transitions, taken);
+        let mut first = self.only_first(transitions, taken);
+        'partners: while let Some(i) = lower_index(second, first) {
             self.list_pair(alloc, semiring, taken, transitions.entry(i), jobs)?;
+            second = self.second_behind(transitions, taken, second, i);
+            first = self.first_behind(transitions, taken, first, i);
         }
         Ok(())
     }

@@ -1,0 +1,23 @@
+use Rattle.std.proofs.Common.{◌≡◌, ◌+◌, ℕ, sym, ap, ◌∙◌}
+use Rattle.std.specs.Prelude.{◌&&◌, Some, None}
+use Rattle.key_rows.specs.Rows.{index_where, index_from}
+use Rattle.pushdown_rules.specs.Rows.{goes_onto, pushes_over}
+use Rattle.prestar_laws.specs.Jobs.{goes_on}
+use Rattle.prestar.specs.private.Pushes.{kind_of}
+use Rattle.prestar.specs.private.Rows.{may_be_first, may_be_second}
+use Rattle.direction_parts.proofs.CallerLemmas.{none_where}
+use Rattle.prestar.proofs.pass.Pass.first_over.Goals as goal
+
+pub returns-then-not-goes_on : goal.returns-then-not-goes_on
+returns-then-not-goes_on g c =
+    let pass = c.args.self.now in
+    let rs = pass.system.now.rules in
+    let goes = goes_on pass.system.now.controls (kind_of pass.callee) in
+    none_where (goes pass.from) (pushes_over pass.symbol) rs (sym c.goes_on.ensures ∙ c.if-not-goes_on.true)
+
+pub returns : goal.returns
+returns g c =
+    let pass = c.args.self.now in
+    let rs = pass.system.now.rules in
+    let goes = goes_on pass.system.now.controls (kind_of pass.callee) in
+    c.first_over.ensures ∙ ap (λ b. index_where (λ r. b && pushes_over pass.symbol r) rs) (sym c.if-not-goes_on.false ∙ c.goes_on.ensures)

@@ -1,0 +1,32 @@
+use Rattle.std.proofs.Common.{◌≡◌, ◌+◌, ℕ, sym, ap, ◌∙◌}
+use Rattle.std.specs.Prelude.{◌&&◌, Some, None}
+use Rattle.key_rows.specs.Rows.{index_where, index_from}
+use Rattle.pushdown_rules.specs.Rows.{goes_onto, pushes_over}
+use Rattle.prestar_laws.specs.Jobs.{goes_on}
+use Rattle.prestar.specs.private.Pushes.{kind_of}
+use Rattle.prestar.specs.private.Rows.{may_be_first, may_be_second}
+use Rattle.std.proofs.lemmas.Option.{same_Some}
+use Rattle.direction_parts.proofs.CallerLemmas.{not_there}
+use Rattle.prestar.proofs.RowLemmas.{over_next}
+use Rattle.prestar.proofs.pass.Pass.over_behind.Goals as goal
+
+pub returns-in_default : goal.returns-in_default
+returns-in_default g c = λ e.
+    let pass = c.args.self.now in
+    let rs = pass.system.now.rules in
+    let goes = goes_on pass.system.now.controls (kind_of pass.callee) in
+    not_there (may_be_second pass.system.now.controls (kind_of pass.callee) pass.from pass.symbol) c.args.k rs None (sym c.in_default.is ∙ e) (λ h. cc)
+
+pub returns-then-j-k : goal.returns-then-j-k
+returns-then-j-k g c = λ e.
+    let pass = c.args.self.now in
+    let rs = pass.system.now.rules in
+    let goes = goes_on pass.system.now.controls (kind_of pass.callee) in
+    sym c.in-Some.is ∙ not_there (may_be_second pass.system.now.controls (kind_of pass.callee) pass.from pass.symbol) c.args.k rs c.args.at e (λ h. c.if-j-k.true (same_Some c.in-Some.j c.args.k (sym c.in-Some.is ∙ h)))
+
+pub returns : goal.returns
+returns g c = λ e.
+    let pass = c.args.self.now in
+    let rs = pass.system.now.rules in
+    let goes = goes_on pass.system.now.controls (kind_of pass.callee) in
+    over_next (goes pass.from) c.args.k pass.symbol rs c.next_over.result (sym e ∙ c.in-Some.is ∙ ap Some c.if-j-k.false) c.next_over.ensures
