@@ -33,7 +33,7 @@ draw-requires g c =
     c.in_ok-input.input c.semiring-semiring.result.now c.side-side.result c.in_ok-input.ensures c.semiring-semiring.ensures.value (c.side-side.ensures p) in
     record {
       ready = ready_at g.S.Semiring.laws valid c.requires.automaton sums c.args.pattern.now c.requires.pattern
-          c.in_ok-input.input is_task (state_of c.rounds.sum) c.in-Some.place c.next.new.waiting.items c.rounds.invariant.0 c.in-Some.ensures;
+          c.in_ok-input.input is_task (state_of c.rounds.sum) c.in-Some.place c.pop.new.self.items c.rounds.invariant.0 c.in-Some.ensures.place;
     }
 
 pub rounds-smaller : goal.rounds-smaller
@@ -45,7 +45,7 @@ rounds-smaller g c =
     let is_task = input_is g.S.Semiring.laws valid c.requires.automaton sums c.args.pattern.now c.requires.pattern
     c.in_ok-input.input c.semiring-semiring.result.now c.side-side.result c.in_ok-input.ensures c.semiring-semiring.ensures.value (c.side-side.ensures p) in
     let round = round_at g.S.Semiring.laws valid c.requires.automaton sums c.args.pattern.now c.requires.pattern
-    c.in_ok-input.input is_task (state_of c.rounds.sum) (state_of c.draw.new.self) c.in-Some.place c.next.new.waiting.items c.rounds.invariant.0 c.in-Some.ensures c.in_ok-draw.ensures.grows in
+    c.in_ok-input.input is_task (state_of c.rounds.sum) (state_of c.draw.new.self) c.in-Some.place c.pop.new.self.items c.rounds.invariant.0 c.in-Some.ensures.place c.in_ok-draw.ensures.grows in
     round.1
 
 pub rounds-preserved : goal.rounds-preserved
@@ -57,7 +57,7 @@ rounds-preserved g c =
     let is_task = input_is g.S.Semiring.laws valid c.requires.automaton sums c.args.pattern.now c.requires.pattern
     c.in_ok-input.input c.semiring-semiring.result.now c.side-side.result c.in_ok-input.ensures c.semiring-semiring.ensures.value (c.side-side.ensures p) in
     let round = round_at g.S.Semiring.laws valid c.requires.automaton sums c.args.pattern.now c.requires.pattern
-    c.in_ok-input.input is_task (state_of c.rounds.sum) (state_of c.draw.new.self) c.in-Some.place c.next.new.waiting.items c.rounds.invariant.0 c.in-Some.ensures c.in_ok-draw.ensures.grows in
+    c.in_ok-input.input is_task (state_of c.rounds.sum) (state_of c.draw.new.self) c.in-Some.place c.pop.new.self.items c.rounds.invariant.0 c.in-Some.ensures.place c.in_ok-draw.ensures.grows in
     (round.0, c.in_ok-draw.ensures.graph ∙ c.rounds.invariant.1)
 
 pub weight_now-requires : goal.weight_now-requires
