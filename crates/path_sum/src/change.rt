@@ -4,10 +4,9 @@ ghost use Rattle.saturation_laws.specs.States.{apply};
 ghost use Rattle.path_sum.specs.private.Growing.{given};
 ghost use Rattle.saturation_laws.specs.Openings.{AreKept, found_so_far};
 
-use saturation_core::{node_now, queue_up, weight_after, weight_now};
+use saturation_core::{PlaceQueue, node_now, queue_up, weight_after, weight_now};
 use semiring_laws::Semiring;
 use std::alloc::Global;
-use std::collections::VecDeque;
 use weighted_automata::{Place, Transitions};
 use witness_graph::{Node, Overlay};
 use wpds_base::OutOfMemory;
@@ -19,7 +18,7 @@ pub(crate) fn apply_parts<S: Semiring>(
     semiring: &S,
     transitions: &mut Transitions<S>,
     nodes: &mut Overlay,
-    waiting: &mut VecDeque<Place>,
+    waiting: &mut PlaceQueue,
     place: Place,
     weight: &S::W,
     first: u64,

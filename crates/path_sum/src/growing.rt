@@ -13,9 +13,9 @@ ghost use Rattle.path_sum.specs.private.Work.{edge_moves, into_moves, on_moves, 
 
 use crate::change::apply_parts;
 use crate::sum_input::SumInput;
+use saturation_core::PlaceQueue;
 use semiring_laws::Semiring;
 use std::alloc::Global;
-use std::collections::VecDeque;
 use weighted_automata::{Entry, Label, Place, Transitions};
 use witness_graph::{Graph, Overlay, Side};
 use wpds_base::OutOfMemory;
@@ -27,7 +27,7 @@ use wpds_base::OutOfMemory;
 pub(crate) struct Growing<'g, S: Semiring> {
     pub(crate) pairs: Transitions<S>,
     pub(crate) nodes: Overlay<'g>,
-    pub(crate) waiting: VecDeque<Place>,
+    pub(crate) waiting: PlaceQueue,
 }
 
 /// Where the answer stands among the pairs: the only place there that reads a symbol.

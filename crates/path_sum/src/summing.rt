@@ -13,23 +13,14 @@ use crate::growing::{ANSWER, Growing};
 use crate::sum_input::SumInput;
 use config_patterns::Pattern;
 use pushdown_rules::System;
-use saturation_core::{Book, weight_now};
+use saturation_core::{Book, PlaceQueue, queue_up, weight_now};
 use saturation_laws::{Direction, Opening};
 use semiring_laws::Semiring;
 use short_listings::shorter;
 use std::alloc::Global;
-use std::collections::VecDeque;
 use weighted_automata::{Label, Place, Transitions};
 use witness_graph::{Graph, Listing, Node, Overlay};
 use wpds_base::OutOfMemory;
-
-// Takes the place that waits longest.
-fn next(waiting: &mut VecDeque<Place>) -> Option<Place>
-    ensures { MatchOption result (waiting.old.items ≡ [])
-        (λ x. waiting.old.items ≡ x ∷ waiting.new.items) }
-{
-    waiting.pop_front()
-}
 
 // The sum with the first pair alone, which has the empty run.
 fn start<'g, S: Semiring>(
@@ -48,11 +39,11 @@ fn start<'g, S: Semiring>(
     };
     let mut nodes = Overlay::new(alloc, graph);
     let mut pairs = Transitions::new(alloc);
-    let mut waiting = VecDeque::new(alloc);
+    let mut waiting = PlaceQueue::new(alloc);
     let number = nodes.push_node(alloc, Node::Start)?;
     let one = input.semiring().one(alloc)?;
     pairs.lower(alloc, first, one, number)?;
-    waiting.push_back(first)?;
+    queue_up(&mut waiting, first)?;
     Ok(Growing {
         pairs,
         nodes,
@@ -107,7 +98,7 @@ pub fn sum_parts<S: Semiring, D: Direction<S>>(
     let side = direction.side();
     let input = SumInput::new(alloc, semiring, side, opening, transitions, pattern)?;
     let mut sum = start(alloc, &input, graph)?;
-    'rounds: while let Some(place) = next(&mut sum.waiting) {
+    'rounds: while let Some(place) = sum.waiting.pop() {
         sum.draw(alloc, &input, place)?;
     }
     let value = weight_now(alloc, semiring, &sum.pairs, ANSWER)?;

@@ -1,6 +1,6 @@
 -- Counting hands, and the bits of their seats.
-use Rattle.std.proofs.Common.{◌≡◌, ℕ, suc, zero, ◌+◌, ◌-◌, ◌*◌, ◌/◌, ◌^◌, ◌<◌, ◌≤◌, List, [], ◌∷◌, ◌++◌, length, get_or, drop, set, refl, sym, ap, ◌∙◌, arith}
-use Rattle.std.specs.Prelude.{Option, None, Some, is_some, cond, option_map, option_to_list}
+use Rattle.std.proofs.Common.{◌≡◌, ℕ, suc, zero, ◌+◌, ◌-◌, ◌*◌, ◌/◌, ◌^◌, ◌<◌, ◌≤◌, List, [], ◌∷◌, length, get_or, drop, set, refl, sym, ap, ◌∙◌, arith}
+use Rattle.std.specs.Prelude.{Option, None, Some, is_some, cond, option_map, MatchOption, IfSome}
 use Rattle.std.proofs.lemmas.List.{at_drop_more, length-drop, length-set}
 use Rattle.std.proofs.Math.Nat.{pow-succ'}
 use Rattle.std.proofs.Math.Pow.{pow_mono}
@@ -96,12 +96,8 @@ module _ {S W Map : Type 0} where
   pub hands_out-read : (hs : List (Option (Holding S W Map))) (k : ℕ) (x : Place) → option_map (λ h. h.place) (hand_at k hs) ≡ Some x → hands_out hs ≡ 1 + hands_out (set hs k None)
   hands_out-read hs k x e = let h = hand_of (hand_at k hs) x e in hands_out-freed hs k h.0 h.1
 
--- a queue with a front is one shorter without it
-pub popped : {X : Type 0} (o : Option X) (old new : List X) (x : X) (n m : ℕ) → old ≡ option_to_list o ++ new → new ≡ drop 1 old → old ≡ x ∷ drop 1 old
-    → m + length (option_to_list o) ≡ n → m + 1 ≡ n
-popped None old new x n m items rest front len =
-    let a : length old ≡ length new = ap length items in
-    let b : length new ≡ length (drop 1 old) = ap length rest in
-    let c : length old ≡ suc (length (drop 1 old)) = ap length front in
-    absurd (omega (arith, a, b, c))
-popped (Some y) old new x n m items rest front len = let e : m + 1 ≡ n = len in e
+-- a queue with a front: what is taken is that, and the rest is left
+pub popped : {X : Type 0} (o : Option X) (old new : List X) (x : X) (P : Type 0) → old ≡ x ∷ drop 1 old
+    → MatchOption o (old ≡ []) (λ y. old ≡ y ∷ new) → IfSome o (λ _. P) → (old ≡ x ∷ new) × P
+popped None old new x P front none p = let f : [] ≡ x ∷ drop 1 old = sym none ∙ front in cc
+popped (Some y) old new x P front is p = (front ∙ ap (λ zs. x ∷ drop 1 zs) is, p)

@@ -1,5 +1,6 @@
 mod HandLemmas
 mod QueueFacts
+mod NoteLemmas
 mod ChangeLemmas
 mod StartLemmas
 mod OpeningBook

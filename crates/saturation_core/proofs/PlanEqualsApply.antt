@@ -1,7 +1,6 @@
 -- The lowerings of a plan, one after another.
 use Rattle.std.proofs.Common.{◌≡◌, ℕ, suc, ◌+◌, ◌<◌, ◌≤◌, List, [], ◌∷◌, ◌++◌, length, ap, ◌∙◌, subst, arith}
 use Rattle.std.specs.Prelude.{IsTrue}
-use Rattle.std.specs.VecDeque.{deque_len, deque_capacity}
 use Rattle.std.proofs.lemmas.List.{length_push}
 use Rattle.weighted_automata.specs.declared.place.Place.{Place}
 use Rattle.weighted_automata.specs.Places.{has_place}
@@ -18,8 +17,7 @@ module _ {S W Map : Type 0} where
     pub nodes : AreNodesFrom (length now.graph.nodes) ls
     pub room : HasRoomFor ls now
     pub same_side : now.graph.side ≡ first.graph.side
-    pub count : deque_len now.waiting + length ls ≤ deque_len first.waiting + all
-    pub capacity : deque_capacity now.waiting ≡ deque_capacity first.waiting
+    pub count : first.waiting.spare + length ls ≤ now.waiting.spare + all
 
   module _ (l : Planned S W Map) (ls : List (Planned S W Map)) (all : ℕ) (now first : Found S W Map) (is : IsUnderWay (l ∷ ls) all now first) where
     pub next_node : IsNodeAt (length now.graph.nodes) l.node
@@ -31,13 +29,13 @@ module _ {S W Map : Type 0} where
     pub next_spare : 0 < now.graph.spare
     next_spare = omega (arith, is.room.spare)
 
-    pub next_queue : deque_len now.waiting < deque_capacity now.waiting
+    pub next_queue : 0 < now.waiting.spare
     next_queue = omega (arith, is.room.queue)
 
     pub step_on : (new : Found S W Map) → ((x : Place) → IsTrue (has_place x now.transitions.room) → IsTrue (has_place x new.transitions.room)) → new.graph.nodes ≡ now.graph.nodes ++ l.node ∷ []
-        → now.graph.spare ≤ new.graph.spare + 1 → new.graph.side ≡ now.graph.side → deque_len new.waiting ≤ deque_len now.waiting + 1 → deque_capacity new.waiting ≡ deque_capacity now.waiting
+        → now.graph.spare ≤ new.graph.spare + 1 → new.graph.side ≡ now.graph.side → now.waiting.spare ≤ new.waiting.spare + 1
         → IsUnderWay ls all new first
-    step_on new keeps added spare way more same =
+    step_on new keeps added spare way more =
         let P : ℕ → Type 0 = λ k. AreNodesFrom k ls in
         let e : suc (length now.graph.nodes) ≡ length new.graph.nodes = omega (arith, ap length added, length_push now.graph.nodes l.node) in
         record {
@@ -45,11 +43,10 @@ module _ {S W Map : Type 0} where
           room = record {
             places = room_rest now.transitions.room new.transitions.room l ls is.room.places keeps;
             spare = omega (arith, is.room.spare, spare);
-            queue = omega (arith, is.room.queue, more, same);
+            queue = omega (arith, is.room.queue, more);
           };
           same_side = way ∙ is.same_side;
           count = omega (arith, is.count, more);
-          capacity = same ∙ is.capacity;
         }
 
   pub with_front : (old ls : List (Planned S W Map)) (l : Planned S W Map) (all : ℕ) (now first : Found S W Map) → old ≡ l ∷ ls → IsUnderWay old all now first → IsUnderWay (l ∷ ls) all now first

@@ -1,6 +1,5 @@
 -- What a book is seen as, and the room that it keeps.
 use Rattle.std.specs.Prelude.{◌+◌, ◌≤◌, vec_len, vec_capacity}
-use Rattle.std.specs.VecDeque.{deque_len, deque_capacity}
 use Rattle.saturation_core.specs.declared.book.Book.TheInside.{Inside}
 use Rattle.saturation_laws.specs.Books.{BookValue}
 use Rattle.saturation_core.specs.Seats.{hands_out}
@@ -17,4 +16,4 @@ book_view b = record {
 -- Each hand that is out can be given back without memory.
 pub record HasRoom {S D W Map : Type 0} (b : Inside S D W Map) : Type 0 where
   pub journal : vec_len b.journal + hands_out b.out.items ≤ vec_capacity b.journal
-  pub queue : deque_len b.found.waiting + hands_out b.out.items ≤ deque_capacity b.found.waiting
+  pub queue : hands_out b.out.items ≤ b.found.waiting.spare

@@ -1,5 +1,6 @@
 pub mod Seats
 pub mod Calls
+pub mod WaitingPlaces
 pub mod BookView
 pub mod DoneValue
 pub mod Settled

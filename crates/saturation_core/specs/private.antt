@@ -3,3 +3,4 @@ pub mod Plans
 pub mod Steps
 pub mod Finding
 pub mod Gather
+pub mod Notes

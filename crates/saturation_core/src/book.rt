@@ -13,7 +13,7 @@ use crate::found::Found;
 use crate::hands::{no_hands, none_out, place_out, put, seats_out};
 use crate::journal::{count_takes, count_takes_of};
 use crate::plan::plan_jobs;
-use crate::queue::{enqueue, front, list_jobs};
+use crate::queue::list_jobs;
 use crate::same::{agree, lists, same_side};
 use crate::{Done, Hand, Lowered, SettleFault, Taken};
 use pushdown_rules::System;
@@ -124,7 +124,7 @@ impl<'s, S: Semiring, D: Direction<S>> Book<'s, S, D> {
     pub fn is_closed(&self) -> bool
         ensures { IsTrue result ↔ IsClosed self.now }
     {
-        match front(&self.found.waiting) {
+        match self.found.waiting.front() {
             None => none_out(&self.out),
             Some(_) => false,
         }
@@ -160,7 +160,7 @@ impl<'s, S: Semiring, D: Direction<S>> Book<'s, S, D> {
     {
         let at = seat as usize;
         if let Some(place) = place_out(&self.out, at) {
-            enqueue(&mut self.found.waiting, place);
+            self.found.waiting.enqueue(place);
             self.journal.push_reserved(Event::GiveBack { seat });
             put(&mut self.out, at, None);
         }
@@ -174,7 +174,7 @@ impl<'s, S: Semiring, D: Direction<S>> Book<'s, S, D> {
         ensures works { IfOk result (λ t. HandWorks S.operations D.way self.old t) }
         ensures err { OnErr result (self.new ≡ self.old) }
     {
-        match front(&self.found.waiting) {
+        match self.found.waiting.front() {
             None if none_out(&self.out) => Ok(Taken::Closed),
             None => Ok(Taken::Idle(seats_out(&self.out))),
             Some(place) => {
@@ -184,7 +184,7 @@ impl<'s, S: Semiring, D: Direction<S>> Book<'s, S, D> {
                 let kept = copy_jobs(alloc, system.semiring(), jobs.as_slice())?;
                 // For this event, and for one more of each hand.
                 self.journal.reserve(65)?;
-                self.found.waiting.pop_front();
+                self.found.waiting.pop();
                 self.journal.push_reserved(Event::Take { seat, place });
                 put(
                     &mut self.out,

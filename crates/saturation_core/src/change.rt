@@ -6,19 +6,18 @@ ghost use Rattle.saturation_laws.specs.Queues.{queued};
 ghost use Rattle.saturation_laws.specs.States.{weight_at};
 ghost use Rattle.saturation_laws.specs.Openings.{AreKept, changed_weight};
 
-use crate::queue::enqueue;
+use crate::place_queue::PlaceQueue;
 use semiring_laws::Semiring;
 use std::alloc::Global;
-use std::collections::VecDeque;
 use weighted_automata::{Place, Transitions};
 use wpds_base::OutOfMemory;
 
 /// Puts a place last, unless it waits, and makes room for it.
-pub fn queue_up(waiting: &mut VecDeque<Place>, place: Place) -> Result<(), OutOfMemory>
+pub fn queue_up(waiting: &mut PlaceQueue, place: Place) -> Result<(), OutOfMemory>
     ensures { OnOk result (waiting.new.items ≡ queued place waiting.old.items) }
 {
     waiting.reserve(1)?;
-    enqueue(waiting, place);
+    waiting.enqueue(place);
     Ok(())
 }
 

@@ -1,5 +1,4 @@
 ghost use Rattle.std.specs.Prelude.{◌≡◌, ◌<◌, ◌≤◌, ◌+◌, ◌^◌, [], ◌∷◌, IfOk, OnOk, IsTrue, length};
-ghost use Rattle.std.specs.VecDeque.{deque_len, deque_capacity};
 ghost use Rattle.wpds_base.specs.Limits.{most_seats};
 ghost use Rattle.semiring_laws.specs.Semiring.{Fits};
 ghost use Rattle.weighted_automata.specs.declared.place.Place.{Place as PlaceValue};
@@ -13,7 +12,7 @@ ghost use Rattle.saturation_core.specs.private.Steps.{Becomes, IsKept, HasRoomFo
 
 use crate::change::{node_now, queue_up, weight_after, weight_now};
 use crate::plan::{Planned, goals};
-use crate::queue::enqueue;
+use crate::place_queue::PlaceQueue;
 use pushdown_rules::System;
 use semiring_laws::Semiring;
 use std::alloc::Global;
@@ -28,7 +27,7 @@ use wpds_base::OutOfMemory;
 pub(crate) struct Found<S: Semiring> {
     pub(crate) transitions: Transitions<S>,
     pub(crate) graph: Graph,
-    pub(crate) waiting: VecDeque<Place>,
+    pub(crate) waiting: PlaceQueue,
 }
 
 impl<S: Semiring> Found<S> {
@@ -44,7 +43,7 @@ impl<S: Semiring> Found<S> {
         Ok(Found {
             transitions: Transitions::new(alloc),
             graph,
-            waiting: VecDeque::new(alloc),
+            waiting: PlaceQueue::new(alloc),
         })
     }
 
@@ -166,11 +165,9 @@ impl<S: Semiring> Found<S> {
         requires few { length plan.now < 2 ^ 63 }
         ensures state { Becomes self.old (λ st. st) self.new }
         ensures side { self.new.graph.side ≡ self.old.graph.side }
-        ensures len { deque_len self.new.waiting ≡ deque_len self.old.waiting }
-        ensures capacity { deque_capacity self.old.waiting ≤ deque_capacity self.new.waiting }
+        ensures kept { self.old.waiting.spare ≤ self.new.waiting.spare }
         ensures room { OnOk result (HasRoomFor plan.now self.new) }
-        ensures queue { OnOk result (deque_len self.new.waiting + length plan.now + most_seats
-            ≤ deque_capacity self.new.waiting) }
+        ensures queue { OnOk result (length plan.now + most_seats ≤ self.new.waiting.spare) }
     {
         let places = goals(alloc, plan)?;
         self.transitions.reserve(alloc, &places)?;
@@ -185,8 +182,7 @@ impl<S: Semiring> Found<S> {
         requires room { HasRoomFor plan.items self.old }
         ensures state { Becomes self.old (put_all plan.items) self.new }
         ensures side { self.new.graph.side ≡ self.old.graph.side }
-        ensures len { deque_len self.new.waiting ≤ deque_len self.old.waiting + length plan.items }
-        ensures capacity { deque_capacity self.new.waiting ≡ deque_capacity self.old.waiting }
+        ensures queue { self.old.waiting.spare ≤ self.new.waiting.spare + length plan.items }
     {
         let mut rest = VecDeque::from(plan);
         'steps: while let Some(step) = rest.pop_front() {
@@ -199,19 +195,18 @@ impl<S: Semiring> Found<S> {
         requires node { IsNodeAt (length self.old.graph.nodes) step.node }
         requires place { IsTrue (has_place step.goal self.old.transitions.room) }
         requires spare { 0 < self.old.graph.spare }
-        requires queue { deque_len self.old.waiting < deque_capacity self.old.waiting }
+        requires queue { 0 < self.old.waiting.spare }
         ensures state { Becomes self.old (put step) self.new }
         ensures room { (x : PlaceValue) → IsTrue (has_place x self.old.transitions.room)
             → IsTrue (has_place x self.new.transitions.room) }
         ensures spare { self.old.graph.spare ≤ self.new.graph.spare + 1 }
         ensures side { self.new.graph.side ≡ self.old.graph.side }
-        ensures len { deque_len self.new.waiting ≤ deque_len self.old.waiting + 1 }
-        ensures capacity { deque_capacity self.new.waiting ≡ deque_capacity self.old.waiting }
+        ensures queue { self.old.waiting.spare ≤ self.new.waiting.spare + 1 }
     {
         let number = self.graph.push_node(alloc, step.node).unwrap();
         self.transitions
             .lower(alloc, step.goal, step.weight, number)
             .unwrap();
-        enqueue(&mut self.waiting, step.goal);
+        self.waiting.enqueue(step.goal);
     }
 }

@@ -1,5 +1,5 @@
 use crate::gather::{Gather, HUB};
-use crate::{Book, Done, Taken};
+use crate::{Book, Done, PlaceQueue, Taken, queue_up};
 use pushdown_rules::{RuleFault, System};
 use saturation_laws::{Direction, Opening, PlaceList, StateList};
 use semiring_laws::{Reach, Semiring};
@@ -302,6 +302,25 @@ fn worked_out(rt: HostRuntime) -> Result<(), Fail> {
         assert_eq!(rt; done.candidates().as_slice(), [true].as_slice());
         assert_eq!(rt; done.jobs().as_slice().len(), 1);
         assert_eq!(rt; done.system().rules(), 0);
+    }
+    Ok(())
+}
+
+#[test]
+fn waits_once_and_in_order(rt: HostRuntime) -> Result<(), Fail> {
+    let (one, two) = (place(0, 1), place(1, 0));
+    let mut queue = PlaceQueue::new(rt.alloc());
+    queue.reserve(1)?;
+    queue.enqueue(one);
+    for x in [two, one, two] {
+        queue_up(&mut queue, x)?;
+    }
+    assert_eq!(rt; queue.front(), Some(one));
+    assert_eq!(rt; queue.pop(), Some(one));
+    // what was taken can wait again, last
+    queue_up(&mut queue, one)?;
+    for left in [Some(two), Some(one), None] {
+        assert_eq!(rt; queue.pop(), left);
     }
     Ok(())
 }

@@ -3,3 +3,4 @@ pub use Rattle.weighted_automata.proofs.EntryLemmas.{distinct-lowered, entry_at-
 pub use Rattle.weighted_automata.proofs.EntryLemmas.{entry_at-place}
 pub use Rattle.weighted_automata.proofs.PlaceLemmas.{cases_place, other_place, same_place_from, same_place_is}
 pub use Rattle.weighted_automata.proofs.PlaceLemmas.{same_place_itself}
+pub use Rattle.weighted_automata.proofs.RowLemmas.{place_test}

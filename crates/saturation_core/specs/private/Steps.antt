@@ -1,6 +1,5 @@
 -- What was found so far, as a state, and how it changes.
-use Rattle.std.specs.Prelude.{◌≡◌, ℕ, ◌+◌, ◌≤◌, List, Option, None, Some, length}
-use Rattle.std.specs.VecDeque.{deque_len, deque_capacity}
+use Rattle.std.specs.Prelude.{◌≡◌, ℕ, ◌≤◌, List, Option, None, Some, length}
 use Rattle.semiring_laws.specs.Semiring.{Operations}
 use Rattle.weighted_automata.specs.declared.place.Place.{Place}
 use Rattle.saturation_laws.specs.declared.holding.Holding.{Holding}
@@ -27,7 +26,7 @@ module _ {S W Map : Type 0} where
   pub record HasRoomFor (plan : List (Planned S W Map)) (f : Found S W Map) : Type 0 where
     pub places : HaveRoom f.transitions.room plan
     pub spare : length plan ≤ f.graph.spare
-    pub queue : deque_len f.waiting + length plan ≤ deque_capacity f.waiting
+    pub queue : length plan ≤ f.waiting.spare
 
 -- the weight of a rule for a place, whose runs get the rule alone
 abbrev pub rule_change : {W : Type 0} → Place → W → ℕ → Change W

@@ -33,7 +33,7 @@ draw-requires g c =
     c.in_ok-input.input c.semiring-semiring.result.now c.side-side.result c.in_ok-input.ensures c.semiring-semiring.ensures.value (c.side-side.ensures p) in
     record {
       ready = ready_at g.S.Semiring.laws valid c.requires.automaton sums c.args.pattern.now c.requires.pattern
-          c.in_ok-input.input is_task (state_of c.rounds.sum) c.in-Some.place c.next.new.waiting.items c.rounds.invariant.0 c.in-Some.ensures;
+          c.in_ok-input.input is_task (state_of c.rounds.sum) c.in-Some.place c.pop.new.self.items c.rounds.invariant.0 c.in-Some.ensures.place;
     }
 
 pub rounds-smaller : goal.rounds-smaller
@@ -45,7 +45,7 @@ rounds-smaller g c =
     let is_task = input_is g.S.Semiring.laws valid c.requires.automaton sums c.args.pattern.now c.requires.pattern
     c.in_ok-input.input c.semiring-semiring.result.now c.side-side.result c.in_ok-input.ensures c.semiring-semiring.ensures.value (c.side-side.ensures p) in
     let round = round_at g.S.Semiring.laws valid c.requires.automaton sums c.args.pattern.now c.requires.pattern
-    c.in_ok-input.input is_task (state_of c.rounds.sum) (state_of c.draw.new.self) c.in-Some.place c.next.new.waiting.items c.rounds.invariant.0 c.in-Some.ensures c.in_ok-draw.ensures.grows in
+    c.in_ok-input.input is_task (state_of c.rounds.sum) (state_of c.draw.new.self) c.in-Some.place c.pop.new.self.items c.rounds.invariant.0 c.in-Some.ensures.place c.in_ok-draw.ensures.grows in
     round.1
 
 pub rounds-preserved : goal.rounds-preserved
@@ -57,7 +57,7 @@ rounds-preserved g c =
     let is_task = input_is g.S.Semiring.laws valid c.requires.automaton sums c.args.pattern.now c.requires.pattern
     c.in_ok-input.input c.semiring-semiring.result.now c.side-side.result c.in_ok-input.ensures c.semiring-semiring.ensures.value (c.side-side.ensures p) in
     let round = round_at g.S.Semiring.laws valid c.requires.automaton sums c.args.pattern.now c.requires.pattern
-    c.in_ok-input.input is_task (state_of c.rounds.sum) (state_of c.draw.new.self) c.in-Some.place c.next.new.waiting.items c.rounds.invariant.0 c.in-Some.ensures c.in_ok-draw.ensures.grows in
+    c.in_ok-input.input is_task (state_of c.rounds.sum) (state_of c.draw.new.self) c.in-Some.place c.pop.new.self.items c.rounds.invariant.0 c.in-Some.ensures.place c.in_ok-draw.ensures.grows in
     (round.0, c.in_ok-draw.ensures.graph ∙ c.rounds.invariant.1)
 
 pub weight_now-requires : goal.weight_now-requires
@@ -97,4 +97,4 @@ returns g c =
     let over = subst (λ (v : Nodes). IsListedOver (record { graph = v; nodes = c.rounds.sum.nodes.nodes }) answer c.in_ok-listing.listing) c.rounds.invariant.1 c.in_ok-listing.ensures in
     let listing = subst (λ sd. IsListingOf sd c.args.graph.now.nodes over.0 answer c.in_ok-listing.listing) c.requires.side over.2 in
     answer_sums g.S.Semiring.laws valid c.requires.automaton sums c.args.pattern.now c.requires.pattern
-    (state_of c.rounds.sum) c.rounds.invariant.0 c.in_default.ensures (record { value = c.in_ok-value.value; listing = c.in_ok-listing.listing }) value over.0 over.1 listing
+    (state_of c.rounds.sum) c.rounds.invariant.0 c.in_default.ensures.place (record { value = c.in_ok-value.value; listing = c.in_ok-listing.listing }) value over.0 over.1 listing

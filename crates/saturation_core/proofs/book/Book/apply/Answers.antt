@@ -40,7 +40,7 @@ invariant_of-self g c =
       subst (λ st. IsBook g.S.Semiring.operations g.D.Direction.way (record b { state = st })) (sym same) c.self.invariant.0,
       record {
         journal = c.self.invariant.1.journal;
-        queue = omega (arith, c.self.invariant.1.queue, c.make_room.ensures.len, c.make_room.ensures.capacity);
+        queue = omega (arith, c.self.invariant.1.queue, c.make_room.ensures.kept);
       },
       c.make_room.ensures.side ∙ c.self.invariant.2,
     )
@@ -96,7 +96,7 @@ invariant_of-self-2 g c =
           (book_view c.self.inside) c.self.invariant.0 (Settle c.seat-seat.result) _ (made g c),
       record {
         journal = omega (arith, one, now, c.self.invariant.1.journal, c.push_reserved.ensures.len, c.push_reserved.ensures.capacity);
-        queue = omega (arith, few, seats, c.in_ok-make_room.ensures.queue, c.lower_all.ensures.len, c.lower_all.ensures.capacity);
+        queue = omega (arith, few, seats, c.in_ok-make_room.ensures.queue, c.lower_all.ensures.queue);
       },
       c.lower_all.ensures.side ∙ c.make_room.ensures.side ∙ c.self.invariant.2,
     )

@@ -16,9 +16,9 @@ pub push_reserved-requires : goal.push_reserved-requires
 push_reserved-requires g c = omega (arith, hands_out-read c.self.inside.out.items c.args.seat c.in-Some.place (ap (λ hands. option_map (λ h. h.place) (hand_at c.args.seat hands)) (sym c.deref.ensures.value) ∙ sym c.place_out.ensures ∙ c.in-Some.is), c.self.invariant.1.journal)
 
 made : (g : _) (c : goal.After-put g) → Makes g.S.Semiring.operations g.D.Direction.way (book_view c.self.inside) (GiveBack c.args.seat)
-    (after (book_view c.self.inside) c.enqueue.new.queue.items c.put.new.out.items c.push_reserved.new.self.items)
+    (after (book_view c.self.inside) c.enqueue.new.self.items c.put.new.out.items c.push_reserved.new.self.items)
 made g c = given g.S.Semiring.operations g.D.Direction.way (book_view c.self.inside) c.args.seat c.in-Some.place
-    c.enqueue.new.queue.items c.put.new.out.items c.push_reserved.new.self.items
+    c.enqueue.new.self.items c.put.new.out.items c.push_reserved.new.self.items
     (ap (λ hands. option_map (λ h. h.place) (hand_at c.args.seat hands)) (sym c.deref.ensures.value) ∙ sym c.place_out.ensures ∙ c.in-Some.is)
     c.enqueue.ensures.items
     c.put.ensures
@@ -32,7 +32,7 @@ invariant_of-self g c = (
       let now = ap hands_out c.put.ensures in
       record {
         journal = omega (arith, one, now, c.self.invariant.1.journal, c.push_reserved.ensures.len, c.push_reserved.ensures.capacity);
-        queue = omega (arith, one, now, c.self.invariant.1.queue, c.enqueue.ensures.len, c.enqueue.ensures.capacity);
+        queue = omega (arith, one, now, c.self.invariant.1.queue, c.enqueue.ensures.spare);
       },
   c.self.invariant.2,
 )
@@ -40,4 +40,4 @@ invariant_of-self g c = (
 pub returns-in-Some : goal.returns-in-Some
 returns-in-Some g c =
     subst (λ b. Makes g.S.Semiring.operations g.D.Direction.way b (GiveBack c.args.seat)
-    (after (book_view c.self.inside) c.enqueue.new.queue.items c.put.new.out.items c.push_reserved.new.self.items)) c.self.view_is (made g c)
+    (after (book_view c.self.inside) c.enqueue.new.self.items c.put.new.out.items c.push_reserved.new.self.items)) c.self.view_is (made g c)

@@ -22,7 +22,7 @@ invariant_of-result g c = (
   let none = no_hand_out c.in_ok-no_hands.field-0.items c.in_ok-no_hands.ensures in
       record {
         journal = omega (arith, none, c.new-2.ensures.len);
-        queue = omega (arith, none, c.add_pops_of.new.self.waiting.small.1);
+        queue = omega (arith, none);
       },
   c.add_pops_of.ensures.side ∙ c.add_edges.ensures.side ∙ c.in_ok-found.ensures.side ∙ sym (c.side-side.ensures c.args.system.now),
 )

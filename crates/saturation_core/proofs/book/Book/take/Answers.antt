@@ -1,6 +1,5 @@
-use Rattle.std.proofs.Common.{◌≡◌, ◌<◌, sym, ap, ◌∙◌, subst, length, List, ◌++◌, ◌∷◌, [], arith}
+use Rattle.std.proofs.Common.{◌≡◌, ◌<◌, ◌≤◌, ◌+◌, sym, ap, ◌∙◌, subst, length, List, ◌++◌, ◌∷◌, [], arith}
 use Rattle.std.specs.Prelude.{All}
-use Rattle.std.specs.VecDeque.{deque_len}
 use Rattle.weighted_automata.specs.Entries.{entry_at}
 use Rattle.saturation_laws.specs.declared.event.Event.TheVariants.{Take}
 use Rattle.saturation_laws.specs.declared.job.Job.{Job}
@@ -14,16 +13,16 @@ use Rattle.saturation_core.proofs.HandLemmas.{hands_out-seats, hands_out-set, po
 use Rattle.saturation_core.proofs.book.Book.take.Goals as goal
 
 made : (g : _) (c : goal.After-put g) → Makes g.S.Semiring.operations g.D.Direction.way (book_view c.self.inside) (Take c.args.seat c.in-Some.place)
-    (after (book_view c.self.inside) c.pop_front.new.self.items c.put.new.out.items c.push_reserved.new.self.items)
+    (after (book_view c.self.inside) c.pop.new.self.items c.put.new.out.items c.push_reserved.new.self.items)
 made g c =
     let seats : length c.self.inside.out.items ≡ 64 = c.self.invariant.0.lock.shape.seats in
     let seat : c.args.seat < 64 = c.requires.seat in
     let within : c.args.seat < length c.self.inside.out.items = omega arith in
     taken g.S.Semiring.operations g.D.Direction.way (book_view c.self.inside) c.args.seat c.in-Some.place
-    c.pop_front.new.self.items c.put.new.out.items c.push_reserved.new.self.items
+    c.pop.new.self.items c.put.new.out.items c.push_reserved.new.self.items
     within
     (ap (λ b. hand_at c.args.seat b.state.hands) c.self.view_is ∙ c.requires.free)
-    (c.in-Some.ensures ∙ ap (λ q. c.in-Some.place ∷ q) (sym c.pop_front.ensures.rest))
+    (popped c.pop.result c.self.inside.found.waiting.items c.pop.new.self.items c.in-Some.place _ c.in-Some.ensures c.pop.ensures.place c.pop.ensures.spare).0
     c.in_ok-kept-in-Some.kept
     (c.in_ok-kept-in-Some.ensures ∙ c.as_slice.ensures ∙ c.in_ok-jobs-in-Some.ensures)
     c.put.ensures
@@ -35,20 +34,20 @@ invariant_of-self-in-Some g c =
     let seat : c.args.seat < 64 = c.requires.seat in
     let more = hands_out-set c.self.inside.out.items c.put.new.out.items c.args.seat _ c.put.ensures in
     let few = hands_out-seats c.self.inside.out.items c.put.new.out.items c.args.seat _ c.put.ensures in
-    let one = popped c.pop_front.result c.self.inside.found.waiting.items c.pop_front.new.self.items c.in-Some.place (deque_len c.self.inside.found.waiting) (deque_len c.pop_front.new.self) c.pop_front.ensures.items c.pop_front.ensures.rest c.in-Some.ensures c.pop_front.ensures.len in (
+    let one = popped c.pop.result c.self.inside.found.waiting.items c.pop.new.self.items c.in-Some.place (c.self.inside.found.waiting.spare + 1 ≤ c.pop.new.self.spare) c.in-Some.ensures c.pop.ensures.place c.pop.ensures.spare in (
       event_keeps g.S.Semiring.operations g.S.Semiring.laws g.D.Direction.way
           g.met.D.Direction.laws
           (book_view c.self.inside) c.self.invariant.0 (Take c.args.seat c.in-Some.place) _ (made g c),
       record {
         journal = omega (arith, more, few, seats, c.in_ok-reserve-in-Some.ensures.ok, c.push_reserved.ensures.len, c.push_reserved.ensures.capacity);
-        queue = omega (arith, more, one, c.self.invariant.1.queue, c.pop_front.ensures.capacity);
+        queue = omega (arith, more, one.1, c.self.invariant.1.queue);
       },
       c.self.invariant.2,
     )
 
 pub returns-in_ok-reserve-in-Some-clause-taken : goal.returns-in_ok-reserve-in-Some-clause-taken
 returns-in_ok-reserve-in-Some-clause-taken g c =
-    let new = after (book_view c.self.inside) c.pop_front.new.self.items c.put.new.out.items c.push_reserved.new.self.items in
+    let new = after (book_view c.self.inside) c.pop.new.self.items c.put.new.out.items c.push_reserved.new.self.items in
     let hand : List (Job g.row.S.Denot g.row.S-W.Denot g.row.S-Ret.Denot) → Hand g.row.S.Denot g.row.S-W.Denot g.row.S-Ret.Denot = λ js. record { seat = c.args.seat; jobs = js } in
     let jobs : BookValue g.row.S.Denot g.row.S-W.Denot g.row.S-Ret.Denot g.row.D.Denot → List (Job g.row.S.Denot g.row.S-W.Denot g.row.S-Ret.Denot) =
     λ b. jobs_at (g.S.Semiring.operations b.system.semiring) (g.D.Direction.way.tables b.direction b.system) (entry_at c.in-Some.place b.state.transitions) b.state.transitions in (
@@ -76,6 +75,6 @@ returns-in_ok-reserve-in-Some-clause-works g c =
     let seat : c.args.seat < 64 = c.requires.seat in
     subst (λ b. CanWork g.S.Semiring.operations g.D.Direction.way b c.in_ok-jobs-in-Some.jobs) c.self.view_is
     (taken_works g.S.Semiring.operations g.S.Semiring.laws g.D.Direction.way g.met.D.Direction.laws
-    (book_view c.self.inside) c.self.invariant.0 c.args.seat c.in-Some.place c.pop_front.new.self.items c.put.new.out.items c.push_reserved.new.self.items
+    (book_view c.self.inside) c.self.invariant.0 c.args.seat c.in-Some.place c.pop.new.self.items c.put.new.out.items c.push_reserved.new.self.items
     (made g c) (omega (arith, seats, seat)) c.in_ok-kept-in-Some.kept c.in_ok-jobs-in-Some.jobs c.put.ensures
     (sym (c.in_ok-kept-in-Some.ensures ∙ c.as_slice.ensures)))

@@ -2,7 +2,7 @@ use Rattle.std.proofs.Common.{sym, ap, ◌∙◌}
 use Rattle.std.specs.Prelude.{◌||◌}
 use Rattle.weighted_automata.specs.Places.{has_place}
 use Rattle.saturation_core.proofs.QueueFacts.{has_place-append}
-use Rattle.saturation_core.proofs.queue.waits.Goals as goal
+use Rattle.saturation_core.proofs.place_queue.stands.Goals as goal
 
 pub returns-then-stands_in : goal.returns-then-stands_in
 returns-then-stands_in c =

@@ -1,7 +1,7 @@
 use Rattle.std.proofs.Common.{sym, ◌∙◌}
 use Rattle.weighted_automata.specs.Places.{has_place}
 use Rattle.saturation_core.proofs.QueueFacts.{passed, found, ended}
-use Rattle.saturation_core.proofs.queue.stands_in.Goals as goal
+use Rattle.saturation_core.proofs.place_queue.stands_in.Goals as goal
 
 pub loop-y-preserved : goal.loop-y-preserved
 loop-y-preserved c =
