@@ -248,11 +248,11 @@ module _ (limit level : ℕ) (old : List OpenPart) (gs : List (Formula ℕ)) (op
       let q = reached names ps e k in
       ended names ps e last q (g ∙ sym h) (other_joined level q.pending q.operand p (reverse rest) (q.has.opened ∙ top_first now rest p h) i)
 
-pub empty_stays : (limit level : ℕ) (old : List OpenPart) (gs : List (Formula ℕ)) (operand : ℕ) (now : List OpenPart) (fs : List (Formula ℕ)) (d : ℕ) → Reaches limit level old gs operand now fs d → now ≡ []
-    → IsJoining limit level old gs operand (Ok d) now fs
-empty_stays limit level old gs operand now fs d reached h names ps e k =
+pub empty_stays : (limit level : ℕ) (old : List OpenPart) (gs : List (Formula ℕ)) (operand : ℕ) (now last : List OpenPart) (fs : List (Formula ℕ)) (d : ℕ) → Reaches limit level old gs operand now fs d → now ≡ [] → last ≡ []
+    → IsJoining limit level old gs operand (Ok d) last fs
+empty_stays limit level old gs operand now last fs d reached h g names ps e k =
     let q = reached names ps e k in
-    ended limit level old gs operand now now fs d reached names ps e now q refl (none_joined level q.pending q.operand (q.has.opened ∙ ap reverse h))
+    ended limit level old gs operand now now fs d reached names ps e last q (g ∙ sym h) (none_joined level q.pending q.operand (q.has.opened ∙ ap reverse h))
 
 pub no_memory : (s : Stop) (limit level : ℕ) (old : List OpenPart) (gs : List (Formula ℕ)) (operand : ℕ) (now : List OpenPart) (fs : List (Formula ℕ)) → s ≡ Memory → IsJoining limit level old gs operand (Err s) now fs
 no_memory s limit level old gs operand now fs is names ps e k = subst (λ x. IsJoined limit names (joined level ps e) (least ps (depth e)) (Err x) now fs) (sym is) tt

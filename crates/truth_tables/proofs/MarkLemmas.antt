@@ -10,16 +10,16 @@ use Rattle.truth_tables.specs.Formulas.{Formula}
 use Rattle.truth_tables.specs.Grammar.{Operator as OperatorValue, ThenOperator, SameOperator, OtherOperator, OrOperator, XorOperator, AndOperator, least_left, Tree, depth, has_large_table}
 use Rattle.truth_tables.specs.Stacks.{operator_of, Pending, AfterOperator, Reading, Wants, Word2, Word3, Number2, Number3, Has, joined, after_operator, at_comma, at_close, behind_operand, next_reading, alone, at_end}
 use Rattle.truth_tables.specs.private.Depths.{least, least_of}
-use Rattle.truth_tables.specs.private.Kept.{kept, HasOperand, IsAt, IsExcess, IsJoined, IsJoining, IsStep, IsOpening, IsStepping, IsBehind, IsEnd, IsEnding, with_operator}
+use Rattle.truth_tables.specs.private.Kept.{kept, HasOperand, IsAt, IsExcess, IsJoined, IsJoining, IsStep, IsOpening, IsBracketed, IsStepping, IsBehind, IsEnd, IsEnding, with_operator}
 use Rattle.truth_tables.specs.declared.stop.Stop.{Stop}
 use Rattle.truth_tables.specs.declared.stop.Stop.TheVariants.{Form, Excess, Memory}
 use Rattle.truth_tables.specs.declared.reader.OpenPart.{OpenPart}
-use Rattle.truth_tables.specs.declared.reader.OpenPart.TheVariants.{Operator}
+use Rattle.truth_tables.specs.declared.reader.OpenPart.TheVariants.{Operator, First2, First3}
 use Rattle.truth_tables.specs.declared.reader.Position.{Position}
 use Rattle.truth_tables.specs.declared.reader.Position.TheVariants.{Wanted, Behind2, Behind3, Counted2, Counted3, Behind}
 use Rattle.truth_tables.proofs.DepthLemmas.{operator_more, mark_more, end_more}
 use Rattle.truth_tables.proofs.ShapeLemmas.{or_false}
-use Rattle.truth_tables.proofs.StepLemmas.{opens}
+use Rattle.truth_tables.proofs.StepLemmas.{opens, first2_opens, first3_opens}
 
 -- ---- a mark behind an operand
 
@@ -125,13 +125,41 @@ no_operand m limit place old now fs gs i names r at told = ap (λ x. next_readin
     go Open i = absurd i
     go _ i = refl
 
+-- no opening bracket
+abbrev pub IsNoBracket : Mark → Type 0
+IsNoBracket Open = ⊥
+IsNoBracket m = Unit {0}
+
+pub bracket_so : (m : Mark) (p : OpenPart) (limit : ℕ) (old now : List OpenPart) (result : Result Position Stop) → m ≡ Open → IsOpening limit old p result now → IsBracketed limit old p m result now
+bracket_so m p limit old now result is h = subst (λ x. IsBracketed limit old p x result now) (sym is) h
+
+pub no_bracket : (m : Mark) (p : OpenPart) (limit : ℕ) (old now : List OpenPart) → IsNoBracket m → IsBracketed limit old p m (Err Form) now
+no_bracket Open p limit old now i = absurd i
+no_bracket _ p limit old now i = refl
+
+pub first2_steps : (m : Mark) (t limit place : ℕ) (old now : List OpenPart) (fs gs : List (Formula ℕ)) (result : Result Position Stop) → gs ≡ fs → IsBracketed limit old (First2 t) m result now
+    → IsStepping limit (Counted2 t) (Sign m) place old fs result now gs
+first2_steps m t limit place old now fs gs result same h names r at told = go m h
+  where
+    go : (m : Mark) → IsBracketed limit old (First2 t) m result now → IsStep limit names (next_reading r (Sign m)) result now gs
+    go Open h = first2_opens limit place old now fs gs result same t h names r at (λ no. cc)
+    go m h = subst (λ x. IsStep limit names (next_reading r (Sign m)) x now gs) (sym h) (ap (λ x. next_reading x (Sign m)) at.2)
+
+pub first3_steps : (m : Mark) (t limit place : ℕ) (old now : List OpenPart) (fs gs : List (Formula ℕ)) (result : Result Position Stop) → gs ≡ fs → IsBracketed limit old (First3 t) m result now
+    → IsStepping limit (Counted3 t) (Sign m) place old fs result now gs
+first3_steps m t limit place old now fs gs result same h names r at told = go m h
+  where
+    go : (m : Mark) → IsBracketed limit old (First3 t) m result now → IsStep limit names (next_reading r (Sign m)) result now gs
+    go Open h = first3_opens limit place old now fs gs result same t h names r at (λ no. cc)
+    go m h = subst (λ x. IsStep limit names (next_reading r (Sign m)) x now gs) (sym h) (ap (λ x. next_reading x (Sign m)) at.2)
+
 -- a word that may not stand there, where no operand is wanted
 abbrev pub IsMisplaced : Position → Word → Type 0
 IsMisplaced Wanted w = ⊥
 IsMisplaced Behind2 (Number n) = ⊥
 IsMisplaced Behind3 (Number n) = ⊥
-IsMisplaced (Counted2 t) (Sign Open) = ⊥
-IsMisplaced (Counted3 t) (Sign Open) = ⊥
+IsMisplaced (Counted2 t) (Sign m) = ⊥
+IsMisplaced (Counted3 t) (Sign m) = ⊥
 IsMisplaced (Behind d) (Sign m) = ⊥
 IsMisplaced p w = Unit {0}
 
@@ -150,12 +178,12 @@ no_step Behind3 w limit place old now fs gs i names r at told = ap (λ x. next_r
 no_step (Counted2 t) w limit place old now fs gs i names r at told = ap (λ x. next_reading x w) at.2 ∙ go w i
   where
     go : (w : Word) → IsMisplaced (Counted2 t) w → next_reading (Number2 at.0 at.1) w ≡ None
-    go (Sign Open) i = absurd i
+    go (Sign m) i = absurd i
     go _ i = refl
 no_step (Counted3 t) w limit place old now fs gs i names r at told = ap (λ x. next_reading x w) at.2 ∙ go w i
   where
     go : (w : Word) → IsMisplaced (Counted3 t) w → next_reading (Number3 at.0 at.1) w ≡ None
-    go (Sign Open) i = absurd i
+    go (Sign m) i = absurd i
     go _ i = refl
 no_step (Behind d) w limit place old now fs gs i names r at told = ap (λ x. next_reading x w) at.2 ∙ go w i
   where

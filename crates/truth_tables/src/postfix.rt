@@ -53,7 +53,6 @@ impl Postfix {
     }
 
     /// Gives each variable its number in this list, and 0 behind its end.
-    #[tactic(auto, using(crate::proofs::PostfixLemmas::all_renamed))]
     pub fn renumber(&mut self, numbers: &[u32])
         ensures { self.new ≡ map (renamed (λ k. slice_index_or numbers.now k 0)) self.old }
     {

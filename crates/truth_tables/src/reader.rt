@@ -2,10 +2,10 @@
 //! behind its operands, and of what is open only what can't be told from that list.
 
 ghost use Rattle.std.specs.Prelude.{◌≡◌, ◌+◌, ℕ, [], nat_lt, if◌then◌else◌, Ok, Err};
-ghost use Rattle.wpds_port.specs.declared.Word.TheVariants.{Name as NameWord, Number as NumberWord};
+ghost use Rattle.wpds_port.specs.declared.Word.TheVariants.{Name as NameWord, Number as NumberWord, Mark as MarkWord};
 ghost use Rattle.wpds_port.specs.Words.{word_of};
 ghost use Rattle.truth_tables.specs.Stacks.{at_comma as reading_at_comma, at_close as reading_at_close, behind_operand as reading_behind};
-ghost use Rattle.truth_tables.specs.private.Kept.{IsMade, IsJoining, IsOpening, IsStepping, IsBehind, IsEnding, behind_made, counted2, counted3, with_operator};
+ghost use Rattle.truth_tables.specs.private.Kept.{IsMade, IsJoining, IsOpening, IsStepping, IsBracketed, IsBehind, IsEnding, behind_made, counted2, counted3, with_operator};
 ghost use Rattle.truth_tables.specs.declared.reader.Position.TheVariants.{Wanted as WantedPosition};
 ghost use Rattle.truth_tables.specs.declared.stop.Stop.TheVariants.{Excess};
 
@@ -125,7 +125,7 @@ impl Reader {
     }
 
     // Joins an operand with what is open before it and binds at least as strongly.
-    #[tactic(auto, using(crate::proofs::KeptLemmas::not_more, crate::proofs::KeptLemmas::not_stops, crate::proofs::KeptLemmas::operator_more, crate::proofs::KeptLemmas::operator_stops, crate::proofs::KeptLemmas::operator_less, crate::proofs::KeptLemmas::other_stays, crate::proofs::KeptLemmas::empty_stays, crate::proofs::KeptLemmas::no_memory, crate::proofs::KeptLemmas::at_start))]
+    #[tactic(auto, using(crate::proofs::KeptLemmas::no_memory, crate::proofs::KeptLemmas::at_start))]
     fn join(&mut self, limit: u32, level: u8, operand: u32) -> Result<u32, Stop>
         ensures { IsJoining limit level self.old.pending.items self.old.parts operand result
             self.new.pending.items self.new.parts }
@@ -153,7 +153,7 @@ impl Reader {
     }
 
     // A name where an operand is wanted, in this place among the variables.
-    #[tactic(auto, using(crate::proofs::StepLemmas::name_return, crate::proofs::StepLemmas::name_table2, crate::proofs::StepLemmas::name_table3, crate::proofs::StepLemmas::name_variable))]
+    #[tactic(auto, using(crate::proofs::StepLemmas::name_return, crate::proofs::StepLemmas::name_variable))]
     fn at_name(&mut self, limit: u32, name: &[u8], place: u32) -> Result<Position, Stop>
         ensures { IsStepping limit WantedPosition (NameWord name.now) place
             self.old.pending.items self.old.parts result self.new.pending.items self.new.parts }
@@ -171,7 +171,7 @@ impl Reader {
     }
 
     // A number where an operand is wanted.
-    #[tactic(auto, using(crate::proofs::StepLemmas::number_zero, crate::proofs::StepLemmas::number_one, crate::proofs::StepLemmas::number_other))]
+    #[tactic(auto, using(crate::proofs::StepLemmas::number_other))]
     fn at_number(&mut self, limit: u32, digits: &[u8]) -> Result<Position, Stop>
         ensures { (place : ℕ) → IsStepping limit WantedPosition (NumberWord digits.now) place
             self.old.pending.items self.old.parts result self.new.pending.items self.new.parts }
@@ -185,8 +185,20 @@ impl Reader {
         Err(Stop::Form)
     }
 
+    // A mark where an operand is wanted.
+    #[tactic(auto, using(crate::proofs::MarkLemmas::no_operand))]
+    fn at_mark(&mut self, limit: u32, mark: Mark) -> Result<Position, Stop>
+        ensures { (place : ℕ) → IsStepping limit WantedPosition (MarkWord mark) place
+            self.old.pending.items self.old.parts result self.new.pending.items self.new.parts }
+    {
+        match mark {
+            Mark::Not => self.opened(limit, OpenPart::Not),
+            Mark::Open => self.opened(limit, OpenPart::Bracket),
+            _ => Err(Stop::Form),
+        }
+    }
+
     // A word where an operand is wanted.
-    #[tactic(auto, using(crate::proofs::StepLemmas::not_opens, crate::proofs::StepLemmas::bracket_opens, crate::proofs::MarkLemmas::no_operand))]
     fn at_operand(&mut self, limit: u32, lexeme: Lexeme<'_>, place: u32) -> Result<Position, Stop>
         ensures { IsStepping limit WantedPosition (word_of lexeme.entry) place
             self.old.pending.items self.old.parts result self.new.pending.items self.new.parts }
@@ -194,9 +206,20 @@ impl Reader {
         match lexeme {
             Lexeme::Name(name) => self.at_name(limit, name, place),
             Lexeme::Number(digits) => self.at_number(limit, digits),
-            Lexeme::Mark(Mark::Not) => self.opened(limit, OpenPart::Not),
-            Lexeme::Mark(Mark::Open) => self.opened(limit, OpenPart::Bracket),
-            Lexeme::Mark(_) => Err(Stop::Form),
+            Lexeme::Mark(mark) => self.at_mark(limit, mark),
+        }
+    }
+
+    // A mark that must open this part.
+    #[tactic(auto, using(crate::proofs::MarkLemmas::bracket_so, crate::proofs::MarkLemmas::no_bracket))]
+    fn at_bracket(&mut self, limit: u32, part: OpenPart, mark: Mark) -> Result<Position, Stop>
+        ensures open { IsBracketed limit self.old.pending.items part mark result
+            self.new.pending.items }
+        ensures built { self.new.parts ≡ self.old.parts }
+    {
+        match mark {
+            Mark::Open => self.opened(limit, part),
+            _ => Err(Stop::Form),
         }
     }
 
@@ -239,17 +262,16 @@ impl Reader {
     }
 
     // An operator behind an operand.
-    #[tactic(auto, using(crate::proofs::MarkLemmas::operator_opens, crate::proofs::MarkLemmas::operator_stops))]
     fn at_operator(&mut self, limit: u32, depth: u32, operator: Operator) -> Result<Position, Stop>
-        ensures { IsBehind (with_operator operator) limit self.old.pending.items self.old.parts depth
-            result self.new.pending.items self.new.parts }
+        ensures { IsBehind (with_operator operator) limit self.old.pending.items self.old.parts
+            depth result self.new.pending.items self.new.parts }
     {
         let joined = self.join(limit, operator.least_left(), depth)?;
         self.opened(limit, OpenPart::Operator(operator, joined))
     }
 
     // A mark behind an operand.
-    #[tactic(auto, using(crate::proofs::MarkLemmas::mark_operator, crate::proofs::MarkLemmas::mark_comma, crate::proofs::MarkLemmas::mark_close, crate::proofs::MarkLemmas::mark_stops, crate::proofs::MarkLemmas::mark_other))]
+    #[tactic(auto, using(crate::proofs::MarkLemmas::mark_comma, crate::proofs::MarkLemmas::mark_close, crate::proofs::MarkLemmas::mark_other))]
     fn behind_operand(&mut self, limit: u32, depth: u32, mark: Mark) -> Result<Position, Stop>
         ensures { IsBehind (reading_behind mark) limit self.old.pending.items self.old.parts depth
             result self.new.pending.items self.new.parts }
@@ -271,7 +293,7 @@ impl Reader {
     }
 
     /// One word more, in this place among the variables if it is one.
-    #[tactic(auto, using(crate::proofs::StepLemmas::number2_steps, crate::proofs::StepLemmas::number3_steps, crate::proofs::StepLemmas::first2_opens, crate::proofs::StepLemmas::first3_opens, crate::proofs::MarkLemmas::mark_steps, crate::proofs::MarkLemmas::no_step))]
+    #[tactic(auto, using(crate::proofs::StepLemmas::number2_steps, crate::proofs::StepLemmas::number3_steps, crate::proofs::MarkLemmas::mark_steps, crate::proofs::MarkLemmas::no_step))]
     pub(crate) fn step(
         &mut self,
         limit: u32,
@@ -286,11 +308,11 @@ impl Reader {
             (Position::Wanted, lexeme) => self.at_operand(limit, lexeme, place),
             (Position::Behind2, Lexeme::Number(digits)) => at_number2(digits),
             (Position::Behind3, Lexeme::Number(digits)) => at_number3(digits),
-            (Position::Counted2(number), Lexeme::Mark(Mark::Open)) => {
-                self.opened(limit, OpenPart::First2(number))
+            (Position::Counted2(number), Lexeme::Mark(mark)) => {
+                self.at_bracket(limit, OpenPart::First2(number), mark)
             }
-            (Position::Counted3(number), Lexeme::Mark(Mark::Open)) => {
-                self.opened(limit, OpenPart::First3(number))
+            (Position::Counted3(number), Lexeme::Mark(mark)) => {
+                self.at_bracket(limit, OpenPart::First3(number), mark)
             }
             (Position::Behind(depth), Lexeme::Mark(mark)) => self.behind_operand(limit, depth, mark),
             _ => Err(Stop::Form),
@@ -298,7 +320,7 @@ impl Reader {
     }
 
     /// The expression behind the last word, if nothing else is open there.
-    #[tactic(auto, using(crate::proofs::MarkLemmas::ends_elsewhere, crate::proofs::MarkLemmas::end_stops, crate::proofs::MarkLemmas::end_empty, crate::proofs::MarkLemmas::end_open))]
+    #[tactic(auto, using(crate::proofs::MarkLemmas::ends_elsewhere))]
     pub(crate) fn finish(mut self, limit: u32, position: Position) -> Result<Postfix, Stop>
         ensures { IsEnding limit position self.pending.items self.parts result }
     {

@@ -4,6 +4,8 @@ use Rattle.std.specs.List.{list_all}
 use Rattle.wpds_base.specs.Limits.{most_table2, most_table3}
 use Rattle.truth_tables.specs.Formulas.{Formula, is_over}
 use Rattle.truth_tables.specs.Grammar.{Operator as OperatorValue, least_left, Tree, depth, number_of, formula_of, has_large_table, is_variable_word}
+use Rattle.wpds_port.specs.declared.Mark.{Mark}
+use Rattle.wpds_port.specs.declared.Mark.TheVariants.{Open}
 use Rattle.wpds_port.specs.declared.Word.{Word}
 use Rattle.wpds_port.specs.Tokens.{word_text}
 use Rattle.truth_tables.specs.Stacks.{Pending, AfterNot, AfterOperator, InBracket, First2, Second2, First3, Second3, Third3, Reading, Wants, Word2, Word3, Number2, Number3, Has, joined, after_operator, next_reading, at_end, tree_from, tree_of}
@@ -115,6 +117,11 @@ IsOpening limit old p (Err Form) now = ⊥
 -- the name stands in this place among the names
 abbrev pub IsPlaceOf : List (List ℕ) → ℕ → List ℕ → Type 0
 IsPlaceOf names place x = (place < length names) × (slice_index_or names place [] ≡ x)
+
+-- the same of a mark that must be an opening bracket
+abbrev pub IsBracketed : ℕ → List OpenPart → OpenPart → Mark → Result Position Stop → List OpenPart → Type 0
+IsBracketed limit old p Open result now = IsOpening limit old p result now
+IsBracketed limit old p m result now = result ≡ Err Form
 
 -- what comes of a word more, in this place among the names if it is one
 abbrev pub IsStepping : ℕ → Position → Word → ℕ → List OpenPart → List (Formula ℕ) → Result Position Stop → List OpenPart → List (Formula ℕ) → Type 0
