@@ -3,6 +3,7 @@ mod DepthLemmas
 mod MachineLemmas
 mod OperandLemmas
 mod OutcomeLemmas
+mod PostfixLemmas
 mod Readings
 mod ShapeLemmas
 mod StackLemmas

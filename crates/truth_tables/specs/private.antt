@@ -2,3 +2,4 @@
 pub mod Buildings
 pub mod Positions
 pub mod Shapes
+pub mod Trees

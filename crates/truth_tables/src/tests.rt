@@ -1,5 +1,6 @@
 use crate::{
-    Expr, ExprRead, RawExpr, eval, instance2, instance3, is_variable, read_expr, value2, value3,
+    Expr, ExprRead, Part, Postfix, RawExpr, eval, instance2, instance3, is_variable, read_expr,
+    value2, value3,
 };
 use std::alloc::Global;
 use std::process::Abort;
@@ -333,5 +334,32 @@ fn tables_and_values(rt: HostRuntime) -> Result<(), Fail> {
     };
     assert_eq!(rt; eval(&expr, &[true, true]), false);
     assert_eq!(rt; eval(&expr, &[false, true]), true);
+    Ok(())
+}
+
+#[test]
+fn expressions_as_parts(rt: HostRuntime) -> Result<(), Fail> {
+    let alloc = rt.alloc();
+    assert_eq!(rt; size_of::<Part>(), 8);
+    let mut parts = Postfix::new(alloc);
+    assert!(rt; parts.to_expr(alloc)?.is_none());
+    for part in [
+        Part::Var(1),
+        Part::Not,
+        Part::Var(0),
+        Part::Const(true),
+        Part::Three(202),
+        Part::Var(3),
+        Part::Two(8),
+    ] {
+        parts.push(part)?;
+    }
+    parts.renumber(&[2, 0, 1]);
+    // Place 1 has number 0, place 0 has 2, and place 3 is behind the end.
+    let expr = parts.to_expr(alloc)?;
+    let text = format!(in alloc; "{expr:?}")?;
+    let inner = "Three { table: 202, a: Not(Var(0)), b: Var(2), c: Const(true) }";
+    let want = format!(in alloc; "Some(Two {{ table: 8, left: {inner}, right: Var(0) }})")?;
+    assert_eq!(rt; text.as_str(), want.as_str());
     Ok(())
 }
