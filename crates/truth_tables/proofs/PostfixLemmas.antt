@@ -1,7 +1,7 @@
 -- Lists of parts, each behind its operands.
 use Rattle.std.proofs.Common.{◌≡◌, ℕ, Some, None, List, [], ◌∷◌, ◌++◌, reverse, map, refl, ap, sym, ◌∙◌}
 use Rattle.std.proofs.lemmas.List.{reverse-append}
-use Rattle.truth_tables.specs.Formulas.{Formula, Constant, Variable, Opposite, Binary, Ternary, formula, renamed}
+use Rattle.truth_tables.specs.Formulas.{Formula, Opposite, Binary, Ternary, formula, renamed}
 use Rattle.truth_tables.specs.Postfix.{taken, built_onto, built, first, part_renamed}
 use Rattle.truth_tables.specs.private.Trees.{formulas_of}
 use Rattle.truth_tables.specs.declared.expr.Expr.{Expr}

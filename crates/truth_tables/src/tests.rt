@@ -372,16 +372,19 @@ fn expressions_as_parts(rt: HostRuntime) -> Result<(), Fail> {
         Part::Var(1),
         Part::Not,
         Part::Var(0),
-        Part::Var(2),
+        Part::Const(true),
         Part::Three(202),
+        Part::Var(3),
+        Part::Two(8),
     ] {
         parts.push(part)?;
     }
     parts.renumber(&[2, 0, 1]);
-    let Some(expr) = parts.to_expr(alloc)? else {
-        return Ok(());
-    };
-    // If not b then a else c, where b is 0, a is 2 and c is 1.
-    assert_eq!(rt; show(&expr, &[b"b", b"c", b"a"], alloc)?.as_str(), "202(!b,a,c)");
+    // Place 1 has number 0, place 0 has 2, and place 3 is behind the end.
+    let expr = parts.to_expr(alloc)?;
+    let text = format!(in alloc; "{expr:?}")?;
+    let inner = "Three { table: 202, a: Not(Var(0)), b: Var(2), c: Const(true) }";
+    let want = format!(in alloc; "Some(Two {{ table: 8, left: {inner}, right: Var(0) }})")?;
+    assert_eq!(rt; text.as_str(), want.as_str());
     Ok(())
 }
