@@ -6,12 +6,12 @@ use Rattle.std.specs.List.{list_all}
 use Rattle.wpds_port.specs.declared.Word.{Word}
 use Rattle.wpds_port.specs.Tokens.{word_text, is_lawful_word}
 use Rattle.truth_tables.specs.Formulas.{Formula, is_over}
-use Rattle.truth_tables.specs.Grammar.{Tree, depth, has_large_table, formula_of, tree_variables, is_variable_word, IsExpression}
+use Rattle.truth_tables.specs.Grammar.{Tree, depth, has_large_table, formula_of, is_variable_word, IsExpression}
 use Rattle.truth_tables.specs.Stacks.{Reading, Wants, next_reading, at_end, tree_from, tree_of}
-use Rattle.truth_tables.specs.Texts.{IsAnswer, IsFormulaOf, named}
+use Rattle.truth_tables.specs.Texts.{IsAnswer, named}
 use Rattle.truth_tables.specs.private.Depths.{least_of}
 use Rattle.truth_tables.specs.private.Shapes.{Shape, next_shape, large_at, is_whole, shape_of, large_in}
-use Rattle.truth_tables.specs.private.Kept.{AreNamed, all_named, IsPlaceOf, IsAt, IsExcess, IsStep, IsStepping, IsEnd, IsEnding, IsNextPlace, variables_among, IsBuilding, IsBegun, unbuilt_answer}
+use Rattle.truth_tables.specs.private.Kept.{all_named, IsPlaceOf, IsAt, IsExcess, IsStep, IsStepping, IsEnd, IsEnding, IsNextPlace, variables_among, IsBuilding, IsBegun, unbuilt_answer}
 use Rattle.truth_tables.specs.declared.stop.Stop.{Stop}
 use Rattle.truth_tables.specs.declared.stop.Stop.TheVariants.{Form, Excess, Memory}
 use Rattle.truth_tables.specs.declared.reader.OpenPart.{OpenPart}
@@ -127,7 +127,9 @@ module _ (limit : ℕ) (ws : List Word) (p : Position) (place : ℕ) (left rest 
       go true is i r at leads =
           let same = names_more w rest ∙ ap (λ b. cond b (word_text w ∷ variables_among rest) (variables_among rest)) is in
           record {
-            reading = r; at = at; leads = leads;
+            reading = r;
+            at = at;
+            leads = leads;
             seen = begun.seen ++ word_text w ∷ [];
             names_are = sym more ∙ ap (λ x. begun.seen ++ x) same ∙ sym (append_assoc begun.seen (word_text w ∷ []) (variables_among rest));
             place_is = omega (arith, i, begun.place_is, length-append begun.seen (word_text w ∷ []));

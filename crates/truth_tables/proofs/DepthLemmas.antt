@@ -1,13 +1,13 @@
 -- How deep an expression is at least while it is read: each part that is open makes it one deeper.
-use Rattle.std.proofs.Common.{◌≡◌, ℕ, suc, ◌+◌, ◌<◌, ◌≤◌, Bool, true, false, cond, List, [], ◌∷◌, reverse, Option, Some, None, IfSome, option_map, refl, sym, ap, ◌∙◌, subst, arith, length}
-use Rattle.std.specs.Prelude.{Result, nat_le, max, codes, bytes_eq}
+use Rattle.std.proofs.Common.{◌≡◌, ℕ, ◌+◌, ◌≤◌, Bool, true, false, cond, List, [], ◌∷◌, Option, Some, None, IfSome, option_map, refl, subst, arith, length}
+use Rattle.std.specs.Prelude.{nat_le, max, codes, bytes_eq}
 use Rattle.wpds_port.specs.declared.Mark.{Mark}
 use Rattle.wpds_port.specs.declared.Mark.TheVariants.{Implies, Differs, Comma, Equal, Not, And, Or, Xor, Open, Close}
 use Rattle.wpds_port.specs.declared.Word.{Word}
 use Rattle.wpds_port.specs.declared.Word.TheVariants.{Name, Number, Mark as Sign}
-use Rattle.truth_tables.specs.Grammar.{Operator, ThenOperator, SameOperator, OtherOperator, OrOperator, XorOperator, AndOperator, operator_level, least_left, Tree, Constant, Variable, Bracket, Inverse, Two, Table2, Table3, depth}
+use Rattle.truth_tables.specs.Grammar.{Operator, ThenOperator, SameOperator, OtherOperator, OrOperator, XorOperator, AndOperator, operator_level, least_left, Tree, Constant, Variable, Inverse, Two, depth}
 use Rattle.truth_tables.specs.private.Depths.{least, least_of}
-use Rattle.truth_tables.specs.Stacks.{constant_of, Pending, AfterNot, AfterOperator, InBracket, First2, Second2, First3, Second3, Third3, Reading, Wants, Word2, Word3, Number2, Number3, Has, joined, after_operator, at_comma, at_close, behind_operand, at_name, next_reading, alone, at_end, tree_from, tree_of}
+use Rattle.truth_tables.specs.Stacks.{constant_of, Pending, AfterNot, AfterOperator, InBracket, First2, Second2, First3, Second3, Third3, Reading, Wants, Word2, Word3, Number2, Number3, Has, joined, after_operator, at_comma, at_close, behind_operand, at_name, next_reading, alone, at_end, tree_from}
 
 pub more : (ps : List Pending) (c d : ℕ) → c ≤ d → least ps c ≤ least ps d
 more [] c d h = h

@@ -1,7 +1,7 @@
 -- What of a reading is in memory, a part more, and an operand that is joined with what is open before it.
-use Rattle.std.proofs.Common.{◌≡◌, ℕ, ◌+◌, ◌<◌, ◌≤◌, Bool, true, false, not, ◌&&◌, ◌||◌, cond, List, [], ◌∷◌, ◌++◌, reverse, map, length, refl, sym, ap, ap₂, ◌∙◌, subst, arith}
+use Rattle.std.proofs.Common.{◌≡◌, ℕ, ◌+◌, ◌<◌, ◌≤◌, Bool, true, false, ◌&&◌, cond, List, [], ◌∷◌, ◌++◌, reverse, map, length, refl, sym, ap, ap₂, ◌∙◌, subst, arith}
 use Rattle.std.proofs.lemmas.Bool.{le-leb, lt-leb, lt-ltb, ltb-true, ltb-false}
-use Rattle.std.specs.Prelude.{Result, Ok, Err, max, nat_lt, nat_le, if◌then◌else◌}
+use Rattle.std.specs.Prelude.{Ok, Err, max, nat_lt}
 use Rattle.std.specs.List.{list_all}
 use Rattle.truth_tables.specs.Formulas.{Formula, Constant, Variable, Opposite, Binary, Ternary, is_over}
 use Rattle.truth_tables.specs.Grammar.{Operator as OperatorValue, ThenOperator, SameOperator, OtherOperator, OrOperator, XorOperator, AndOperator, operator_level, table_of, Tree, Inverse, Two, depth, formula_of, has_large_table}
@@ -15,9 +15,9 @@ use Rattle.truth_tables.specs.declared.part.Part.TheVariants.{Const as ConstPart
 use Rattle.truth_tables.specs.declared.stop.Stop.{Stop}
 use Rattle.truth_tables.specs.declared.stop.Stop.TheVariants.{Form, Excess, Memory}
 use Rattle.truth_tables.specs.declared.reader.OpenPart.{OpenPart}
-use Rattle.truth_tables.specs.declared.reader.OpenPart.TheVariants.{Not, Operator, Bracket, First2 as KeptFirst2, Second2 as KeptSecond2, First3 as KeptFirst3, Second3 as KeptSecond3, Third3 as KeptThird3}
+use Rattle.truth_tables.specs.declared.reader.OpenPart.TheVariants.{Not, Operator}
 use Rattle.truth_tables.proofs.ShapeLemmas.{swap}
-use Rattle.truth_tables.proofs.TopLemmas.{top_first, NotOnTop, not_on_top, OperatorOnTop, operator_on_top}
+use Rattle.truth_tables.proofs.TopLemmas.{top_first, not_on_top, operator_on_top}
 
 -- ---- a part more
 

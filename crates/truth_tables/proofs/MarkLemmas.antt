@@ -1,16 +1,16 @@
 -- What comes of a mark behind an operand, of any word more, and of the end.
-use Rattle.std.proofs.Common.{◌≡◌, ℕ, ◌<◌, ◌≤◌, ◌||◌, false, List, [], ◌∷◌, reverse, map, length, Option, Some, None, IfSome, refl, sym, ap, ◌∙◌, subst, arith, inl}
-use Rattle.std.proofs.lemmas.List.{length-map, length-reverse}
+use Rattle.std.proofs.Common.{◌≡◌, ℕ, ◌<◌, ◌≤◌, List, [], ◌∷◌, reverse, length, Option, Some, None, IfSome, refl, sym, ap, ◌∙◌, subst, arith, inl}
+use Rattle.std.proofs.lemmas.List.{length-reverse}
 use Rattle.std.specs.Prelude.{Result, Ok, Err}
 use Rattle.wpds_port.specs.declared.Mark.{Mark}
-use Rattle.wpds_port.specs.declared.Mark.TheVariants.{Arrow, Implies, Becomes, Differs, Colon, Semicolon, Comma, Dot, Star, Plus, Minus, Equal, Question, Not, And, Or, Xor, Open, Close, OpenBrace, CloseBrace}
+use Rattle.wpds_port.specs.declared.Mark.TheVariants.{Implies, Differs, Comma, Equal, Not, And, Or, Xor, Open, Close}
 use Rattle.wpds_port.specs.declared.Word.{Word}
-use Rattle.wpds_port.specs.declared.Word.TheVariants.{Name, Number, Mark as Sign}
+use Rattle.wpds_port.specs.declared.Word.TheVariants.{Number, Mark as Sign}
 use Rattle.truth_tables.specs.Formulas.{Formula}
 use Rattle.truth_tables.specs.Grammar.{Operator as OperatorValue, ThenOperator, SameOperator, OtherOperator, OrOperator, XorOperator, AndOperator, least_left, Tree, depth, has_large_table}
-use Rattle.truth_tables.specs.Stacks.{operator_of, Pending, AfterOperator, Reading, Wants, Word2, Word3, Number2, Number3, Has, joined, after_operator, at_comma, at_close, behind_operand, next_reading, alone, at_end}
+use Rattle.truth_tables.specs.Stacks.{operator_of, Pending, AfterOperator, Reading, Wants, Word2, Word3, Number2, Number3, Has, joined, at_comma, at_close, behind_operand, next_reading, alone, at_end}
 use Rattle.truth_tables.specs.private.Depths.{least, least_of}
-use Rattle.truth_tables.specs.private.Kept.{kept, HasOperand, IsAt, IsExcess, IsJoined, IsJoining, IsStep, IsOpening, IsBracketed, IsStepping, IsBehind, IsEnd, IsEnding, with_operator}
+use Rattle.truth_tables.specs.private.Kept.{HasOperand, IsJoined, IsJoining, IsStep, IsOpening, IsBracketed, IsStepping, IsBehind, IsEnd, IsEnding, with_operator}
 use Rattle.truth_tables.specs.declared.stop.Stop.{Stop}
 use Rattle.truth_tables.specs.declared.stop.Stop.TheVariants.{Form, Excess, Memory}
 use Rattle.truth_tables.specs.declared.reader.OpenPart.{OpenPart}

@@ -1,29 +1,27 @@
 -- What comes of a word more.
-use Rattle.std.proofs.Common.{◌≡◌, ℕ, ◌+◌, ◌<◌, ◌≤◌, ◌⊎◌, Bool, true, false, not, ◌&&◌, ◌||◌, cond, List, [], ◌∷◌, ◌++◌, reverse, map, length, Option, Some, None, IfSome, option_map, refl, sym, ap, ap₂, ◌∙◌, subst, arith, inl, inr}
+use Rattle.std.proofs.Common.{◌≡◌, ℕ, ◌+◌, ◌<◌, ◌≤◌, Bool, true, false, not, ◌||◌, cond, List, [], ◌∷◌, ◌++◌, reverse, map, length, Option, Some, None, option_map, refl, sym, ap, ap₂, ◌∙◌, subst, arith, inl, inr}
 use Rattle.std.proofs.lemmas.List.{length-map, length-reverse}
-use Rattle.std.proofs.lemmas.Bool.{le-leb, lt-leb, lt-ltb, le-ltb, leb-true, leb-false, ltb-true, ltb-false, or_parts}
-use Rattle.std.specs.Prelude.{Result, Ok, Err, max, nat_lt, nat_le, codes, bytes_eq, if◌then◌else◌}
+use Rattle.std.proofs.lemmas.Bool.{lt-ltb, le-ltb, leb-true, leb-false, ltb-true, ltb-false, or_parts}
+use Rattle.std.specs.Prelude.{Result, Ok, Err, max, nat_lt, nat_le, codes, bytes_eq}
 use Rattle.wpds_base.specs.Limits.{most_table2, most_table3}
-use Rattle.wpds_port.specs.declared.Mark.{Mark}
-use Rattle.wpds_port.specs.declared.Mark.TheVariants.{Arrow, Implies, Becomes, Differs, Colon, Semicolon, Comma, Dot, Star, Plus, Minus, Equal, Question, Not as NotMark, And, Or, Xor, Open, Close, OpenBrace, CloseBrace}
-use Rattle.wpds_port.specs.declared.Word.{Word}
+use Rattle.wpds_port.specs.declared.Mark.TheVariants.{Not as NotMark, Open}
 use Rattle.wpds_port.specs.declared.Word.TheVariants.{Name, Number, Mark as Sign}
-use Rattle.truth_tables.specs.Formulas.{Formula, Constant as ConstantFormula, Variable as VariableFormula, Binary, Ternary}
-use Rattle.truth_tables.specs.Grammar.{Operator as OperatorValue, ThenOperator, SameOperator, OtherOperator, OrOperator, XorOperator, AndOperator, least_left, Tree, Constant, Variable, Bracket, Table2, Table3, depth, formula_of, number_of, has_large_table, is_variable_word}
+use Rattle.truth_tables.specs.Formulas.{Formula, Binary, Ternary}
+use Rattle.truth_tables.specs.Grammar.{Tree, Constant, Variable, Bracket, Table2, Table3, depth, formula_of, number_of, has_large_table, is_variable_word}
 use Rattle.truth_tables.specs.Postfix.{taken}
-use Rattle.truth_tables.specs.Stacks.{constant_of, operator_of, Pending, AfterNot, AfterOperator, InBracket, First2, Second2, First3, Second3, Third3, Reading, Wants, Word2, Word3, Number2, Number3, Has, joined, after_operator, at_comma, at_close, behind_operand, at_name, next_reading, alone, at_end}
-use Rattle.truth_tables.specs.private.Depths.{least, least_of}
-use Rattle.truth_tables.specs.private.Shapes.{has_large, large_in}
-use Rattle.truth_tables.specs.private.Kept.{kept, held, AreNamed, IsPlaceOf, IsOpen, HasOperand, IsAt, IsExcess, IsMade, IsJoined, IsJoining, IsStep, IsOpening, IsStepping, IsBehind, IsEnd, IsEnding, behind_made, counted2, counted3}
+use Rattle.truth_tables.specs.Stacks.{constant_of, Pending, AfterNot, AfterOperator, InBracket, First2, Second2, First3, Second3, Third3, Reading, Wants, Word2, Word3, Number2, Number3, Has, at_comma, at_close, at_name, next_reading}
+use Rattle.truth_tables.specs.private.Depths.{least}
+use Rattle.truth_tables.specs.private.Shapes.{has_large}
+use Rattle.truth_tables.specs.private.Kept.{kept, held, AreNamed, HasOperand, IsAt, IsMade, IsStep, IsOpening, IsStepping, IsBehind, behind_made, counted2, counted3}
 use Rattle.truth_tables.specs.declared.part.Part.{Part}
 use Rattle.truth_tables.specs.declared.part.Part.TheVariants.{Const as ConstPart, Var as VarPart, Two as TwoPart, Three as ThreePart}
 use Rattle.truth_tables.specs.declared.stop.Stop.{Stop}
 use Rattle.truth_tables.specs.declared.stop.Stop.TheVariants.{Form, Excess, Memory}
 use Rattle.truth_tables.specs.declared.reader.OpenPart.{OpenPart}
-use Rattle.truth_tables.specs.declared.reader.OpenPart.TheVariants.{Not, Operator, Bracket as KeptBracket, First2 as KeptFirst2, Second2 as KeptSecond2, First3 as KeptFirst3, Second3 as KeptSecond3, Third3 as KeptThird3}
+use Rattle.truth_tables.specs.declared.reader.OpenPart.TheVariants.{Not, Bracket as KeptBracket, First2 as KeptFirst2, Second2 as KeptSecond2, First3 as KeptFirst3, Second3 as KeptSecond3, Third3 as KeptThird3}
 use Rattle.truth_tables.specs.declared.reader.Position.{Position}
-use Rattle.truth_tables.specs.declared.reader.Position.TheVariants.{Wanted, Behind2, Behind3, Counted2, Counted3, Behind}
-use Rattle.truth_tables.proofs.DepthLemmas.{one_each, mark_more}
+use Rattle.truth_tables.specs.declared.reader.Position.TheVariants.{Wanted, Behind2, Behind3, Counted2, Counted3}
+use Rattle.truth_tables.proofs.DepthLemmas.{one_each}
 use Rattle.truth_tables.proofs.ShapeLemmas.{swap_two, swap_three}
 use Rattle.truth_tables.proofs.TopLemmas.{top_first, bracket_on_top, first2_on_top, second2_on_top, first3_on_top, second3_on_top, third3_on_top}
 use Rattle.truth_tables.proofs.KeptLemmas.{constant_named, variable_named, binary_named, ternary_named, at_least}
@@ -36,7 +34,7 @@ pub opens : (limit : ℕ) (names : List (List ℕ)) (old now : List OpenPart) (f
     → IsStep limit names (Some (Wants (p ∷ ps))) result now gs
 opens limit names old now fs gs p ps (Ok q) same opened built small h =
     let at : IsAt limit names (Wants (p ∷ ps)) Wanted now gs =
-        (p ∷ ps, refl, record { opened = ap (λ xs. kept p ∷ xs) opened ∙ sym (top_first now old (kept p) h.1); built = subst (AreNamed names (held (p ∷ ps))) (sym same) built; small = small }) in
+    (p ∷ ps, refl, record { opened = ap (λ xs. kept p ∷ xs) opened ∙ sym (top_first now old (kept p) h.1); built = subst (AreNamed names (held (p ∷ ps))) (sym same) built; small = small }) in
     (Wants (p ∷ ps), refl, subst (λ x. IsAt limit names (Wants (p ∷ ps)) x now gs) (sym h.0) at)
 opens limit names old now fs gs p ps (Err Excess) same opened built small h =
     let long : length ps ≡ length old = sym (length-map ps kept) ∙ ap length opened ∙ length-reverse old in
@@ -78,7 +76,7 @@ makes : (limit : ℕ) (names : List (List ℕ)) (now : List OpenPart) (fs gs : L
     → IsStep limit names (Some (Has ps e)) (behind_made made) now gs
 makes limit names now fs gs ps e below p (Ok d) opened deep small built h =
     let at : HasOperand limit names ps e now gs d =
-        record { opened = opened; built = subst (AreNamed names (formula_of e ∷ held ps)) (sym h.2) built; small = small; depth_is = omega (arith, h.0, deep); shallow = omega (arith, h.0, h.1) } in
+    record { opened = opened; built = subst (AreNamed names (formula_of e ∷ held ps)) (sym h.2) built; small = small; depth_is = omega (arith, h.0, deep); shallow = omega (arith, h.0, h.1) } in
     (Has ps e, refl, (ps, e, refl, at))
 makes limit names now fs gs ps e below p (Err Excess) opened deep small built h =
     let more : limit < least ps (depth e) = omega (arith, h, deep, at_least ps (depth e)) in
@@ -97,7 +95,7 @@ encloses limit names now fs ps e d made opened deep small built is =
     go : (t : Bool) → nat_lt d limit ≡ t → IsStep limit names (Some (Has ps (Bracket e))) (behind_made (cond t (Ok (d + 1)) (Err Excess))) now fs
     go true is =
         let at : HasOperand limit names ps (Bracket e) now fs (d + 1) =
-            record { opened = opened; built = built; small = small; depth_is = omega (arith, deep); shallow = omega (arith, ltb-true d limit is) } in
+        record { opened = opened; built = built; small = small; depth_is = omega (arith, deep); shallow = omega (arith, ltb-true d limit is) } in
         (Has ps (Bracket e), refl, (ps, Bracket e, refl, at))
     go false is =
         let more : limit < least ps (depth e + 1) = omega (arith, ltb-false d limit is, deep, at_least ps (depth e + 1)) in
@@ -117,14 +115,14 @@ module _ (limit place : ℕ) (old : List OpenPart) (fs : List (Formula ℕ)) (x 
   pub name_table2 : bytes_eq x (codes "return") ≡ false → bytes_eq x (codes "tab2") ≡ true → IsStepping limit Wanted (Name x) place old fs (Ok Behind2) old fs
   name_table2 h i names r at told =
       let is : at_name at.0 x ≡ Some (Word2 at.0) =
-          ap (λ b. reads b (bytes_eq x (codes "tab2")) (bytes_eq x (codes "tab3")) at.0) h ∙ ap (λ b. reads false b (bytes_eq x (codes "tab3")) at.0) i in
+      ap (λ b. reads b (bytes_eq x (codes "tab2")) (bytes_eq x (codes "tab3")) at.0) h ∙ ap (λ b. reads false b (bytes_eq x (codes "tab3")) at.0) i in
       (Word2 at.0, ap (λ y. next_reading y (Name x)) at.1 ∙ is, (at.0, refl, at.2))
 
   pub name_table3 : bytes_eq x (codes "return") ≡ false → bytes_eq x (codes "tab2") ≡ false → bytes_eq x (codes "tab3") ≡ true → IsStepping limit Wanted (Name x) place old fs (Ok Behind3) old fs
   name_table3 h i j names r at told =
       let is : at_name at.0 x ≡ Some (Word3 at.0) =
-          ap (λ b. reads b (bytes_eq x (codes "tab2")) (bytes_eq x (codes "tab3")) at.0) h ∙ ap (λ b. reads false b (bytes_eq x (codes "tab3")) at.0) i
-          ∙ ap (λ b. reads false false b at.0) j in
+      ap (λ b. reads b (bytes_eq x (codes "tab2")) (bytes_eq x (codes "tab3")) at.0) h ∙ ap (λ b. reads false b (bytes_eq x (codes "tab3")) at.0) i
+      ∙ ap (λ b. reads false false b at.0) j in
       (Word3 at.0, ap (λ y. next_reading y (Name x)) at.1 ∙ is, (at.0, refl, at.2))
 
   pub name_variable : (gs : List (Formula ℕ)) (made : Result ℕ Stop) (result : Result Position Stop)
@@ -132,8 +130,8 @@ module _ (limit place : ℕ) (old : List OpenPart) (fs : List (Formula ℕ)) (x 
       → IsMade limit 0 (VarPart place) fs made gs → result ≡ behind_made made → IsStepping limit Wanted (Name x) place old fs result old gs
   name_variable gs made result h i j m so names r at told =
       let is : at_name at.0 x ≡ Some (Has at.0 (Variable x)) =
-          ap (λ b. reads b (bytes_eq x (codes "tab2")) (bytes_eq x (codes "tab3")) at.0) h ∙ ap (λ b. reads false b (bytes_eq x (codes "tab3")) at.0) i
-          ∙ ap (λ b. reads false false b at.0) j in
+      ap (λ b. reads b (bytes_eq x (codes "tab2")) (bytes_eq x (codes "tab3")) at.0) h ∙ ap (λ b. reads false b (bytes_eq x (codes "tab3")) at.0) i
+      ∙ ap (λ b. reads false false b at.0) j in
       let variable : is_variable_word (Name x) ≡ true = ap (λ b. not (b || bytes_eq x (codes "tab3"))) i ∙ ap not j in
       let step = makes limit names old fs gs at.0 (Variable x) 0 (VarPart place) made at.2.opened refl at.2.small (variable_named names place x (held at.0) fs (told variable) at.2.built) m in
       subst (λ y. IsStep limit names y result old gs) (sym (ap (λ y. next_reading y (Name x)) at.1 ∙ is))
@@ -275,9 +273,9 @@ close_second2 limit old rest fs gs d t c made result h m so names qs e k =
     let small = small_table n t top.4 (or_parts (nat_lt most_table2 (number_of n)) (has_large ps) parts.1).0 in
     let built = binary_named names t (formula_of a) (formula_of e) (held ps) fs small has.built in
     let step =
-        makes limit names rest fs gs ps (Table2 n a e) (max c d) (TwoPart t) made top.6 (ap₂ (λ x y. max x y + 1) (sym top.5) (sym has.depth_is))
-        (swap_two (nat_lt most_table2 (number_of n)) (has_large_table a) (has_large_table e) (has_large ps) ∙ has.small)
-        (subst (λ x. AreNamed names (Binary x (formula_of a) (formula_of e) ∷ held ps) (taken (TwoPart t) fs)) top.4 built) m
+    makes limit names rest fs gs ps (Table2 n a e) (max c d) (TwoPart t) made top.6 (ap₂ (λ x y. max x y + 1) (sym top.5) (sym has.depth_is))
+    (swap_two (nat_lt most_table2 (number_of n)) (has_large_table a) (has_large_table e) (has_large ps) ∙ has.small)
+    (subst (λ x. AreNamed names (Binary x (formula_of a) (formula_of e) ∷ held ps) (taken (TwoPart t) fs)) top.4 built) m
     in
     subst (λ x. IsStep limit names (at_close x e) result rest gs) (sym top.3)
     (subst (λ y. IsStep limit names (Some (Has ps (Table2 n a e))) y rest gs) (sym so) step)
@@ -293,11 +291,11 @@ close_third3 limit old rest fs gs d t b c made result h m so names qs e k =
     let has = subst (λ x. HasOperand limit names x e old fs d) top.4 k in
     let built = ternary_named names t (formula_of f) (formula_of g) (formula_of e) (held ps) fs has.built in
     let deep : depth (Table3 n f g e) ≡ max b (max c d) + 1 =
-        ap₂ (λ x y. max x (max y (depth e)) + 1) (sym top.6) (sym top.7) ∙ ap (λ x. max b (max c x) + 1) (sym has.depth_is) in
+    ap₂ (λ x y. max x (max y (depth e)) + 1) (sym top.6) (sym top.7) ∙ ap (λ x. max b (max c x) + 1) (sym has.depth_is) in
     let step =
-        makes limit names rest fs gs ps (Table3 n f g e) (max b (max c d)) (ThreePart t) made top.8 deep
-        (swap_three (nat_lt most_table3 (number_of n)) (has_large_table f) (has_large_table g) (has_large_table e) (has_large ps) ∙ has.small)
-        (subst (λ x. AreNamed names (Ternary x (formula_of f) (formula_of g) (formula_of e) ∷ held ps) (taken (ThreePart t) fs)) top.5 built) m
+    makes limit names rest fs gs ps (Table3 n f g e) (max b (max c d)) (ThreePart t) made top.8 deep
+    (swap_three (nat_lt most_table3 (number_of n)) (has_large_table f) (has_large_table g) (has_large_table e) (has_large ps) ∙ has.small)
+    (subst (λ x. AreNamed names (Ternary x (formula_of f) (formula_of g) (formula_of e) ∷ held ps) (taken (ThreePart t) fs)) top.5 built) m
     in
     subst (λ x. IsStep limit names (at_close x e) result rest gs) (sym top.4)
     (subst (λ y. IsStep limit names (Some (Has ps (Table3 n f g e))) y rest gs) (sym so) step)

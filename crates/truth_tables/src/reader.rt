@@ -141,7 +141,12 @@ impl Reader {
                         self.pending.push(top)?;
                         return Ok(joined);
                     }
-                    joined = put(&mut self.parts, limit, left.max(joined), Part::Two(operator.table()))?;
+                    joined = put(
+                        &mut self.parts,
+                        limit,
+                        left.max(joined),
+                        Part::Two(operator.table()),
+                    )?;
                 }
                 other => {
                     self.pending.push(other)?;
@@ -255,7 +260,12 @@ impl Reader {
                 behind(put(&mut self.parts, limit, a.max(depth), Part::Two(table)))
             }
             OpenPart::Third3(table, a, b) => {
-                behind(put(&mut self.parts, limit, a.max(b.max(depth)), Part::Three(table)))
+                behind(put(
+                    &mut self.parts,
+                    limit,
+                    a.max(b.max(depth)),
+                    Part::Three(table),
+                ))
             }
             _ => Err(Stop::Form),
         }
@@ -314,7 +324,9 @@ impl Reader {
             (Position::Counted3(number), Lexeme::Mark(mark)) => {
                 self.at_bracket(limit, OpenPart::First3(number), mark)
             }
-            (Position::Behind(depth), Lexeme::Mark(mark)) => self.behind_operand(limit, depth, mark),
+            (Position::Behind(depth), Lexeme::Mark(mark)) => self.behind_operand(
+                limit, depth, mark,
+            ),
             _ => Err(Stop::Form),
         }
     }

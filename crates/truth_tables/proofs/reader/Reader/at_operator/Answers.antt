@@ -1,7 +1,6 @@
 use Rattle.std.proofs.Common.{◌≡◌, Err, sym, subst}
 use Rattle.std.specs.Prelude.{Result, Ok}
 use Rattle.std.proofs.lemmas.Result.{err_from_is_err_and}
-use Rattle.truth_tables.specs.Grammar.{least_left}
 use Rattle.truth_tables.specs.private.Kept.{IsBehind, IsJoining, with_operator}
 use Rattle.truth_tables.specs.declared.stop.Stop.{Stop}
 use Rattle.truth_tables.specs.declared.reader.Position.{Position}

@@ -1,12 +1,11 @@
-use Rattle.std.proofs.Common.{◌≡◌, ◌≤◌, ◌<◌, ℕ, List, [], ◌∷◌, ◌++◌, Err, Ok, sym, subst, ◌∙◌, arith}
-use Rattle.std.specs.Prelude.{max, Result}
+use Rattle.std.proofs.Common.{◌≡◌, ℕ, [], ◌∷◌, ◌++◌, Err, Ok, sym, subst, ◌∙◌, arith}
+use Rattle.std.specs.Prelude.{Result}
 use Rattle.std.proofs.lemmas.List.{nil_from_length}
 use Rattle.std.proofs.lemmas.Result.{err_from_is_err_and}
-use Rattle.truth_tables.specs.Grammar.{operator_level, table_of}
+use Rattle.truth_tables.specs.Grammar.{table_of}
 use Rattle.truth_tables.specs.private.Kept.{IsMade, IsJoining}
 use Rattle.truth_tables.specs.declared.part.Part.TheVariants.{Two as TwoPart}
 use Rattle.truth_tables.specs.declared.stop.Stop.{Stop}
-use Rattle.truth_tables.specs.declared.reader.OpenPart.TheVariants.{Not, Operator}
 use Rattle.truth_tables.proofs.KeptLemmas.{IsOther, not_more, not_stops, operator_more, operator_stops, operator_less, other_stays, empty_stays}
 use Rattle.truth_tables.proofs.reader.Reader.join.Goals as goal
 
@@ -53,8 +52,8 @@ returns-in_err-joined-in-Operator c =
     let s = c.in_err-joined-in-Operator.field-0.0 in
     let same : result ≡ Err s = cc (p.1, p.2) in
     let made =
-        subst (λ x. IsMade c.args.limit x (TwoPart (table_of c.in-Operator.operator)) now.parts (Err s) put) c.max.ensures
-        (subst (λ x. IsMade c.args.limit c.max.result (TwoPart x) now.parts (Err s) put) c.table.ensures c.in_err-joined-in-Operator.ensures)
+    subst (λ x. IsMade c.args.limit x (TwoPart (table_of c.in-Operator.operator)) now.parts (Err s) put) c.max.ensures
+    (subst (λ x. IsMade c.args.limit c.max.result (TwoPart x) now.parts (Err s) put) c.table.ensures c.in_err-joined-in-Operator.ensures)
     in
     subst (λ (r : Result ℕ Stop). IsJoining c.args.limit c.args.level old.pending.items old.parts c.args.operand r rest put) (sym same)
     (operator_stops c.args.limit c.args.level old.pending.items old.parts c.args.operand now.pending.items rest now.parts c.loop-top.joined c.loop-top.invariant
@@ -69,8 +68,8 @@ loop-top-preserved c =
     let more = c.in_ok-joined-in-Operator.joined in
     let top = subst (λ p. now.pending.items ≡ rest ++ p ∷ []) c.in-Operator.is c.in-Some.ensures.items in
     let made =
-        subst (λ x. IsMade c.args.limit x (TwoPart (table_of c.in-Operator.operator)) now.parts (Ok more) put) c.max.ensures
-        (subst (λ x. IsMade c.args.limit c.max.result (TwoPart x) now.parts (Ok more) put) c.table.ensures c.in_ok-joined-in-Operator.ensures)
+    subst (λ x. IsMade c.args.limit x (TwoPart (table_of c.in-Operator.operator)) now.parts (Ok more) put) c.max.ensures
+    (subst (λ x. IsMade c.args.limit c.max.result (TwoPart x) now.parts (Ok more) put) c.table.ensures c.in_ok-joined-in-Operator.ensures)
     in
     operator_more c.args.limit c.args.level old.pending.items old.parts c.args.operand now.pending.items rest now.parts c.loop-top.joined c.loop-top.invariant
     c.in-Operator.operator c.in-Operator.left more put top (omega (arith, c.level.ensures, c.if-level.false)) made
