@@ -42,3 +42,11 @@ formula (Var k) = Variable k
 formula (Not' p e) = Opposite (formula e)
 formula (Two' t p e q f) = Binary t (formula e) (formula f)
 formula (Three' t p e q f r g) = Ternary t (formula e) (formula f) (formula g)
+
+-- with each variable by another name
+abbrev pub renamed : {V W : Type 0} → (V → W) → Formula V → Formula W
+renamed r (Constant b) = Constant b
+renamed r (Variable x) = Variable (r x)
+renamed r (Opposite f) = Opposite (renamed r f)
+renamed r (Binary t f g) = Binary t (renamed r f) (renamed r g)
+renamed r (Ternary t f g h) = Ternary t (renamed r f) (renamed r g) (renamed r h)

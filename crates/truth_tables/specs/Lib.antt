@@ -1,7 +1,8 @@
+pub mod FormulaCodes
 pub mod Formulas
 pub mod Grammar
 pub mod Machine
-pub mod Operands
+pub mod Postfix
 pub mod Stacks
 pub mod Tables
 pub mod Texts

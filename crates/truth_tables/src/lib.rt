@@ -4,13 +4,14 @@
 mod expr;
 mod instances;
 mod laws;
-mod operand;
+mod numbers;
 mod operator;
-mod raw;
+mod part;
+mod postfix;
+mod reader;
 mod reading;
 mod shape;
-mod stack;
-mod steps;
+mod stop;
 mod tables;
 mod variables;
 
@@ -18,7 +19,8 @@ pub use expr::{Expr, eval};
 pub use instances::{instance2, instance3};
 pub use laws::{one_making, one_tree, variables_among_words};
 pub use operator::Operator;
-pub use raw::RawExpr;
+pub use part::Part;
+pub use postfix::Postfix;
 pub use reading::{ExprRead, read_expr};
 pub use tables::{Table2, Table3, value2, value3};
 pub use variables::is_variable;
