@@ -97,4 +97,4 @@ returns g c =
     let over = subst (λ (v : Nodes). IsListedOver (record { graph = v; nodes = c.rounds.sum.nodes.nodes }) answer c.in_ok-listing.listing) c.rounds.invariant.1 c.in_ok-listing.ensures in
     let listing = subst (λ sd. IsListingOf sd c.args.graph.now.nodes over.0 answer c.in_ok-listing.listing) c.requires.side over.2 in
     answer_sums g.S.Semiring.laws valid c.requires.automaton sums c.args.pattern.now c.requires.pattern
-    (state_of c.rounds.sum) c.rounds.invariant.0 c.in_default.ensures (record { value = c.in_ok-value.value; listing = c.in_ok-listing.listing }) value over.0 over.1 listing
+    (state_of c.rounds.sum) c.rounds.invariant.0 c.in_default.ensures.place (record { value = c.in_ok-value.value; listing = c.in_ok-listing.listing }) value over.0 over.1 listing
