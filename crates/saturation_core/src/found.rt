@@ -11,8 +11,8 @@ ghost use Rattle.saturation_core.specs.private.Plans.{put, put_all, AreNodesFrom
 ghost use Rattle.saturation_core.specs.private.Steps.{Becomes, IsKept, HasRoomFor, rule_change};
 
 use crate::change::{node_now, queue_up, weight_after, weight_now};
-use crate::plan::{Planned, goals};
 use crate::place_queue::PlaceQueue;
+use crate::plan::{Planned, goals};
 use pushdown_rules::System;
 use semiring_laws::Semiring;
 use std::alloc::Global;
