@@ -1,2 +1,2 @@
 mod FitLemmas
-mod PassLemmas
+mod RowLemmas

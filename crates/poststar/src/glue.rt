@@ -1,4 +1,6 @@
-ghost use Rattle.std.specs.Prelude.{◌≡◌, ◌++◌, IfOk, OnOk};
+ghost use Rattle.std.specs.Prelude.{◌≡◌, ◌+◌, ◌++◌, Some, IfOk, OnOk};
+ghost use Rattle.key_rows.specs.Rows.{index_where, index_from};
+ghost use Rattle.poststar.specs.private.Meetings.{may_glue};
 ghost use Rattle.std.specs.List.{flat_map};
 ghost use Rattle.semiring_laws.specs.Semiring.{Fits};
 ghost use Rattle.direction_parts.specs.Places.{reads_symbol};
@@ -93,7 +95,31 @@ fn list_glue<S: Semiring>(
     list_if_glued(alloc, semiring, other, taken, jobs)
 }
 
-/// Adds the jobs of a transition and each of these.
+// Where the first transition stands that may meet one at a place.
+fn first_glued<S: Semiring>(transitions: &Transitions<S>, place: Place) -> Option<u64>
+    ensures { result ≡ index_where (may_glue place) transitions.now.transitions }
+{
+    if reads_symbol(place.label) {
+        transitions.first_empty_into(place.from)
+    } else {
+        transitions.first_out_of(place.to)
+    }
+}
+
+// Where the next stands behind one of them.
+fn next_glued<S: Semiring>(transitions: &Transitions<S>, place: Place, i: u64) -> Option<u64>
+    ensures { let ts = transitions.now.transitions in
+        let test = may_glue place in
+        index_from test i ts ≡ Some i → result ≡ index_from test (i + 1) ts }
+{
+    if reads_symbol(place.label) {
+        transitions.next_empty_into(i)
+    } else {
+        transitions.next_out_of(i)
+    }
+}
+
+/// Adds the jobs of a transition and each that it may meet, in their order.
 pub(crate) fn list_glues<S: Semiring>(
     alloc: Global,
     semiring: &S,
@@ -106,8 +132,10 @@ pub(crate) fn list_glues<S: Semiring>(
     ensures { let more = flat_map (glue_jobs taken.now) transitions.now.transitions in
         OnOk result (jobs.new.items ≡ jobs.old.items ++ more) }
 {
-    for i in 0..transitions.len() {
+    let mut at = first_glued(transitions, taken.place);
+    'partners: while let Some(i) = at {
         list_glue(alloc, semiring, taken, transitions.entry(i), jobs)?;
+        at = next_glued(transitions, taken.place, i);
     }
     Ok(())
 }

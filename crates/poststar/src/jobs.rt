@@ -8,16 +8,16 @@ ghost use Rattle.poststar.specs.private.Passes.{kind_of, IsBase};
 
 use crate::drawing::list_rule;
 use crate::glue::list_glues;
-use crate::middles::{frame_of, pushes_of};
+use crate::middles::{frame_of, middle_of};
 use crate::pass::Pass;
 use pushdown_rules::System;
 use saturation_laws::Job;
 use semiring_laws::Semiring;
 use std::alloc::Global;
-use weighted_automata::{Entry, Transitions};
+use weighted_automata::{Entry, Label, Transitions};
 use wpds_base::OutOfMemory;
 
-// Adds the jobs of one kind. The push rule is given of which the transition leads to the middle.
+// Adds the jobs of one kind, by the rules that fire where the transition begins. The push rule is given of which the transition leads to the middle.
 fn list_rules<S: Semiring>(
     alloc: Global,
     system: &System<S>,
@@ -33,9 +33,12 @@ fn list_rules<S: Semiring>(
     ensures { let more = kind_jobs base system.now (kind_of pass) taken.now in
         OnOk result (jobs.new.items ≡ jobs.old.items ++ more) }
 {
-    let mut middle = base;
-    for k in 0..system.rules() {
-        let rule = system.rule(k);
+    let Label::Symbol(symbol) = taken.place.label else {
+        return Ok(());
+    };
+    let mut at = system.first_with_head(taken.place.from, symbol);
+    'rules: while let Some(k) = at {
+        let middle = middle_of(system, base, k);
         list_rule(
             alloc,
             system.semiring(),
@@ -43,11 +46,11 @@ fn list_rules<S: Semiring>(
             frame,
             middle,
             k,
-            rule,
+            system.rule(k),
             taken,
             jobs,
         )?;
-        middle += pushes_of(rule);
+        at = system.next_with_head(k);
     }
     Ok(())
 }

@@ -1,40 +1,31 @@
-ghost use Rattle.std.specs.Prelude.{◌≡◌, ◌≤◌, ◌&&◌, nat_eq};
-ghost use Rattle.poststar_laws.specs.Middles.{is_push, pushes_of, frame_of};
+ghost use Rattle.std.specs.Prelude.{◌≡◌, ◌≤◌, Some, slice_get, IsTrue};
+ghost use Rattle.pushdown_rules.specs.declared.rule.Rule.{Rule as RuleValue};
+ghost use Rattle.poststar_laws.specs.Middles.{is_push, frame_of, middle_of};
 ghost use Rattle.poststar.specs.private.Passes.{IsBase};
 
-use pushdown_rules::{Rule, System};
+use pushdown_rules::System;
 use semiring_laws::Semiring;
 
-/// How many middle states a rule has: one, if it is a push rule.
-pub(crate) fn pushes_of<S: Semiring>(rule: &Rule<S>) -> u32
-    ensures value { result ≡ pushes_of rule.now }
-    ensures most { result ≤ 1 }
-{
-    if rule.right.len() == 2 {
-        return 1;
-    }
-    0
-}
-
-// Whether a rule, whose middle state would be `middle`, is a push rule of which a state is the middle.
-fn has_middle<S: Semiring>(rule: &Rule<S>, middle: u32, state: u32) -> bool
-    ensures { result ≡ (is_push rule.now && nat_eq state middle) }
-{
-    rule.right.len() == 2 && state == middle
-}
-
-/// The number of the push rule of which a state is the middle, if it is one. Its time is that of the rules.
+/// The number of the push rule of which a state is the middle, if it is one.
 pub(crate) fn frame_of<S: Semiring>(system: &System<S>, base: u32, state: u32) -> Option<u32>
-    requires { IsBase base }
     ensures { result ≡ frame_of base system.now.rules state }
 {
-    let mut middle = base;
-    for k in 0..system.rules() {
-        let rule = system.rule(k);
-        if has_middle(rule, middle, state) {
-            return Some(k);
-        }
-        middle += pushes_of(rule);
+    if state < base {
+        return None;
     }
-    None
+    system.push_rule(state - base)
+}
+
+/// The middle state of a push rule.
+pub(crate) fn middle_of<S: Semiring>(system: &System<S>, base: u32, k: u32) -> u32
+    requires { IsBase base }
+    ensures { (r : RuleValue S S.W S.Ret) → slice_get system.now.rules k ≡ Some r
+        → IsTrue (is_push r) → result ≡ middle_of base system.now.rules k }
+{
+    // the rules are few
+    let _count = system.rules();
+    let Some(number) = system.push_number(k) else {
+        return base;
+    };
+    base + number
 }

@@ -30,7 +30,7 @@ impl<S: Semiring> Direction<S> for Post {
         Side::Post
     }
 
-    /// Its time is that of the rules, and of the transitions.
+    /// Its time is that of the rules and the transitions that it meets.
     fn jobs(
         &self,
         alloc: Global,

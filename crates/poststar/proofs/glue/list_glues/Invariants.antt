@@ -1,8 +1,15 @@
-use Rattle.std.proofs.Common.{◌≡◌, ◌++◌, drop}
-use Rattle.std.specs.List.{flat_map}
+use Rattle.std.proofs.Common.{◌++◌, length}
+use Rattle.pushdown_rules.proofs.CallerLemmas.{by_number}
+use Rattle.direction_parts.proofs.CallerLemmas.{IsPass, to_go}
 use Rattle.poststar_laws.specs.Jobs.{glue_jobs}
+use Rattle.poststar.specs.private.Meetings.{may_glue}
 use Rattle.poststar.proofs.glue.list_glues.Given as goal
 
-abbrev pub invariant-loop-i : goal.invariant-loop-i
-invariant-loop-i g l =
-    l.jobs.items ++ flat_map (glue_jobs l.taken) (drop l.i l.transitions.transitions) ≡ l.initial.jobs.items ++ flat_map (glue_jobs l.taken) l.transitions.transitions
+abbrev pub invariant-partners : goal.invariant-partners
+invariant-partners g l =
+    let f = glue_jobs l.taken in
+    let ts = l.transitions.transitions in
+    IsPass (may_glue l.taken.place) (λ _ u. f u) ts (l.initial.jobs.items ++ by_number (λ _ u. f u) 0 ts) l.jobs.items l.at
+
+abbrev pub decreases-partners : goal.decreases-partners
+decreases-partners g l = to_go (length l.transitions.transitions) l.at

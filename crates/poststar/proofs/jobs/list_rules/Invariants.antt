@@ -1,11 +1,15 @@
-use Rattle.std.proofs.Common.{◌≡◌, ◌++◌, drop}
-use Rattle.direction_parts.specs.Passes.{by_rule}
-use Rattle.poststar_laws.specs.Middles.{middle_of}
+use Rattle.std.proofs.Common.{◌++◌, length}
+use Rattle.pushdown_rules.specs.Rows.{has_head}
+use Rattle.pushdown_rules.proofs.CallerLemmas.{by_number}
+use Rattle.direction_parts.proofs.CallerLemmas.{IsPass, to_go}
 use Rattle.poststar_laws.specs.Jobs.{of_kind}
 use Rattle.poststar.specs.private.Passes.{kind_of}
 use Rattle.poststar.proofs.jobs.list_rules.Given as goal
 
-abbrev pub invariant-loop-k : goal.invariant-loop-k
-invariant-loop-k g l =
+abbrev pub invariant-rules : goal.invariant-rules
+invariant-rules g l =
     let f = of_kind l.base l.system (kind_of l.pass) l.taken in
-    (l.middle ≡ middle_of l.base l.system.rules l.k) × (l.jobs.items ++ by_rule f l.k (drop l.k l.system.rules) ≡ l.initial.jobs.items ++ by_rule f 0 l.system.rules)
+    IsPass (has_head l.taken.place.from l.symbol) f l.system.rules (l.initial.jobs.items ++ by_number f 0 l.system.rules) l.jobs.items l.at
+
+abbrev pub decreases-rules : goal.decreases-rules
+decreases-rules g l = to_go (length l.system.rules) l.at
