@@ -1,4 +1,3 @@
-pub mod FormulaCodes
 pub mod HeldSymbols
 pub mod Lines
 pub mod Names

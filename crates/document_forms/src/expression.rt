@@ -1,46 +1,46 @@
-ghost use Rattle.std.specs.Prelude.{◌≡◌};
-ghost use Rattle.truth_tables.specs.Formulas.{formula};
+ghost use Rattle.std.specs.Prelude.{◌≡◌, false, IfOk, unwrap_or};
+ghost use Rattle.truth_tables.specs.Formulas.{Constant, formula};
+ghost use Rattle.truth_tables.specs.Postfix.{first};
 
+use std::alloc::Global;
 use std::marker::Model;
-use truth_tables::Expr;
+use truth_tables::{Expr, Postfix};
+use wpds_base::OutOfMemory;
 
 /// An expression of a document, which contracts see as its formula over numbers of variables.
+///
+/// It is kept as its parts, which take 8 bytes each.
 #[derive(Debug, Drop)]
 pub struct Expression {
-    expr: Expr,
+    parts: Postfix,
 }
 
 impl Model for Expression {
-    ghost use Rattle.std.specs.Prelude.{ℕ};
-    ghost use Rattle.truth_tables.specs.Formulas.{Formula, formula};
-    ghost use Rattle.document_forms.specs.FormulaCodes.{coded_formula};
+    ghost use Rattle.std.specs.Prelude.{ℕ, false, unwrap_or};
+    ghost use Rattle.truth_tables.specs.Formulas.{Formula, Constant};
+    ghost use Rattle.truth_tables.specs.FormulaCodes.{coded_formula};
+    ghost use Rattle.truth_tables.specs.Postfix.{first};
 
     ghost Value = { Formula ℕ };
 
     ghost coded = { coded_formula };
 
-    ghost view = { λ e. formula e.expr };
+    ghost view = { λ e. unwrap_or (first e.parts) (Constant false) };
 }
 
 impl Expression {
-    /// This expression. It takes no memory.
-    pub fn from_expr(expr: Expr) -> Expression
-        ensures { result ≡ formula expr }
+    /// The newest of these expressions, and `false` where there is none. It takes no memory.
+    pub fn from_parts(parts: Postfix) -> Expression
+        ensures { result ≡ unwrap_or (first parts) (Constant false) }
     {
-        Expression { expr }
+        Expression { parts }
     }
 
-    /// The expression, to be evaluated.
-    pub fn as_expr(&self) -> &Expr
-        ensures { formula result.now ≡ self.now }
+    /// The expression as a tree, to be evaluated or written.
+    pub fn to_expr(&self, alloc: Global) -> Result<Expr, OutOfMemory>
+        ensures { IfOk result (λ e. formula e ≡ self.now) }
     {
-        &self.expr
-    }
-
-    /// The expression, given back without memory.
-    pub fn into_expr(self) -> Expr
-        ensures { formula result ≡ self }
-    {
-        self.expr
+        let newest = self.parts.to_expr(alloc)?;
+        Ok(newest.unwrap_or(Expr::Const(false)))
     }
 }

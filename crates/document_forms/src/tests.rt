@@ -3,7 +3,7 @@ use crate::{
     SetText, Symbols, ValueText, WeightText, WeightsLine,
 };
 use std::alloc::Global;
-use truth_tables::{Expr, eval};
+use truth_tables::{Part, Postfix, eval};
 use wpds_base::{OutOfMemory, Sequence};
 use wpds_port::Text;
 
@@ -13,11 +13,18 @@ fn names(alloc: Global, name: &[u8]) -> Result<Names, OutOfMemory> {
     Ok(Sequence::from_vec(vec![in alloc; Text::of(alloc, name)?]?))
 }
 
+fn expression(alloc: Global, parts: &[Part]) -> Result<Expression, OutOfMemory> {
+    let mut built = Postfix::new(alloc);
+    for part in parts {
+        built.push(*part)?;
+    }
+    Ok(Expression::from_parts(built))
+}
+
 // `wpds 1 / weights relation / controls p / symbols a / variables x /
 // rule p a -> p a a : assume ! x return move x=x / query p: => p: .*`
 fn small(alloc: Global) -> Result<Document<Names>, OutOfMemory> {
-    let inverse = Expr::Not(Box::new(alloc, Expr::Var(0))?);
-    let assume = Action::Assume(Expression::from_expr(inverse));
+    let assume = Action::Assume(expression(alloc, &[Part::Var(0), Part::Not])?);
     let rule = RuleLine {
         control: 0,
         symbol: 0,
@@ -65,11 +72,16 @@ fn a_document_is_made(rt: HostRuntime) -> Result<(), OutOfMemory> {
 
 #[test]
 fn an_expression_is_given_back(rt: HostRuntime) -> Result<(), OutOfMemory> {
-    let value = ValueText::Is(Expression::from_expr(Expr::Const(true)));
+    let alloc = rt.alloc();
+    let value = ValueText::Is(expression(alloc, &[Part::Const(false), Part::Not])?);
     if let ValueText::Is(expression) = value {
-        assert_eq!(rt; eval(expression.as_expr(), [].as_slice()), true);
-        assert_eq!(rt; eval(&expression.into_expr(), [].as_slice()), true);
+        assert_eq!(rt; eval(&expression.to_expr(alloc)?, [].as_slice()), true);
     }
+    // Of two the newest; of none `false`.
+    let newest = expression(alloc, &[Part::Const(false), Part::Const(true)])?;
+    assert_eq!(rt; eval(&newest.to_expr(alloc)?, [].as_slice()), true);
+    let none = Expression::from_parts(Postfix::new(alloc));
+    assert_eq!(rt; eval(&none.to_expr(alloc)?, [].as_slice()), false);
     Ok(())
 }
 

@@ -63,5 +63,6 @@ pub(crate) fn push_expression(
     ensures { OnOk result (
         out.new.items ≡ out.old.items ++ expression_text names.now expression.now) }
 {
-    push_expr(out, names, expression.as_expr())
+    let expr = expression.to_expr(*out.allocator())?;
+    push_expr(out, names, &expr)
 }

@@ -1,17 +1,18 @@
 -- What reading expressions and values gives.
-use Rattle.std.specs.Prelude.{◌≡◌, IsTrue, ℕ, Bool, true, false, nat_lt, List, [], ◌∷◌, Option, None, Some, MatchOption}
+use Rattle.std.specs.Prelude.{◌≡◌, IsTrue, ℕ, Bool, true, false, nat_lt, List, [], ◌∷◌, map, filter, slice_index_or, Option, None, Some, MatchOption, unwrap_or}
 use Rattle.std.specs.List.{list_any}
 use Rattle.wpds_base.specs.Limits.{most_depth}
 use Rattle.wpds_port.specs.declared.Mark.TheVariants.{Star}
 use Rattle.wpds_port.specs.declared.Word.{Word}
 use Rattle.wpds_port.specs.declared.Word.TheVariants.{Mark as Sign}
-use Rattle.truth_tables.specs.Formulas.{Formula, Constant, Variable, Opposite, Binary, Ternary}
-use Rattle.truth_tables.specs.Grammar.{Tree, depth, has_large_table, tree_variables}
+use Rattle.wpds_port.specs.Tokens.{word_text}
+use Rattle.truth_tables.specs.Grammar.{Tree, depth, has_large_table, tree_variables, is_variable_word}
 use Rattle.truth_tables.specs.Stacks.{tree_of}
-use Rattle.document_forms.specs.Names.{is_among, has_unknown}
+use Rattle.document_forms.specs.Names.{has_unknown}
 use Rattle.document_forms.specs.Weights.{ValueForm}
 use Rattle.document_forms.specs.Kinds.{value_names, value_trees}
 use Rattle.document_forms.specs.Documents.{expression_value, value_of}
+use Rattle.rule_reader.specs.Names.{number_among}
 use Rattle.rule_reader.specs.declared.weights.WeightFaults.{WeightFaults}
 use Rattle.rule_reader.specs.declared.weights.exprs.TreeRead.{TreeRead}
 use Rattle.rule_reader.specs.declared.weights.exprs.ValueRead.{ValueRead}
@@ -26,13 +27,17 @@ pub record HasFaults (some_unknown some_unlawful some_deep : Bool) (f : WeightFa
 abbrev pub is_too_deep : Tree → Bool
 is_too_deep e = nat_lt most_depth (depth e)
 
--- the variables of a formula are all known
-abbrev pub AreKnown : List (List ℕ) → Formula (List ℕ) → Type 0
-AreKnown items (Constant b) = Unit {0}
-AreKnown items (Variable x) = IsTrue (is_among items x)
-AreKnown items (Opposite f) = AreKnown items f
-AreKnown items (Binary t f g) = AreKnown items f × AreKnown items g
-AreKnown items (Ternary t f g h) = AreKnown items f × AreKnown items g × AreKnown items h
+-- the variables among the words of an expression, in order
+abbrev pub variables_among : List Word → List (List ℕ)
+variables_among ws = map word_text (filter is_variable_word ws)
+
+-- the numbers of names, and 0 for those that are none of the items
+abbrev pub numbers_of : List (List ℕ) → List (List ℕ) → List ℕ
+numbers_of items xs = map (λ x. unwrap_or (number_among items x) 0) xs
+
+-- the number of the variable at a place among those of the words
+abbrev pub number_at : List (List ℕ) → List Word → ℕ → ℕ
+number_at items ws k = slice_index_or (numbers_of items (variables_among ws)) k 0
 
 -- The expression that was read is this one, over the items.
 pub record HasTree (items : List (List ℕ)) (e : Tree) (r : TreeRead) : Type 0 where

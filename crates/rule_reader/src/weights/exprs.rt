@@ -1,22 +1,16 @@
 //! Expressions of a relation, with numbers in place of the names of variables.
 
-ghost use Rattle.std.specs.Prelude.{◌≡◌, ◌||◌, ℕ, List, map, filter, IfOk, MatchOption, None, Some};
-ghost use Rattle.wpds_port.specs.Tokens.{word_text};
-ghost use Rattle.truth_tables.specs.Formulas.{formula};
-ghost use Rattle.truth_tables.specs.Grammar.{is_variable_word};
-ghost use Rattle.truth_tables.specs.Operands.{raw_formula};
-ghost use Rattle.document_forms.specs.Documents.{over_numbers};
+ghost use Rattle.std.specs.Prelude.{◌≡◌, ◌||◌, ℕ, [], ◌∷◌, IfOk, MatchOption, None, Some};
+ghost use Rattle.truth_tables.specs.Formulas.{Formula, renamed};
 ghost use Rattle.document_forms.specs.Names.{has_unknown};
 ghost use Rattle.document_forms.specs.Weights.{ValueForm, value_of};
-ghost use Rattle.rule_reader.specs.private.TreeReads.{AreKnown, IsTreeRead, HasValue, is_star};
+ghost use Rattle.rule_reader.specs.private.TreeReads.{variables_among, numbers_of, number_at, IsTreeRead, HasValue, is_star};
 
 use super::WeightFaults;
 use crate::names::NameTable;
 use document_forms::{Expression, ValueText};
 use std::alloc::Global;
-use truth_tables::{
-    Expr, ExprRead, RawExpr, is_variable, one_tree, read_expr, variables_among_words,
-};
+use truth_tables::{ExprRead, Postfix, is_variable, one_tree, read_expr, variables_among_words};
 use wpds_base::OutOfMemory;
 use wpds_port::{Lexeme, Mark, Words};
 
@@ -83,8 +77,8 @@ pub(crate) fn read_tree<'t>(
     let text = words.reborrow();
     let unknown = has_unknown_variable(items, words);
     match read_expr(alloc, &text, MOST_DEPTH)? {
-        ExprRead::Read(raw) => Ok(Some(TreeRead {
-            expression: Expression::from_expr(numbered(alloc, items, raw)?),
+        ExprRead::Read(parts) => Ok(Some(TreeRead {
+            expression: numbered(alloc, items, words, parts)?,
             faults: WeightFaults {
                 unknown,
                 unlawful: false,
@@ -92,33 +86,38 @@ pub(crate) fn read_tree<'t>(
             },
         })),
         ExprRead::Form => Ok(None),
-        ExprRead::Table => Ok(Some(unread(WeightFaults {
-            unknown,
-            unlawful: true,
-            deep: false,
-        }))),
-        ExprRead::Deep => Ok(Some(unread(WeightFaults {
-            unknown,
-            unlawful: false,
-            deep: true,
-        }))),
+        ExprRead::Table => Ok(Some(unread(
+            alloc,
+            WeightFaults {
+                unknown,
+                unlawful: true,
+                deep: false,
+            },
+        ))),
+        ExprRead::Deep => Ok(Some(unread(
+            alloc,
+            WeightFaults {
+                unknown,
+                unlawful: false,
+                deep: true,
+            },
+        ))),
     }
 }
 
-// An expression with faults, in place of which a constant stands.
-fn unread(faults: WeightFaults) -> TreeRead
+// An expression with faults, in place of which a constant stands. It takes no memory.
+fn unread(alloc: Global, faults: WeightFaults) -> TreeRead
     ensures { result.faults ≡ faults }
 {
     TreeRead {
-        expression: Expression::from_expr(Expr::Const(false)),
+        expression: Expression::from_parts(Postfix::new(alloc)),
         faults,
     }
 }
 
 // Whether a variable among the words of an expression is none of the items.
 fn has_unknown_variable(items: &NameTable<'_>, words: &Words<'_>) -> bool
-    ensures { result
-        ≡ has_unknown items.now (map word_text (filter is_variable_word words.now)) }
+    ensures { result ≡ has_unknown items.now (variables_among words.now) }
 {
     let mut left = words.reborrow();
     while let Some((lexeme, rest)) = left.split_first() {
@@ -130,38 +129,38 @@ fn has_unknown_variable(items: &NameTable<'_>, words: &Words<'_>) -> bool
     false
 }
 
-// The expression with the numbers of its variables. It goes as deep as the expression is. Each node
-// of names is given back before its node of numbers is made, so that memory never holds both trees.
-fn numbered(alloc: Global, items: &NameTable<'_>, raw: RawExpr<'_>) -> Result<Expr, OutOfMemory>
-    ensures { AreKnown items.now (raw_formula raw.entry)
-        → IfOk result (λ e. formula e ≡ over_numbers items.now (raw_formula raw.entry)) }
+// The expression, in which a place among the variables of the words has the variable's number.
+fn numbered(
+    alloc: Global,
+    items: &NameTable<'_>,
+    words: &Words<'_>,
+    mut parts: Postfix,
+) -> Result<Expression, OutOfMemory>
+    ensures { (f : Formula ℕ) → parts ≡ f ∷ []
+        → IfOk result (λ e. e ≡ renamed (number_at items.now words.now) f) }
 {
-    match raw {
-        RawExpr::Const(value) => Ok(Expr::Const(value)),
-        RawExpr::Var(name) => Ok(Expr::Var(items.number_of(name).unwrap_or(0))),
-        RawExpr::Not(inner) => {
-            let inner = numbered(alloc, items, Box::into_inner(inner))?;
-            Ok(Expr::Not(Box::new(alloc, inner)?))
+    let numbers = variable_numbers(alloc, items, words)?;
+    parts.renumber(&numbers);
+    Ok(Expression::from_parts(parts))
+}
+
+// The numbers of the variables among the words of an expression, in order. Those that are none of
+// the items have 0.
+fn variable_numbers(
+    alloc: Global,
+    items: &NameTable<'_>,
+    words: &Words<'_>,
+) -> Result<Vec<u32>, OutOfMemory>
+    ensures { IfOk result (λ numbers. numbers.items
+        ≡ numbers_of items.now (variables_among words.now)) }
+{
+    let mut numbers = Vec::new(alloc);
+    let mut left = words.reborrow();
+    while let Some((lexeme, rest)) = left.split_first() {
+        if is_variable(lexeme) {
+            numbers.push(items.number_of(lexeme.text()).unwrap_or(0))?;
         }
-        RawExpr::Two { table, left, right } => {
-            let left = numbered(alloc, items, Box::into_inner(left))?;
-            let right = numbered(alloc, items, Box::into_inner(right))?;
-            Ok(Expr::Two {
-                table,
-                left: Box::new(alloc, left)?,
-                right: Box::new(alloc, right)?,
-            })
-        }
-        RawExpr::Three { table, a, b, c } => {
-            let a = numbered(alloc, items, Box::into_inner(a))?;
-            let b = numbered(alloc, items, Box::into_inner(b))?;
-            let c = numbered(alloc, items, Box::into_inner(c))?;
-            Ok(Expr::Three {
-                table,
-                a: Box::new(alloc, a)?,
-                b: Box::new(alloc, b)?,
-                c: Box::new(alloc, c)?,
-            })
-        }
+        left = rest;
     }
+    Ok(numbers)
 }
