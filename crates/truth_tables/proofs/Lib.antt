@@ -1,11 +1,12 @@
-mod AnswerLemmas
+mod BuildLemmas
 mod DepthLemmas
+mod KeptLemmas
 mod MachineLemmas
-mod OperandLemmas
-mod OutcomeLemmas
+mod MarkLemmas
 mod PostfixLemmas
 mod Readings
 mod ShapeLemmas
-mod StackLemmas
+mod StepLemmas
+mod TopLemmas
 mod Trees
 mod VariableLemmas

@@ -16,25 +16,25 @@ use Rattle.truth_tables.specs.private.Shapes.{Shape, shape_name, shape_number, s
 
 -- ---- what of a reading its shape keeps
 
-abbrev Seen : Type 0
+abbrev pub Seen : Type 0
 Seen = Shape × Bool
 
-abbrev seen : Reading → Seen
+abbrev pub seen : Reading → Seen
 seen r = (shape_of r, large_in r)
 
 -- the same with a table's number that may be too large
-abbrev with_large : Bool → Option Shape → Option Seen
+abbrev pub with_large : Bool → Option Shape → Option Seen
 with_large large o = option_map (λ s. (s, large)) o
 
 -- ---- what is too large stays so, however it is joined
 
-swap : (a b p : Bool) → (a || b) || p ≡ b || (a || p)
+pub swap : (a b p : Bool) → (a || b) || p ≡ b || (a || p)
 swap true true p = refl
 swap true false p = refl
 swap false true p = refl
 swap false false p = refl
 
-swap_two : (n a b p : Bool) → (n || (a || b)) || p ≡ b || (a || (n || p))
+pub swap_two : (n a b p : Bool) → (n || (a || b)) || p ≡ b || (a || (n || p))
 swap_two true true true p = refl
 swap_two true true false p = refl
 swap_two true false true p = refl
@@ -44,7 +44,7 @@ swap_two false true false p = refl
 swap_two false false true p = refl
 swap_two false false false p = refl
 
-swap_three : (n a b c p : Bool) → (n || (a || (b || c))) || p ≡ c || (b || (a || (n || p)))
+pub swap_three : (n a b c p : Bool) → (n || (a || (b || c))) || p ≡ c || (b || (a || (n || p)))
 swap_three true a b true p = refl
 swap_three true a true false p = refl
 swap_three true true false false p = refl
@@ -57,7 +57,7 @@ swap_three false false true false p = refl
 swap_three false false false true p = refl
 swap_three false false false false p = refl
 
-or_false : (a : Bool) → a ≡ a || false
+pub or_false : (a : Bool) → a ≡ a || false
 or_false true = refl
 or_false false = refl
 
@@ -220,7 +220,7 @@ number_seen ps (Some b) = refl
 no_number : (l : Bool) (o : Option Shape) → with_large (l || false) o ≡ with_large l o
 no_number l o = ap (λ x. with_large x o) (sym (or_false l))
 
-step_seen : (r : Reading) (w : Word)
+pub step_seen : (r : Reading) (w : Word)
     → with_large (large_in r || large_at (shape_of r).1 w) (next_shape (shape_of r).0 (shape_of r).1 w) ≡ option_map seen (next_reading r w)
 step_seen (Wants ps) (Name x) = no_number (has_large ps) (option_map (λ p. (open_shapes ps, p)) (shape_name x)) ∙ name_seen ps x
 step_seen (Wants ps) (Number n) = no_number (has_large ps) (option_map (λ p. (open_shapes ps, p)) (shape_number n)) ∙ number_seen ps (constant_of n)

@@ -2,7 +2,6 @@ pub mod FormulaCodes
 pub mod Formulas
 pub mod Grammar
 pub mod Machine
-pub mod Operands
 pub mod Postfix
 pub mod Stacks
 pub mod Tables

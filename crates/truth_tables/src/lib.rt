@@ -4,15 +4,14 @@
 mod expr;
 mod instances;
 mod laws;
-mod operand;
+mod numbers;
 mod operator;
 mod part;
 mod postfix;
-mod raw;
+mod reader;
 mod reading;
 mod shape;
-mod stack;
-mod steps;
+mod stop;
 mod tables;
 mod variables;
 
@@ -22,7 +21,6 @@ pub use laws::{one_making, one_tree, variables_among_words};
 pub use operator::Operator;
 pub use part::Part;
 pub use postfix::Postfix;
-pub use raw::RawExpr;
 pub use reading::{ExprRead, read_expr};
 pub use tables::{Table2, Table3, value2, value3};
 pub use variables::is_variable;

@@ -1,22 +1,20 @@
-ghost use Rattle.std.specs.Prelude.{◌≡◌, IfOk, IsTrue};
-ghost use Rattle.truth_tables.specs.Formulas.{has_small_tables};
-ghost use Rattle.truth_tables.specs.Operands.{raw_formula};
-ghost use Rattle.truth_tables.specs.Texts.{IsAnswer, IfRead, answer_on};
-ghost use Rattle.truth_tables.specs.private.Buildings.{IsBuilding, unbuilt_answer};
+ghost use Rattle.std.specs.Prelude.{◌≡◌, IfOk};
+ghost use Rattle.truth_tables.specs.Texts.{IsAnswer};
+ghost use Rattle.truth_tables.specs.private.Kept.{IsBuilding, IsNextPlace, unbuilt_answer};
 
-use crate::RawExpr;
-use crate::operand::{Operand, Unread};
+use crate::reader::{Position, Reader};
 use crate::shape::large_table;
-use crate::stack::Position;
-use crate::steps::{finish, step};
+use crate::stop::Stop;
+use crate::{Postfix, is_variable};
 use std::alloc::Global;
 use wpds_base::OutOfMemory;
 use wpds_port::Words;
 
 /// What reading words as an expression returns.
 #[derive(Debug, Drop)]
-pub enum ExprRead<'t> {
-    Read(RawExpr<'t>),
+pub enum ExprRead {
+    /// The expression, in which a variable's number is its place among the variables of the words.
+    Read(Postfix),
     /// The words are no expression.
     Form,
     /// They are one with a table number that is too large.
@@ -25,51 +23,39 @@ pub enum ExprRead<'t> {
     Deep,
 }
 
-// What came of building an expression.
-#[derive(Drop)]
-enum Building<'t> {
-    /// The operand that the words are, if they are an expression.
-    Ended(Option<Operand<'t>>),
-    /// More was open than an expression may be deep, and the rest was not read.
-    TooMuchOpen,
+// The place behind a word among the variables.
+fn place_behind(place: u32, is_variable: bool) -> Result<u32, Stop>
+    ensures { IsNextPlace place is_variable result }
+{
+    if !is_variable {
+        return Ok(place);
+    }
+    match place.checked_add(1) {
+        Some(next) => Ok(next),
+        None => Err(Stop::Memory),
+    }
 }
 
-// Builds the expression that the words are, as long as it can be one that is not too deep. So no
-// more is open at once than `limit`.
-fn build<'t>(alloc: Global, limit: u32, words: Words<'t>) -> Result<Building<'t>, OutOfMemory>
-    ensures { IfOk result (IsBuilding limit words.entry) }
+// Builds the expression that the words are, as long as it can be one that is to be read. So no more
+// is open at once than `limit`.
+fn build(alloc: Global, limit: u32, words: Words<'_>) -> Result<Postfix, Stop>
+    ensures { IsBuilding limit words.entry result }
 {
-    let mut stack = Vec::new(alloc);
+    let mut reader = Reader::new(alloc);
     let mut position = Position::Wanted;
+    let mut place = 0;
     let mut left = words;
     while let Some((lexeme, rest)) = left.split_first() {
-        match step(alloc, limit, &mut stack, position, lexeme)? {
-            Some(next) => position = next,
-            None => return Ok(Building::Ended(None)),
-        }
-        if stack.len() > limit as usize {
-            return Ok(Building::TooMuchOpen);
-        }
+        position = reader.step(limit, position, lexeme, place)?;
+        place = place_behind(place, is_variable(lexeme))?;
         left = rest;
     }
-    Ok(Building::Ended(finish(alloc, limit, stack, position)?))
+    reader.finish(limit, position)
 }
 
-// The answer where this was made of the words.
-fn answer<'t>(made: Option<Operand<'t>>) -> ExprRead<'t>
-    ensures { result ≡ answer_on made.entry }
-{
-    match made {
-        Some(Ok(built)) => ExprRead::Read(built.expr),
-        Some(Err(Unread::Table)) => ExprRead::Table,
-        Some(Err(Unread::Deep)) => ExprRead::Deep,
-        None => ExprRead::Form,
-    }
-}
-
-// The answer where the words are no expression that is not too deep, by its large table if they are
+// The answer where the words are no expression that is to be read, by its large table if they are
 // an expression.
-fn unbuilt<'t>(large: Option<bool>) -> ExprRead<'t>
+fn unbuilt(large: Option<bool>) -> ExprRead
     ensures { result ≡ unbuilt_answer large }
 {
     match large {
@@ -79,23 +65,20 @@ fn unbuilt<'t>(large: Option<bool>) -> ExprRead<'t>
     }
 }
 
-/// Reads the words as an expression, whose names borrow the words' text.
+/// Reads the words as an expression.
 ///
 /// It may be `depth` deep: an atom is 1 deep, and an operator, `!`, a table and a pair of brackets
 /// is 1 deeper than its deepest part.
 ///
 /// Words that are no expression are told before a table number that is too large, and that before
 /// an expression that is too deep.
-pub fn read_expr<'t>(
-    alloc: Global,
-    words: &Words<'t>,
-    depth: u32,
-) -> Result<ExprRead<'t>, OutOfMemory>
-    ensures answer { IfOk result (IsAnswer words.now depth) }
-    ensures tables { IfOk result (λ r. IfRead r (λ e. IsTrue (has_small_tables (raw_formula e)))) }
+pub fn read_expr(alloc: Global, words: &Words<'_>, depth: u32) -> Result<ExprRead, OutOfMemory>
+    ensures { IfOk result (IsAnswer words.now depth) }
 {
-    match build(alloc, depth, words.reborrow())? {
-        Building::Ended(made) => Ok(answer(made)),
-        Building::TooMuchOpen => Ok(unbuilt(large_table(alloc, words.reborrow())?)),
+    match build(alloc, depth, words.reborrow()) {
+        Ok(parts) => Ok(ExprRead::Read(parts)),
+        Err(Stop::Form) => Ok(ExprRead::Form),
+        Err(Stop::Excess) => Ok(unbuilt(large_table(alloc, words.reborrow())?)),
+        Err(Stop::Memory) => Err(OutOfMemory),
     }
 }

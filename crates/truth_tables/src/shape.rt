@@ -10,7 +10,7 @@ ghost use Rattle.truth_tables.specs.Stacks.{tree_of};
 ghost use Rattle.truth_tables.specs.private.Shapes.{shape_name, shape_number, shape_comma, shape_close, shape_mark, next_shape, large_at, shape_pushed, shape_now, is_whole};
 
 use crate::Operator;
-use crate::operand::table_number;
+use crate::numbers::table_number;
 use std::alloc::Global;
 use wpds_base::OutOfMemory;
 use wpds_port::{Lexeme, Mark, Words};
@@ -142,8 +142,8 @@ fn is_large(place: Place, lexeme: Lexeme<'_>) -> bool
     ensures { result ≡ large_at place (word_of lexeme.entry) }
 {
     match (place, lexeme) {
-        (Place::Behind2, Lexeme::Number(digits)) => table_number(digits, 15).is_err(),
-        (Place::Behind3, Lexeme::Number(digits)) => table_number(digits, 255).is_err(),
+        (Place::Behind2, Lexeme::Number(digits)) => table_number(digits, 15).is_none(),
+        (Place::Behind3, Lexeme::Number(digits)) => table_number(digits, 255).is_none(),
         _ => false,
     }
 }

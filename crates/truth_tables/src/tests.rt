@@ -1,6 +1,6 @@
 use crate::{
-    Expr, ExprRead, Part, Postfix, RawExpr, eval, instance2, instance3, is_variable, read_expr,
-    value2, value3,
+    Expr, ExprRead, Part, Postfix, eval, instance2, instance3, is_variable, read_expr, value2,
+    value3,
 };
 use std::alloc::Global;
 use std::process::Abort;
@@ -9,32 +9,57 @@ use wpds_base::OutOfMemory;
 use wpds_port::{Lexeme, Mark, Words};
 
 // Each operator by its table, in front of its operands in brackets.
-fn show(expr: &RawExpr, alloc: Global) -> Result<String, OutOfMemory> {
+fn show(expr: &Expr, names: &[&[u8]], alloc: Global) -> Result<String, OutOfMemory> {
     Ok(match expr {
-        RawExpr::Const(value) => String::from_str(alloc, if *value { "1" } else { "0" })?,
-        RawExpr::Var(name) => String::from_utf8_lossy(alloc, name)?,
-        RawExpr::Not(inner) => {
-            let inner = show(inner, alloc)?;
+        Expr::Const(value) => String::from_str(alloc, if *value { "1" } else { "0" })?,
+        Expr::Var(place) => {
+            let name = names.get(*place as usize).copied().unwrap_or(b"?");
+            String::from_utf8_lossy(alloc, name)?
+        }
+        Expr::Not(inner) => {
+            let inner = show(inner, names, alloc)?;
             format!(in alloc; "!{inner}")?
         }
-        RawExpr::Two { table, left, right } => {
-            let left = show(left, alloc)?;
-            let right = show(right, alloc)?;
+        Expr::Two { table, left, right } => {
+            let left = show(left, names, alloc)?;
+            let right = show(right, names, alloc)?;
             format!(in alloc; "{table}({left},{right})")?
         }
-        RawExpr::Three { table, a, b, c } => {
-            let a = show(a, alloc)?;
-            let b = show(b, alloc)?;
-            let c = show(c, alloc)?;
+        Expr::Three { table, a, b, c } => {
+            let a = show(a, names, alloc)?;
+            let b = show(b, names, alloc)?;
+            let c = show(c, names, alloc)?;
             format!(in alloc; "{table}({a},{b},{c})")?
         }
     })
 }
 
+// The variables among words.
+fn variables_among<'t>(alloc: Global, words: &Words<'t>) -> Result<Vec<&'t [u8]>, OutOfMemory> {
+    let mut names = Vec::new(alloc);
+    let mut left = words.reborrow();
+    while let Some((lexeme, rest)) = left.split_first() {
+        if is_variable(lexeme) {
+            names.push(lexeme.text())?;
+        }
+        left = rest;
+    }
+    Ok(names)
+}
+
+// The expression that was read from words.
+fn shown(alloc: Global, words: &Words, parts: &Postfix) -> Result<String, OutOfMemory> {
+    let names = variables_among(alloc, words)?;
+    match parts.to_expr(alloc)? {
+        Some(expr) => show(&expr, &names, alloc),
+        None => Ok(String::from_str(alloc, "no expression")?),
+    }
+}
+
 // What reading words answers.
 fn answer_on(alloc: Global, words: &Words, depth: u32) -> Result<String, OutOfMemory> {
     match read_expr(alloc, words, depth)? {
-        ExprRead::Read(expr) => show(&expr, alloc),
+        ExprRead::Read(parts) => shown(alloc, words, &parts),
         ExprRead::Form => Ok(String::from_str(alloc, "form")?),
         ExprRead::Table => Ok(String::from_str(alloc, "table")?),
         ExprRead::Deep => Ok(String::from_str(alloc, "deep")?),

@@ -1,37 +1,34 @@
-use Rattle.std.proofs.Common.{arith, ◌<◌, length, sym, ◌∙◌, subst}
-use Rattle.truth_tables.specs.Stacks.{tree_of}
-use Rattle.truth_tables.specs.Operands.{parts}
-use Rattle.truth_tables.specs.declared.stack.Position.TheVariants.{Wanted}
-use Rattle.truth_tables.proofs.MachineLemmas.{made_of_tree}
-use Rattle.truth_tables.proofs.DepthLemmas.{Leaves, at_first, word_more, word_too_many, at_the_end, deep_so}
+use Rattle.std.proofs.Common.{◌≡◌, Err, Ok, sym, subst, ℕ, List}
+use Rattle.std.specs.Prelude.{Result}
+use Rattle.std.proofs.lemmas.Result.{err_from_is_err_and}
+use Rattle.wpds_port.specs.Words.{word_of}
+use Rattle.truth_tables.specs.Formulas.{Formula}
+use Rattle.truth_tables.specs.private.Kept.{IsBuilding, IsNextPlace}
+use Rattle.truth_tables.specs.declared.stop.Stop.{Stop}
+use Rattle.truth_tables.proofs.BuildLemmas.{at_first, word_more, word_stops}
 use Rattle.truth_tables.proofs.reading.build.Goals as goal
 
 pub loop-lexeme-init : goal.loop-lexeme-init
 loop-lexeme-init c =
-    subst (λ s. Leaves c.args.limit Wanted s c.args.words (tree_of c.args.words)) (sym c.new-stack.ensures.items) (at_first c.args.limit c.args.words)
+    let reader = c.new-reader.result in
+    at_first c.args.limit c.args.words reader.pending.items reader.parts c.new-reader.ensures.«open» c.new-reader.ensures.built
 
-pub returns-in-None : goal.returns-in-None
-returns-in-None c =
-    word_too_many c.args.limit c.loop-lexeme.position c.loop-lexeme.stack.items c.step.new.stack.items c.loop-lexeme.left (tree_of c.args.words) _ _
-    c.loop-lexeme.invariant c.in-Some.ensures _ c.in-None.is c.in_ok-next.ensures
-    ∙ sym (made_of_tree (parts c.args.limit) c.args.words)
+pub returns-in_err-position : goal.returns-in_err-position
+returns-in_err-position c =
+    let at = c.loop-lexeme in
+    let now = c.step.new.self in
+    let p = err_from_is_err_and c.from_residual.result c.from_residual.ensures.1 in
+    let s = c.in_err-position.field-0.0 in
+    let same : c.from_residual.result ≡ Err s = cc (p.1, p.2) in
+    subst (λ (r : Result (List (Formula ℕ)) Stop). IsBuilding c.args.limit c.args.words r) (sym same)
+    (word_stops c.args.limit c.args.words at.position at.place at.left c.in-Some.rest (word_of c.in-Some.lexeme) at.reader.pending.items now.pending.items at.reader.parts now.parts at.invariant c.in-Some.ensures
+    s c.in_err-position.ensures)
 
 pub loop-lexeme-preserved : goal.loop-lexeme-preserved
 loop-lexeme-preserved c =
-    word_more c.args.limit c.loop-lexeme.position c.loop-lexeme.stack.items c.step.new.stack.items c.loop-lexeme.left (tree_of c.args.words) _ _
-    c.loop-lexeme.invariant c.in-Some.ensures _ _ c.in-Some-2.is c.in_ok-next.ensures
-
-pub returns-then-len-limit : goal.returns-then-len-limit
-returns-then-len-limit c t is =
-    let left =
-    word_more c.args.limit c.loop-lexeme.position c.loop-lexeme.stack.items c.step.new.stack.items c.loop-lexeme.left (tree_of c.args.words) _ _
-    c.loop-lexeme.invariant c.in-Some.ensures _ _ c.in-Some-2.is c.in_ok-next.ensures
-    in
-    let many : c.args.limit < length c.step.new.stack.items = omega (arith, c.len.ensures, c.if-len-limit.true, c.step.new.stack.ok) in
-    deep_so c.args.limit c.in-Some-2.next c.step.new.stack.items left.0 c.in-Some.rest t left.1 many (left.2 ∙ is)
-
-pub returns : goal.returns
-returns c =
-    c.in_ok-finish.ensures
-    ∙ at_the_end c.args.limit c.loop-lexeme.position c.loop-lexeme.stack.items c.loop-lexeme.left (tree_of c.args.words) c.loop-lexeme.invariant c.in_default.ensures
-    ∙ sym (made_of_tree (parts c.args.limit) c.args.words)
+    let at = c.loop-lexeme in
+    let now = c.step.new.self in
+    let next = c.in_ok-place.place in
+    let place = subst (λ b. IsNextPlace at.place b (Ok next)) c.is_variable.ensures c.in_ok-place.ensures in
+    word_more c.args.limit c.args.words at.position at.place at.left c.in-Some.rest (word_of c.in-Some.lexeme) at.reader.pending.items now.pending.items at.reader.parts now.parts at.invariant c.in-Some.ensures
+    c.in_ok-position.position next c.in_ok-position.ensures place
