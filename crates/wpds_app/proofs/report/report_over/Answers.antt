@@ -4,7 +4,7 @@ use Rattle.std.proofs.Math.Seq.{take-append_seam}
 use Rattle.pushdown_rules.specs.Pushdown.{Pushdown}
 use Rattle.wpds_app.specs.Reports.{ByQuery, TellsQuery}
 use Rattle.wpds_app.specs.private.Kept.{TellsAt, AreKept}
-use Rattle.wpds_app.proofs.KeptLemmas.{one_query_more}
+use Rattle.wpds_app.proofs.KeptLemmas.{nothing_kept, one_query_more}
 use Rattle.wpds_app.proofs.report.report_over.Goals as goal
 
 pub lines_at-requires-clause-kept : goal.lines_at-requires-clause-kept
@@ -13,6 +13,13 @@ lines_at-requires-clause-kept g c =
     let kind = g.S.DocumentWeights.kind in
     let here = subst (λ (p : Pushdown _ _ _). AreKept kind c.args.options p.semiring d c.loop-place.kept.items) (sym c.in_ok-system.ensures) c.loop-place.invariant.1 in
     subst (AreKept kind c.args.options c.in_ok-system.system.semiring d) (sym c.deref_mut.ensures.value) here
+
+pub loop-place-init : goal.loop-place-init
+loop-place-init g c = (
+  c.in_ok-kept.ensures.room ∙ c.len-count.ensures,
+  nothing_kept g.S.DocumentWeights.kind c.args.options c.args.semiring c.args.document.now c.in_ok-kept.kept.items c.in_ok-kept.ensures.empty,
+  c.new-text.ensures.items,
+)
 
 pub loop-place-preserved : goal.loop-place-preserved
 loop-place-preserved g c =
