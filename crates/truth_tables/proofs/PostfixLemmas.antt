@@ -1,5 +1,5 @@
 -- Lists of parts, each behind its operands.
-use Rattle.std.proofs.Common.{◌≡◌, ℕ, Some, None, List, [], ◌∷◌, ◌++◌, reverse, map, refl, ap, sym, ◌∙◌}
+use Rattle.std.proofs.Common.{◌≡◌, ℕ, Some, None, List, [], ◌∷◌, ◌++◌, length, get_or, reverse, map, refl, ap, sym, ◌∙◌, arith}
 use Rattle.std.proofs.lemmas.List.{reverse-append}
 use Rattle.truth_tables.specs.Formulas.{Formula, Opposite, Binary, Ternary, formula, renamed}
 use Rattle.truth_tables.specs.Postfix.{taken, built_onto, built, first, part_renamed}
@@ -14,6 +14,12 @@ onto_more fs (q ∷ ps) p = onto_more (taken q fs) ps p
 
 pub part_more : (old now : List Part) (p : Part) → now ≡ old ++ p ∷ [] → built now ≡ taken p (built old)
 part_more old now p h = ap built h ∙ onto_more [] old p
+
+-- a part alone
+pub one_part : (ps : List Part) (p q : Part) → length ps ≡ 1 → p ≡ get_or ps 0 q → built ps ≡ taken p []
+one_part [] p q h is = absurd (omega arith)
+one_part (o ∷ []) p q h is = ap (λ x. taken x []) (sym is)
+one_part (o ∷ r ∷ ps) p q h is = absurd (omega arith)
 
 -- ---- other numbers
 

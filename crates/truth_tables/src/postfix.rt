@@ -1,4 +1,4 @@
-ghost use Rattle.std.specs.Prelude.{◌≡◌, [], ◌∷◌, IfOk, OnOk, OnErr, map, option_map, slice_index_or};
+ghost use Rattle.std.specs.Prelude.{◌≡◌, [], ◌∷◌, IfOk, IfSome, OnOk, OnErr, map, option_map, slice_index_or};
 ghost use Rattle.truth_tables.specs.Formulas.{formula, renamed};
 ghost use Rattle.truth_tables.specs.Postfix.{taken, built, first, part_renamed};
 ghost use Rattle.truth_tables.specs.private.Trees.{formulas_of};
@@ -57,6 +57,17 @@ impl Postfix {
         ensures { self.new ≡ map (renamed (λ k. slice_index_or numbers.now k 0)) self.old }
     {
         renumber_parts(&mut self.parts, numbers);
+    }
+
+    /// The part, if there is one alone.
+    #[tactic(auto, using(crate::proofs::PostfixLemmas::one_part))]
+    pub fn single(&self) -> Option<Part>
+        ensures { IfSome result (λ part. self.now ≡ taken part []) }
+    {
+        if self.parts.len() != 1 {
+            return None;
+        }
+        Some(self.parts[0])
     }
 
     /// The newest expression as a tree.
