@@ -5,9 +5,9 @@ use path_sum::Answer;
 use pushdown_rules::System;
 use query_answers::answer;
 use semiring_laws::{Reach, Semiring};
-use std::alloc::Global;
 use std::test::Fail;
 use witness_graph::{Listing, Node, Side};
+use wpds_port::OpenGate;
 
 // A query: a control and items to start from, a control and items to end in.
 type Query = (u32, Items<'static>, u32, Items<'static>);
@@ -16,38 +16,38 @@ type Query = (u32, Items<'static>, u32, Items<'static>);
 type Row = (Query, Option<u64>);
 
 // The answer to a query between controls of the system, by a direction.
-fn answer_to<S: Semiring>(
-    alloc: Global,
+fn answer_to<S: Semiring<W: Send + Sync, Ret: Send + Sync> + Send + Sync>(
+    rt: &HostRuntime,
     system: &System<S>,
     side: Side,
     query: Query,
 ) -> Result<Answer<S>, Fail> {
     let (start, start_items, end, end_items) = query;
-    let from = pattern_over(alloc, system, start, start_items)?;
-    let to = pattern_over(alloc, system, end, end_items)?;
+    let from = pattern_over(rt.alloc(), system, start, start_items)?;
+    let to = pattern_over(rt.alloc(), system, end, end_items)?;
     let found = match side {
-        Side::Pre => answer(alloc, system, Side::Pre, &from, &to)?,
-        Side::Post => answer(alloc, system, Side::Post, &from, &to)?,
+        Side::Pre => answer(rt, rt.alloc(), system, Side::Pre, 1, &from, &to, &OpenGate)?,
+        Side::Post => answer(rt, rt.alloc(), system, Side::Post, 1, &from, &to, &OpenGate)?,
     };
     Ok(found)
 }
 
 // The value of the answer to a query, asked of any semiring.
-fn value_of<S: Semiring>(
-    alloc: Global,
+fn value_of<S: Semiring<W: Send + Sync, Ret: Send + Sync> + Send + Sync>(
+    rt: &HostRuntime,
     system: &System<S>,
     side: Side,
     query: Query,
 ) -> Result<S::W, Fail> {
-    let Answer { value, listing: _ } = answer_to(alloc, system, side, query)?;
+    let Answer { value, listing: _ } = answer_to(rt, system, side, query)?;
     Ok(value)
 }
 
 // The first row whose query has another cost, backwards or forwards.
-fn wrong_row(alloc: Global, system: &System<Cost>, rows: &[Row]) -> Result<Option<usize>, Fail> {
+fn wrong_row(rt: &HostRuntime, system: &System<Cost>, rows: &[Row]) -> Result<Option<usize>, Fail> {
     for (k, (query, cost)) in rows.iter().enumerate() {
         for side in [Side::Pre, Side::Post] {
-            if value_of(alloc, system, side, *query)? != *cost {
+            if value_of(rt, system, side, *query)? != *cost {
                 return Ok(Some(k));
             }
         }
@@ -72,7 +72,7 @@ fn costs_of_calls(rt: HostRuntime) -> Result<(), Fail> {
         // a called, and then a under it
         ((0, &[A, A], 1, &[A, SOME_A]), Some(3)),
     ];
-    assert_eq!(rt; wrong_row(alloc, &system, &rows)?, None);
+    assert_eq!(rt; wrong_row(&rt, &system, &rows)?, None);
     Ok(())
 }
 
@@ -87,7 +87,7 @@ fn costs_of_growth(rt: HostRuntime) -> Result<(), Fail> {
         ((0, &[A, SOME_A], 0, &[SOME_A]), Some(0)),
         ((0, &[A], 0, &[A, A, A, SOME_A]), Some(2)),
     ];
-    assert_eq!(rt; wrong_row(alloc, &system, &rows)?, None);
+    assert_eq!(rt; wrong_row(&rt, &system, &rows)?, None);
     Ok(())
 }
 
@@ -98,7 +98,7 @@ fn costs_at_the_cap(rt: HostRuntime) -> Result<(), Fail> {
     for (cap, cost) in [(5, 5u64), (6, 6), (100, 6)] {
         let system = steps(alloc, Cost::new(cap)?)?;
         let rows: [Row; 1] = [((0, &[A], 0, &[C]), Some(cost))];
-        assert_eq!(rt; wrong_row(alloc, &system, &rows)?, None, "up to {cap}");
+        assert_eq!(rt; wrong_row(&rt, &system, &rows)?, None, "up to {cap}");
     }
     Ok(())
 }
@@ -126,11 +126,11 @@ fn costs_where_little_waits(rt: HostRuntime) -> Result<(), Fail> {
         ((0, &[A, A], 0, &[B, SOME_A]), Some(3)),
     ];
     assert_eq!(rt;
-        wrong_row(alloc, &ruleless(alloc, cost), &without_rules)?,
+        wrong_row(&rt, &ruleless(alloc, cost), &without_rules)?,
         None
     );
     assert_eq!(rt;
-        wrong_row(alloc, &one_step(alloc, cost)?, &by_a_step)?,
+        wrong_row(&rt, &one_step(alloc, cost)?, &by_a_step)?,
         None
     );
     Ok(())
@@ -153,7 +153,7 @@ fn the_run_is_listed(rt: HostRuntime) -> Result<(), Fail> {
     let system = calls(alloc, Cost::new(100)?)?;
     // backwards the return is listed before the call that needs it, and forwards the call before its return
     for (side, digits) in [(Side::Pre, 21), (Side::Post, 12)] {
-        let found = answer_to(alloc, &system, side, (0, &[A], 1, &[A]))?;
+        let found = answer_to(&rt, &system, side, (0, &[A], 1, &[A]))?;
         let Some(listing) = found.listing else {
             return Err(Fail::new("nothing is listed"));
         };
@@ -169,8 +169,8 @@ fn reached_or_not(rt: HostRuntime) -> Result<(), Fail> {
     let mut system = System::new(alloc, Reach, 2, 2);
     system.add_rule(alloc, 0, 1, 1, &[], true, None)?;
     for side in [Side::Pre, Side::Post] {
-        assert!(rt; !value_of(alloc, &system, side, (0, &[A], 1, &[A]))?);
-        assert!(rt; value_of(alloc, &system, side, (0, &[B], 1, &[]))?);
+        assert!(rt; !value_of(&rt, &system, side, (0, &[A], 1, &[A]))?);
+        assert!(rt; value_of(&rt, &system, side, (0, &[B], 1, &[]))?);
     }
     Ok(())
 }

@@ -1,4 +1,4 @@
--- The answer of a sum over a book that one worker has saturated.
+-- The answer of a sum over a book that workers have saturated.
 use Rattle.std.proofs.Common.{◌≡◌, ◌↔◌, ℕ, ◌<◌, List, IsTrue, refl, sym, subst}
 use Rattle.std.specs.Prelude.{nat_eq, Result, Ok, Err, IfOk, IfSome}
 use Rattle.std.proofs.lemmas.Bool.{and_parts, eqb-true}
@@ -44,9 +44,9 @@ members_are_opened law pattern controls below d = (there, back)
 
 -- a sum over a finished saturation by a side shows the answer, and is grown that way
 module _ {S W Map D : Type 0} (operations : S → Operations W Map) (way : Way S W Map D) where
-  record IsShown (p : Pushdown S W Map) (side : Side) (from to : PatternValue) (a : Answer S W Map) : Type 0 where
+  record IsShown (p : Pushdown S W Map) (side : Side) (workers : ℕ) (from to : PatternValue) (a : Answer S W Map) : Type 0 where
     shows : ShowsAnswer operations p from to side a
-    grown : IsGrownFromBook operations way p side from to a
+    grown : IsGrownFromBook operations way p side workers from to a
 
   -- the answers between two patterns, by the side
   between : (s : Operations W Map) (p : Pushdown S W Map) (side : Side) (from to : PatternValue) (v : W) (runs : List (List ℕ))
@@ -55,9 +55,9 @@ module _ {S W Map D : Type 0} (operations : S → Operations W Map) (way : Way S
   between s p Backward from to v runs answers = answers
   between s p Forward from to v runs answers = answers
 
-  shown : OpeningsReadMembers → (p : Pushdown S W Map) (side : Side) (from to : PatternValue) → (opened_of side from to).control < p.controls → (b : BookValue S W Map D) (a : Answer S W Map)
-      → (way.tables b.direction p).side ≡ side → IsSaturatedFrom operations way p (opened_of side from to) b → IsSumOf operations way b (summed_of side from to) a → IsShown p side from to a
-  shown law p side from to below b a goes saturated summed =
+  shown : OpeningsReadMembers → (p : Pushdown S W Map) (side : Side) (workers : ℕ) (from to : PatternValue) → (opened_of side from to).control < p.controls → (b : BookValue S W Map D) (a : Answer S W Map)
+      → (way.tables b.direction p).side ≡ side → IsSaturatedFrom operations way p workers (opened_of side from to) b → IsSumOf operations way b (summed_of side from to) a → IsShown p side workers from to a
+  shown law p side workers from to below b a goes saturated summed =
       let near = summed_of side from to in
       let opened = opened_of side from to in
       let P : Pushdown S W Map → Type 0 = λ q. IsSumOver operations way q b.direction b.opening b.state.transitions b.state.nodes near a in
@@ -82,23 +82,23 @@ module _ {S W Map D : Type 0} (operations : S → Operations W Map) (way : Way S
       }
 
 module _ {S W Map E : Type 0} (operations : S → Operations W Map) (law : OpeningsReadMembers) (p : Pushdown S W Map) where
-  abbrev AnswersBy : Side → PatternValue → PatternValue → Result (Answer S W Map) E → Type 0
-  AnswersBy side from to r = IfOk r (IsAnswer operations p side from to)
+  abbrev AnswersBy : Side → ℕ → PatternValue → PatternValue → Result (Answer S W Map) E → Type 0
+  AnswersBy side workers from to r = IfOk r (IsAnswer operations p side workers from to)
 
-  pub backward_answers : (b : BookValue S W Map Pre) (r : Result (Answer S W Map) E) (summed : PatternValue) (side : Side) (from to : PatternValue)
+  pub backward_answers : (b : BookValue S W Map Pre) (r : Result (Answer S W Map) E) (summed : PatternValue) (side : Side) (workers : ℕ) (from to : PatternValue)
       → IfOk r (IsSumOf operations (pre_way operations) b summed) → (opened_of side from to).control < p.controls → summed_of side from to ≡ summed
-      → IsSaturated operations p side (opened_of side from to) (BackwardOf b) → AnswersBy side from to r
-  backward_answers b (Err e) summed side from to sums below same saturated = tt
-  backward_answers b (Ok a) summed Forward from to sums below same saturated = absurd saturated
-  backward_answers b (Ok a) summed Backward from to sums below same saturated =
-      let x = shown operations (pre_way operations) law p Backward from to below b a refl saturated (subst (λ q. IsSumOf operations (pre_way operations) b q a) (sym same) sums) in
+      → IsSaturated operations p side workers (opened_of side from to) (BackwardOf b) → AnswersBy side workers from to r
+  backward_answers b (Err e) summed side workers from to sums below same saturated = tt
+  backward_answers b (Ok a) summed Forward workers from to sums below same saturated = absurd saturated
+  backward_answers b (Ok a) summed Backward workers from to sums below same saturated =
+      let x = shown operations (pre_way operations) law p Backward workers from to below b a refl saturated (subst (λ q. IsSumOf operations (pre_way operations) b q a) (sym same) sums) in
       record { shows = x.shows; grown = x.grown }
 
-  pub forward_answers : (b : BookValue S W Map Post) (r : Result (Answer S W Map) E) (summed : PatternValue) (side : Side) (from to : PatternValue)
+  pub forward_answers : (b : BookValue S W Map Post) (r : Result (Answer S W Map) E) (summed : PatternValue) (side : Side) (workers : ℕ) (from to : PatternValue)
       → IfOk r (IsSumOf operations (forward_way operations) b summed) → (opened_of side from to).control < p.controls → summed_of side from to ≡ summed
-      → IsSaturated operations p side (opened_of side from to) (ForwardOf b) → AnswersBy side from to r
-  forward_answers b (Err e) summed side from to sums below same saturated = tt
-  forward_answers b (Ok a) summed Backward from to sums below same saturated = absurd saturated
-  forward_answers b (Ok a) summed Forward from to sums below same saturated =
-      let x = shown operations (forward_way operations) law p Forward from to below b a refl saturated (subst (λ q. IsSumOf operations (forward_way operations) b q a) (sym same) sums) in
+      → IsSaturated operations p side workers (opened_of side from to) (ForwardOf b) → AnswersBy side workers from to r
+  forward_answers b (Err e) summed side workers from to sums below same saturated = tt
+  forward_answers b (Ok a) summed Backward workers from to sums below same saturated = absurd saturated
+  forward_answers b (Ok a) summed Forward workers from to sums below same saturated =
+      let x = shown operations (forward_way operations) law p Forward workers from to below b a refl saturated (subst (λ q. IsSumOf operations (forward_way operations) b q a) (sym same) sums) in
       record { shows = x.shows; grown = x.grown }

@@ -1,5 +1,5 @@
 -- What an answer to a query is, with the saturation that it comes from.
-use Rattle.std.specs.Prelude.{◌≡◌, ◌↔◌, None, IfSome}
+use Rattle.std.specs.Prelude.{◌≡◌, ◌↔◌, ℕ, None, IfSome}
 use Rattle.semiring_laws.specs.Semiring.{Operations}
 use Rattle.pushdown_rules.specs.Pushdown.{Pushdown}
 use Rattle.pushdown_rules.specs.Values.{value_of}
@@ -21,6 +21,7 @@ use Rattle.path_sum.specs.declared.answer.Answer.{Answer}
 use Rattle.path_sum.specs.Answers.{listed_runs, IsGrownAnswer}
 use Rattle.path_sum.specs.Sums.{ways_of}
 use Rattle.worker_pool.specs.Alone.{IsAlone}
+use Rattle.worker_pool.specs.Errands.{IsWorkedBySeats}
 
 -- of the patterns where runs begin and where they end, the one that a saturation starts from
 abbrev pub opened_of : Side → PatternValue → PatternValue → PatternValue
@@ -47,19 +48,20 @@ module _ {S W Map : Type 0} (operations : S → Operations W Map) (p : Pushdown 
     pub tight : IfSome a.listing (λ l. IsTight s (value_of s p) l.side l.nodes)
 
 module _ {S W Map D : Type 0} (operations : S → Operations W Map) (way : Way S W Map D) (p : Pushdown S W Map) where
-  -- The book is a finished saturation of the system from a pattern, and one worker has made all its steps.
-  pub record IsSaturatedFrom (pattern : PatternValue) (b : BookValue S W Map D) : Type 0 where
+  -- The book is a finished saturation of the system from a pattern: so many workers have made its steps, in some order. One worker has one order.
+  pub record IsSaturatedFrom (workers : ℕ) (pattern : PatternValue) (b : BookValue S W Map D) : Type 0 where
     pub system : b.system ≡ p
     pub opening : b.opening ≡ opening_of p.controls pattern
     pub book : IsBook operations way b
     pub closed : IsClosed b
-    pub alone : IsAlone b.journal
+    pub seats : IsWorkedBySeats workers b.journal
+    pub alone : workers ≡ 1 → IsAlone b.journal
 
   -- The answer is grown from the transitions and nodes of such a book, whose direction says which pattern it starts from. What is listed is made shorter.
-  pub record IsGrownFromBook (side : Side) (from to : PatternValue) (a : Answer S W Map) : Type 0 where
+  pub record IsGrownFromBook (side : Side) (workers : ℕ) (from to : PatternValue) (a : Answer S W Map) : Type 0 where
     pub book : BookValue S W Map D
     pub goes : (way.tables book.direction p).side ≡ side
-    pub saturated : IsSaturatedFrom (opened_of side from to) book
+    pub saturated : IsSaturatedFrom workers (opened_of side from to) book
     pub grown : IsGrownAnswer (operations p.semiring) side book.opening book.state.transitions book.state.nodes (ways_of (summed_of side from to)) a
 
 -- ---- by both directions
@@ -79,18 +81,18 @@ IsFinished (BackwardOf b) = IsClosed b
 IsFinished (ForwardOf b) = IsClosed b
 
 module _ {S W Map : Type 0} (operations : S → Operations W Map) (p : Pushdown S W Map) where
-  -- it is a finished saturation of the system from a pattern, by the direction of this side
-  abbrev pub IsSaturated : Side → PatternValue → Saturation S W Map → Type 0
-  IsSaturated Backward pattern (BackwardOf b) = IsSaturatedFrom operations (pre_way operations) p pattern b
-  IsSaturated Forward pattern (ForwardOf b) = IsSaturatedFrom operations (forward_way operations) p pattern b
-  IsSaturated _ pattern _ = ⊥
+  -- it is a finished saturation of the system from a pattern, by the direction of this side and so many workers
+  abbrev pub IsSaturated : Side → ℕ → PatternValue → Saturation S W Map → Type 0
+  IsSaturated Backward workers pattern (BackwardOf b) = IsSaturatedFrom operations (pre_way operations) p workers pattern b
+  IsSaturated Forward workers pattern (ForwardOf b) = IsSaturatedFrom operations (forward_way operations) p workers pattern b
+  IsSaturated _ workers pattern _ = ⊥
 
   -- the answer is grown from a book of the direction of this side
-  abbrev pub IsGrownBy : Side → PatternValue → PatternValue → Answer S W Map → Type 0
-  IsGrownBy Backward from to a = IsGrownFromBook {D = Pre} operations (pre_way operations) p Backward from to a
-  IsGrownBy Forward from to a = IsGrownFromBook {D = Post} operations (forward_way operations) p Forward from to a
+  abbrev pub IsGrownBy : Side → ℕ → PatternValue → PatternValue → Answer S W Map → Type 0
+  IsGrownBy Backward workers from to a = IsGrownFromBook {D = Pre} operations (pre_way operations) p Backward workers from to a
+  IsGrownBy Forward workers from to a = IsGrownFromBook {D = Post} operations (forward_way operations) p Forward workers from to a
 
-  -- The answer to a query by a side: what it shows, and that it is grown that way.
-  pub record IsAnswer (side : Side) (from to : PatternValue) (a : Answer S W Map) : Type 0 where
+  -- The answer to a query by a side and so many workers: what it shows, and that it is grown that way.
+  pub record IsAnswer (side : Side) (workers : ℕ) (from to : PatternValue) (a : Answer S W Map) : Type 0 where
     pub shows : ShowsAnswer operations p from to side a
-    pub grown : IsGrownBy side from to a
+    pub grown : IsGrownBy side workers from to a

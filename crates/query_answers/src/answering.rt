@@ -1,8 +1,9 @@
-ghost use Rattle.std.specs.Prelude.{◌≡◌, ◌<◌, IfOk};
+ghost use Rattle.std.specs.Prelude.{◌≡◌, ◌<◌, ℕ, IfOk};
 ghost use Rattle.config_patterns.specs.Membership.{PatternValue};
 ghost use Rattle.pattern_openings.specs.PatternOpenings.{IsOver};
 ghost use Rattle.pushdown_rules.specs.Pushdown.{Pushdown};
 ghost use Rattle.witness_graph.specs.declared.node.Side.{Side as SideValue};
+ghost use Rattle.worker_pool.specs.Workers.{IsWorkerCount};
 ghost use Rattle.query_answers.specs.Answering.{opened_of, summed_of, saturated_system, IsFinished, IsSaturated, IsAnswer};
 
 use crate::Saturation;
@@ -14,31 +15,45 @@ use prestar::pre_opening;
 use pushdown_rules::System;
 use semiring_laws::Semiring;
 use std::alloc::Global;
+use std::sync::Wait;
+use std::thread::Threads;
 use witness_graph::Side;
-use worker_pool::saturate_alone;
 use wpds_base::OutOfMemory;
+use wpds_port::Gate;
 
-/// The finished saturation from a pattern, by one worker: backwards from where runs end, or forwards from where they begin.
-/// Refused only when out of memory.
-pub fn saturate<'s, S: Semiring>(
+/// The finished saturation from a pattern, by so many workers: backwards from where runs end, or forwards from where they
+/// begin. Refused only when out of memory. Two workers or more have a thread each, and each worker calls the gate between
+/// taking a transition and settling it.
+pub fn saturate<
+    's,
+    H: Threads + Wait + Sync,
+    S: Semiring<W: Send + Sync, Ret: Send + Sync> + Send + Sync,
+    G: Gate,
+>(
+    rt: &H,
     alloc: Global,
     system: &'s System<S>,
     side: Side,
+    workers: u32,
     opened: &Pattern,
+    gate: &G,
 ) -> Result<Saturation<'s, S>, OutOfMemory>
-    requires { IsOver system.now.controls system.now.symbols opened.now }
-    ensures saturated { IfOk result (IsSaturated S.operations system.now side opened.now) }
+    requires opened { IsOver system.now.controls system.now.symbols opened.now }
+    requires workers { IsWorkerCount workers }
+    ensures saturated { IfOk result (IsSaturated S.operations system.now side workers opened.now) }
     ensures finished { IfOk result IsFinished }
     ensures system { IfOk result (λ s. saturated_system s ≡ system.now) }
 {
     match side {
         Side::Pre => {
             let book = pre_opening(alloc, system, opened)?;
-            Ok(Saturation::Backward(saturate_alone(alloc, book)?))
+            let book = worker_pool::saturate(rt, alloc, book, workers, gate)?;
+            Ok(Saturation::Backward(book))
         }
         Side::Post => {
             let book = post_opening(alloc, system, opened)?;
-            Ok(Saturation::Forward(saturate_alone(alloc, book)?))
+            let book = worker_pool::saturate(rt, alloc, book, workers, gate)?;
+            Ok(Saturation::Forward(book))
         }
     }
 }
@@ -52,10 +67,10 @@ pub fn answer_over<S: Semiring>(
 ) -> Result<Answer<S>, OutOfMemory>
     requires finished { IsFinished saturation.now }
     requires control { summed.now.control < (saturated_system saturation.now).controls }
-    ensures { (p : Pushdown S S.W S.Ret) (side : SideValue) (from to : PatternValue)
+    ensures { (p : Pushdown S S.W S.Ret) (side : SideValue) (workers : ℕ) (from to : PatternValue)
         → (opened_of side from to).control < p.controls → summed_of side from to ≡ summed.now
-        → IsSaturated S.operations p side (opened_of side from to) saturation.now
-        → IfOk result (IsAnswer S.operations p side from to) }
+        → IsSaturated S.operations p side workers (opened_of side from to) saturation.now
+        → IfOk result (IsAnswer S.operations p side workers from to) }
 {
     openings_read_members();
     match saturation {
@@ -64,25 +79,33 @@ pub fn answer_over<S: Semiring>(
     }
 }
 
-/// The answer to the query for runs from a pattern to a pattern, by one worker: backwards from the second, and then the sum
-/// over the paths that read the first, or forwards from the first, and then the sum over those that read the second.
-/// Refused only when out of memory.
-pub fn answer<S: Semiring>(
+/// The answer to the query for runs from a pattern to a pattern, by so many workers: backwards from the second, and then
+/// the sum over the paths that read the first, or forwards from the first, and then the sum over those that read the
+/// second. Refused only when out of memory.
+pub fn answer<
+    H: Threads + Wait + Sync,
+    S: Semiring<W: Send + Sync, Ret: Send + Sync> + Send + Sync,
+    G: Gate,
+>(
+    rt: &H,
     alloc: Global,
     system: &System<S>,
     side: Side,
+    workers: u32,
     from: &Pattern,
     to: &Pattern,
+    gate: &G,
 ) -> Result<Answer<S>, OutOfMemory>
     requires opened { let opened = opened_of side from.now to.now in
         IsOver system.now.controls system.now.symbols opened }
     requires summed { (summed_of side from.now to.now).control < system.now.controls }
-    ensures { IfOk result (IsAnswer S.operations system.now side from.now to.now) }
+    requires workers { IsWorkerCount workers }
+    ensures { IfOk result (IsAnswer S.operations system.now side workers from.now to.now) }
 {
     let (opened, summed) = match side {
         Side::Pre => (to, from),
         Side::Post => (from, to),
     };
-    let saturation = saturate(alloc, system, side, opened)?;
+    let saturation = saturate(rt, alloc, system, side, workers, opened, gate)?;
     answer_over(alloc, &saturation, summed)
 }

@@ -62,7 +62,7 @@ query 2: 2
 
 #[test]
 fn worked_systems(rt: HostRuntime) -> Result<(), OutOfMemory> {
-    assert_eq!(rt; first_wrong(rt.alloc(), "wpds 1\n", WORKED)?, None);
+    assert_eq!(rt; first_wrong(&rt, "wpds 1\n", WORKED)?, None);
     Ok(())
 }
 
@@ -110,7 +110,7 @@ query 15: 3
 
 #[test]
 fn many_queries_on_a_call(rt: HostRuntime) -> Result<(), OutOfMemory> {
-    assert_eq!(rt; first_wrong(rt.alloc(), CALL, CALLS)?, None);
+    assert_eq!(rt; first_wrong(&rt, CALL, CALLS)?, None);
     Ok(())
 }
 
@@ -151,7 +151,7 @@ query 12: 0
 
 #[test]
 fn many_queries_on_a_growing_stack(rt: HostRuntime) -> Result<(), OutOfMemory> {
-    assert_eq!(rt; first_wrong(rt.alloc(), GROWING, GROWTHS)?, None);
+    assert_eq!(rt; first_wrong(&rt, GROWING, GROWTHS)?, None);
     Ok(())
 }
 
@@ -203,7 +203,7 @@ query 7: unreachable
 
 #[test]
 fn queries_to_one_pattern(rt: HostRuntime) -> Result<(), OutOfMemory> {
-    assert_eq!(rt; first_wrong(rt.alloc(), "wpds 1\n", SHARED)?, None);
+    assert_eq!(rt; first_wrong(&rt, "wpds 1\n", SHARED)?, None);
     Ok(())
 }
 
@@ -260,7 +260,7 @@ query 1: 9
 
 #[test]
 fn lines_in_any_order(rt: HostRuntime) -> Result<(), OutOfMemory> {
-    assert_eq!(rt; first_wrong(rt.alloc(), "wpds 1\n", ORDERS)?, None);
+    assert_eq!(rt; first_wrong(&rt, "wpds 1\n", ORDERS)?, None);
     Ok(())
 }
 
@@ -347,7 +347,7 @@ query 2: 0
 
 #[test]
 fn rules_that_lead_nowhere(rt: HostRuntime) -> Result<(), OutOfMemory> {
-    assert_eq!(rt; first_wrong(rt.alloc(), "wpds 1\n", NONE)?, None);
+    assert_eq!(rt; first_wrong(&rt, "wpds 1\n", NONE)?, None);
     Ok(())
 }
 
@@ -410,7 +410,7 @@ query 3: 9 or more
 
 #[test]
 fn costs_below_and_at_the_cap(rt: HostRuntime) -> Result<(), OutOfMemory> {
-    assert_eq!(rt; first_wrong(rt.alloc(), "wpds 1\n", CAPS)?, None);
+    assert_eq!(rt; first_wrong(&rt, "wpds 1\n", CAPS)?, None);
     Ok(())
 }
 
@@ -428,6 +428,6 @@ query p: e0 => p:
 
 #[test]
 fn a_ladder(rt: HostRuntime) -> Result<(), OutOfMemory> {
-    assert!(rt; writes(rt.alloc(), LADDER.as_bytes(), "query 1: 2\n")?);
+    assert!(rt; writes(&rt, LADDER.as_bytes(), "query 1: 2\n")?);
     Ok(())
 }

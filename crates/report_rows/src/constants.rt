@@ -57,7 +57,7 @@ query 2: x=x
 
 #[test]
 fn worked_systems(rt: HostRuntime) -> Result<(), OutOfMemory> {
-    assert_eq!(rt; first_wrong(rt.alloc(), HEAD, WORKED)?, None);
+    assert_eq!(rt; first_wrong(&rt, HEAD, WORKED)?, None);
     Ok(())
 }
 
@@ -145,7 +145,7 @@ query 3: x=? y=x,y z=-1,z
 
 #[test]
 fn steps_and_branches(rt: HostRuntime) -> Result<(), OutOfMemory> {
-    assert_eq!(rt; first_wrong(rt.alloc(), HEAD, BRANCHES)?, None);
+    assert_eq!(rt; first_wrong(&rt, HEAD, BRANCHES)?, None);
     Ok(())
 }
 
@@ -178,7 +178,7 @@ query 2: x=0 y=-9223372036854775807
 
 #[test]
 fn extreme_constants(rt: HostRuntime) -> Result<(), OutOfMemory> {
-    assert_eq!(rt; first_wrong(rt.alloc(), HEAD, EXTREMES)?, None);
+    assert_eq!(rt; first_wrong(&rt, HEAD, EXTREMES)?, None);
     Ok(())
 }
 
@@ -267,7 +267,7 @@ query 4: x=x
 
 #[test]
 fn calls(rt: HostRuntime) -> Result<(), OutOfMemory> {
-    assert_eq!(rt; first_wrong(rt.alloc(), HEAD, CALLS)?, None);
+    assert_eq!(rt; first_wrong(&rt, HEAD, CALLS)?, None);
     Ok(())
 }
 
@@ -298,7 +298,7 @@ query 8: x=x y=y
 
 #[test]
 fn patterns_on_both_sides(rt: HostRuntime) -> Result<(), OutOfMemory> {
-    assert_eq!(rt; first_wrong(rt.alloc(), HEAD, PATTERNS)?, None);
+    assert_eq!(rt; first_wrong(&rt, HEAD, PATTERNS)?, None);
     Ok(())
 }
 
@@ -330,30 +330,30 @@ fn unchanged(alloc: Global, count: u32) -> Result<String, OutOfMemory> {
 }
 
 // Whether of so many variables the first and the last are told, and what is restored of them.
-fn has_first_and_last(alloc: Global, count: u32) -> Result<bool, OutOfMemory> {
-    let document = with_variables(alloc, count)?;
+fn has_first_and_last(rt: &HostRuntime, count: u32) -> Result<bool, OutOfMemory> {
+    let document = with_variables(rt.alloc(), count)?;
     let last = count.saturating_sub(1);
-    let others = unchanged(alloc, count)?;
-    let text = format!(in alloc;
+    let others = unchanged(rt.alloc(), count)?;
+    let text = format!(in rt.alloc();
         "query 1: x0=5 x1=x0{others} x{last}=x0
 query 2: x0=x0 x1=x0{others} x{last}=x{last}
 "
     )?;
-    writes(alloc, document.as_bytes(), text.as_str())
+    writes(rt, document.as_bytes(), text.as_str())
 }
 
 #[test]
 fn first_and_last_variables(rt: HostRuntime) -> Result<(), OutOfMemory> {
     for count in [3, 4, 31, 32, 33, 63, 64] {
         assert!(rt;
-            has_first_and_last(rt.alloc(), count)?,
+            has_first_and_last(&rt, count)?,
             "at {count} variables"
         );
     }
     let document = with_variables(rt.alloc(), 65)?;
     assert!(rt;
         writes(
-            rt.alloc(),
+            &rt,
             document.as_bytes(),
             "refused: line 5: 9 Count\n"
         )?
@@ -382,6 +382,6 @@ refused: line 7: 6 Unknown
 
 #[test]
 fn refused_documents(rt: HostRuntime) -> Result<(), OutOfMemory> {
-    assert_eq!(rt; first_wrong(rt.alloc(), HEAD, REFUSED)?, None);
+    assert_eq!(rt; first_wrong(&rt, HEAD, REFUSED)?, None);
     Ok(())
 }

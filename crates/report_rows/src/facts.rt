@@ -2,7 +2,6 @@
 //! run kills it.
 
 use crate::rows::{first_wrong, numbered, writes};
-use std::alloc::Global;
 use wpds_base::OutOfMemory;
 
 const HEAD: &str = "wpds 1\nweights genkill\n";
@@ -74,7 +73,7 @@ query 2: gen f kill g
 
 #[test]
 fn steps_and_branches(rt: HostRuntime) -> Result<(), OutOfMemory> {
-    assert_eq!(rt; first_wrong(rt.alloc(), HEAD, BRANCHES)?, None);
+    assert_eq!(rt; first_wrong(&rt, HEAD, BRANCHES)?, None);
     Ok(())
 }
 
@@ -178,7 +177,7 @@ query 5: gen y kill -
 
 #[test]
 fn calls(rt: HostRuntime) -> Result<(), OutOfMemory> {
-    assert_eq!(rt; first_wrong(rt.alloc(), HEAD, CALLS)?, None);
+    assert_eq!(rt; first_wrong(&rt, HEAD, CALLS)?, None);
     Ok(())
 }
 
@@ -211,7 +210,7 @@ query 9: gen - kill -
 
 #[test]
 fn patterns_on_both_sides(rt: HostRuntime) -> Result<(), OutOfMemory> {
-    assert_eq!(rt; first_wrong(rt.alloc(), HEAD, PATTERNS)?, None);
+    assert_eq!(rt; first_wrong(&rt, HEAD, PATTERNS)?, None);
     Ok(())
 }
 
@@ -243,22 +242,22 @@ query 3: gen gen kill -
 
 #[test]
 fn names_of_facts(rt: HostRuntime) -> Result<(), OutOfMemory> {
-    assert_eq!(rt; first_wrong(rt.alloc(), HEAD, NAMES)?, None);
+    assert_eq!(rt; first_wrong(&rt, HEAD, NAMES)?, None);
     Ok(())
 }
 
 // Whether this is written on a document with the facts `f0`, `f1` and so on, so many, on line 5.
 fn is_right(
-    alloc: Global,
+    rt: &HostRuntime,
     symbols: &str,
     count: u32,
     lines: &str,
     text: &str,
 ) -> Result<bool, OutOfMemory> {
-    let front = format!(in alloc; "{HEAD}controls p\nsymbols {symbols}\nfacts")?;
-    let end = format!(in alloc; "\n{lines}")?;
-    let document = numbered(alloc, front.as_str(), "f", count, end.as_str())?;
-    writes(alloc, document.as_bytes(), text)
+    let front = format!(in rt.alloc(); "{HEAD}controls p\nsymbols {symbols}\nfacts")?;
+    let end = format!(in rt.alloc(); "\n{lines}")?;
+    let document = numbered(rt.alloc(), front.as_str(), "f", count, end.as_str())?;
+    writes(rt, document.as_bytes(), text)
 }
 
 // How many facts there are, the symbols, the lines behind the facts, and what is written.
@@ -287,7 +286,7 @@ const EDGES: [(u32, &str, &str, &str); 3] = [
 fn edges_of_widths(rt: HostRuntime) -> Result<(), OutOfMemory> {
     for (count, symbols, lines, text) in EDGES {
         assert!(rt;
-            is_right(rt.alloc(), symbols, count, lines, text)?,
+            is_right(&rt, symbols, count, lines, text)?,
             "at {count} facts"
         );
     }
@@ -297,9 +296,9 @@ fn edges_of_widths(rt: HostRuntime) -> Result<(), OutOfMemory> {
 const COUNTS: [u32; 10] = [2, 64, 65, 128, 129, 256, 257, 512, 513, 1_024];
 
 // Whether the last of so many facts is generated and the first killed, and each of them is restored by a call.
-fn has_first_and_last(alloc: Global, count: u32) -> Result<bool, OutOfMemory> {
+fn has_first_and_last(rt: &HostRuntime, count: u32) -> Result<bool, OutOfMemory> {
     let last = count.saturating_sub(1);
-    let lines = format!(in alloc;
+    let lines = format!(in rt.alloc();
         "rule p a -> p b : +f{last}
 rule p b -> p c : -f0
 rule p c -> p
@@ -310,19 +309,19 @@ query p: d => p: c
 query p: e => p: c
 "
     )?;
-    let text = format!(in alloc;
+    let text = format!(in rt.alloc();
         "query 1: gen f{last} kill f0
 query 2: gen - kill f0
 query 3: gen f{last} kill -
 "
     )?;
-    is_right(alloc, "a b c d e", count, lines.as_str(), text.as_str())
+    is_right(rt, "a b c d e", count, lines.as_str(), text.as_str())
 }
 
 #[test]
 fn first_and_last_facts(rt: HostRuntime) -> Result<(), OutOfMemory> {
     for count in COUNTS {
-        assert!(rt; has_first_and_last(rt.alloc(), count)?, "at {count} facts");
+        assert!(rt; has_first_and_last(&rt, count)?, "at {count} facts");
     }
     Ok(())
 }
@@ -335,12 +334,12 @@ fn push_name(text: &mut String, sign: &str, name: &str) -> Result<(), OutOfMemor
 }
 
 // Whether of so many facts each second one is generated and each other one killed.
-fn has_each_in_turn(alloc: Global, count: u32) -> Result<bool, OutOfMemory> {
-    let mut weight = String::new(alloc);
-    let mut generated = String::new(alloc);
-    let mut killed = String::new(alloc);
+fn has_each_in_turn(rt: &HostRuntime, count: u32) -> Result<bool, OutOfMemory> {
+    let mut weight = String::new(rt.alloc());
+    let mut generated = String::new(rt.alloc());
+    let mut killed = String::new(rt.alloc());
     for fact in 0..count {
-        let name = format!(in alloc; "f{fact}")?;
+        let name = format!(in rt.alloc(); "f{fact}")?;
         if fact % 2 == 0 {
             push_name(&mut weight, " +", name.as_str())?;
             push_name(&mut generated, " ", name.as_str())?;
@@ -349,15 +348,15 @@ fn has_each_in_turn(alloc: Global, count: u32) -> Result<bool, OutOfMemory> {
             push_name(&mut killed, " ", name.as_str())?;
         }
     }
-    let lines = format!(in alloc; "rule p a -> p b :{weight}\nquery p: a => p: b\n")?;
-    let text = format!(in alloc; "query 1: gen{generated} kill{killed}\n")?;
-    is_right(alloc, "a b", count, lines.as_str(), text.as_str())
+    let lines = format!(in rt.alloc(); "rule p a -> p b :{weight}\nquery p: a => p: b\n")?;
+    let text = format!(in rt.alloc(); "query 1: gen{generated} kill{killed}\n")?;
+    is_right(rt, "a b", count, lines.as_str(), text.as_str())
 }
 
 #[test]
 fn each_fact_in_turn(rt: HostRuntime) -> Result<(), OutOfMemory> {
     for count in COUNTS {
-        assert!(rt; has_each_in_turn(rt.alloc(), count)?, "at {count} facts");
+        assert!(rt; has_each_in_turn(&rt, count)?, "at {count} facts");
     }
     Ok(())
 }
@@ -381,6 +380,6 @@ refused: line 5: 6 Unknown
 
 #[test]
 fn refused_documents(rt: HostRuntime) -> Result<(), OutOfMemory> {
-    assert_eq!(rt; first_wrong(rt.alloc(), HEAD, REFUSED)?, None);
+    assert_eq!(rt; first_wrong(&rt, HEAD, REFUSED)?, None);
     Ok(())
 }

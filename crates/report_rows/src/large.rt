@@ -29,15 +29,15 @@ struct Repeats {
     written: &'static str,
 }
 
-fn is_right(alloc: Global, row: &Repeats) -> Result<bool, OutOfMemory> {
-    let document = repeated(alloc, row.front, row.text, row.count, row.end)?;
-    writes(alloc, document.as_bytes(), row.written)
+fn is_right(rt: &HostRuntime, row: &Repeats) -> Result<bool, OutOfMemory> {
+    let document = repeated(rt.alloc(), row.front, row.text, row.count, row.end)?;
+    writes(rt, document.as_bytes(), row.written)
 }
 
 // The number of the first of the rows that is not right.
-fn first_wrong(alloc: Global, rows: &[Repeats]) -> Result<Option<usize>, OutOfMemory> {
+fn first_wrong(rt: &HostRuntime, rows: &[Repeats]) -> Result<Option<usize>, OutOfMemory> {
     for (place, row) in rows.iter().enumerate() {
-        if !is_right(alloc, row)? {
+        if !is_right(rt, row)? {
             return Ok(Some(place));
         }
     }
@@ -78,7 +78,7 @@ const BYTES: [Repeats; 4] = [
 
 #[test]
 fn bytes(rt: HostRuntime) -> Result<(), OutOfMemory> {
-    assert_eq!(rt; first_wrong(rt.alloc(), &BYTES)?, None);
+    assert_eq!(rt; first_wrong(&rt, &BYTES)?, None);
     Ok(())
 }
 
@@ -111,7 +111,7 @@ const RULES: [Repeats; 3] = [
 
 #[test]
 fn rules(rt: HostRuntime) -> Result<(), OutOfMemory> {
-    assert_eq!(rt; first_wrong(rt.alloc(), &RULES)?, None);
+    assert_eq!(rt; first_wrong(&rt, &RULES)?, None);
     Ok(())
 }
 
@@ -164,14 +164,14 @@ const QUERIES: [Repeats; 6] = [
 
 #[test]
 fn queries(rt: HostRuntime) -> Result<(), OutOfMemory> {
-    assert_eq!(rt; first_wrong(rt.alloc(), &QUERIES)?, None);
+    assert_eq!(rt; first_wrong(&rt, &QUERIES)?, None);
     Ok(())
 }
 
 #[test]
 fn as_many_queries_as_there_may_be(rt: HostRuntime) -> Result<(), OutOfMemory> {
     let document = repeated(rt.alloc(), HEAD, "query p: a => p:\n", 1_000, "")?;
-    let text = written(rt.alloc(), document.as_bytes())?;
+    let text = written(&rt, document.as_bytes())?;
     assert!(rt; text.starts_with(b"query 1: unreachable\nquery 2: unreachable\n"));
     assert!(rt; text.ends_with(b"query 999: unreachable\nquery 1000: unreachable\n"));
     Ok(())
@@ -196,7 +196,7 @@ const EDGES: [(&str, &str); 7] = [
 fn edges(rt: HostRuntime) -> Result<(), OutOfMemory> {
     for (end, text) in EDGES {
         let document = repeated(rt.alloc(), DOTS, " .*", 1_000, end)?;
-        assert!(rt; writes(rt.alloc(), document.as_bytes(), text)?, "at {end}");
+        assert!(rt; writes(&rt, document.as_bytes(), text)?, "at {end}");
     }
     Ok(())
 }
@@ -253,7 +253,7 @@ fn names(rt: HostRuntime) -> Result<(), OutOfMemory> {
     for (front, count, end, text) in NAMES {
         let document = numbered(rt.alloc(), front, "n", count, end)?;
         assert!(rt;
-            writes(rt.alloc(), document.as_bytes(), text)?,
+            writes(&rt, document.as_bytes(), text)?,
             "at {count} names, {text}"
         );
     }
@@ -280,7 +280,7 @@ fn brackets(rt: HostRuntime) -> Result<(), OutOfMemory> {
     for (text, closed, wanted) in BRACKETS {
         let document = in_brackets(rt.alloc(), text, closed)?;
         assert!(rt;
-            writes(rt.alloc(), document.as_bytes(), wanted)?,
+            writes(&rt, document.as_bytes(), wanted)?,
             "at {closed} of {text}"
         );
     }

@@ -68,7 +68,7 @@ refused: line 2: 2 NotText
 
 #[test]
 fn the_first_line(rt: HostRuntime) -> Result<(), OutOfMemory> {
-    assert_eq!(rt; first_wrong(rt.alloc(), "", FIRST)?, None);
+    assert_eq!(rt; first_wrong(&rt, "", FIRST)?, None);
     Ok(())
 }
 
@@ -113,7 +113,7 @@ refused: line 2: 4 Form
 
 #[test]
 fn programs(rt: HostRuntime) -> Result<(), OutOfMemory> {
-    assert_eq!(rt; first_wrong(rt.alloc(), "", PROGRAMS)?, None);
+    assert_eq!(rt; first_wrong(&rt, "", PROGRAMS)?, None);
     Ok(())
 }
 
@@ -146,9 +146,9 @@ const SECOND: &str = "2 NotText | weights reaché
 
 #[test]
 fn the_second_line(rt: HostRuntime) -> Result<(), OutOfMemory> {
-    assert_eq!(rt; first_wrong_refusal(rt.alloc(), "wpds 1\n", SECOND)?, None);
+    assert_eq!(rt; first_wrong_refusal(&rt, "wpds 1\n", SECOND)?, None);
     assert_eq!(rt;
-        first_wrong_refusal(rt.alloc(), "\n# x\nwpds 1\n \n", SECOND)?,
+        first_wrong_refusal(&rt, "\n# x\nwpds 1\n \n", SECOND)?,
         None
     );
     Ok(())
@@ -171,11 +171,11 @@ const LATER_WEIGHTS: &str = "5 Twice | weights reach
 fn later_weights_lines(rt: HostRuntime) -> Result<(), OutOfMemory> {
     let second = "wpds 1\nweights reach\n";
     assert_eq!(rt;
-        first_wrong_refusal(rt.alloc(), second, LATER_WEIGHTS)?,
+        first_wrong_refusal(&rt, second, LATER_WEIGHTS)?,
         None
     );
     let last = "wpds 1\nweights copy\ncontrols p\nsymbols a\nquery p: a => p:\n";
-    assert_eq!(rt; first_wrong_refusal(rt.alloc(), last, LATER_WEIGHTS)?, None);
+    assert_eq!(rt; first_wrong_refusal(&rt, last, LATER_WEIGHTS)?, None);
     Ok(())
 }
 
@@ -244,7 +244,7 @@ refused: line 5: 6 Unknown
 
 #[test]
 fn the_end_and_the_first_of_two(rt: HostRuntime) -> Result<(), OutOfMemory> {
-    assert_eq!(rt; first_wrong(rt.alloc(), "", END)?, None);
+    assert_eq!(rt; first_wrong(&rt, "", END)?, None);
     Ok(())
 }
 
@@ -281,7 +281,7 @@ const WORDS: &str = "4 Form | rule p a - > p
 #[test]
 fn words_that_have_no_form(rt: HostRuntime) -> Result<(), OutOfMemory> {
     let head = "wpds 1\nweights cost 9\ncontrols p\nsymbols a\n";
-    assert_eq!(rt; first_wrong_refusal(rt.alloc(), head, WORDS)?, None);
+    assert_eq!(rt; first_wrong_refusal(&rt, head, WORDS)?, None);
     Ok(())
 }
 
@@ -333,7 +333,7 @@ query 1: reachable
 
 #[test]
 fn blanks_are_free(rt: HostRuntime) -> Result<(), OutOfMemory> {
-    assert_eq!(rt; first_wrong(rt.alloc(), "", BLANKS)?, None);
+    assert_eq!(rt; first_wrong(&rt, "", BLANKS)?, None);
     Ok(())
 }
 
@@ -420,7 +420,7 @@ refused: line 3: 2 NotText
 
 #[test]
 fn ends_of_lines(rt: HostRuntime) -> Result<(), OutOfMemory> {
-    assert_eq!(rt; first_wrong(rt.alloc(), "", ENDS)?, None);
+    assert_eq!(rt; first_wrong(&rt, "", ENDS)?, None);
     Ok(())
 }
 
@@ -441,8 +441,8 @@ fn with_all_bytes(alloc: Global, mark: u8) -> Result<Vec<u8>, OutOfMemory> {
 #[test]
 fn a_remark_holds_any_bytes(rt: HostRuntime) -> Result<(), OutOfMemory> {
     let document = with_all_bytes(rt.alloc(), b'#')?;
-    assert!(rt; writes(rt.alloc(), &document, "query 1: 3\n")?);
+    assert!(rt; writes(&rt, &document, "query 1: 3\n")?);
     let document = with_all_bytes(rt.alloc(), b' ')?;
-    assert!(rt; writes(rt.alloc(), &document, "refused: line 7: 2 NotText\n")?);
+    assert!(rt; writes(&rt, &document, "refused: line 7: 2 NotText\n")?);
     Ok(())
 }

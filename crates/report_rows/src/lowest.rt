@@ -56,9 +56,9 @@ const QUERIES: &str = "2 NotText | query p: => p: é
 #[test]
 fn queries(rt: HostRuntime) -> Result<(), OutOfMemory> {
     let head = "wpds 1\nweights reach\ncontrols p q\nsymbols a b\n";
-    assert_eq!(rt; first_wrong_refusal(rt.alloc(), head, QUERIES)?, None);
+    assert_eq!(rt; first_wrong_refusal(&rt, head, QUERIES)?, None);
     let head = "wpds 1\nweights relation\ncontrols p q\nvariables a c r\nsymbols a b\n";
-    assert_eq!(rt; first_wrong_refusal(rt.alloc(), head, QUERIES)?, None);
+    assert_eq!(rt; first_wrong_refusal(&rt, head, QUERIES)?, None);
     Ok(())
 }
 
@@ -92,7 +92,7 @@ const COSTS: &str = "2 NotText | rule p c -> p : 18446744073709551616 é
 #[test]
 fn kinds_with_costs(rt: HostRuntime) -> Result<(), OutOfMemory> {
     let head = "wpds 1\nweights cost 9\ncontrols p q\nsymbols a b\n";
-    assert_eq!(rt; first_wrong_refusal(rt.alloc(), head, COSTS)?, None);
+    assert_eq!(rt; first_wrong_refusal(&rt, head, COSTS)?, None);
     Ok(())
 }
 
@@ -115,7 +115,7 @@ const COPIES: &str = "5 Twice | rule p a -> p a b : z=1 return restore z z
 #[test]
 fn kinds_with_copies(rt: HostRuntime) -> Result<(), OutOfMemory> {
     let head = "wpds 1\nweights copy\ncontrols p\nsymbols a b\nvariables x y\n";
-    assert_eq!(rt; first_wrong_refusal(rt.alloc(), head, COPIES)?, None);
+    assert_eq!(rt; first_wrong_refusal(&rt, head, COPIES)?, None);
     Ok(())
 }
 
@@ -181,7 +181,7 @@ refused: line 9: 6 Unknown
 #[test]
 fn the_first_refused_line(rt: HostRuntime) -> Result<(), OutOfMemory> {
     assert_eq!(rt;
-        first_wrong(rt.alloc(), "wpds 1\nweights reach\n", FIRST)?,
+        first_wrong(&rt, "wpds 1\nweights reach\n", FIRST)?,
         None
     );
     Ok(())

@@ -56,7 +56,7 @@ refused: line 4: 4 Form
 #[test]
 fn long_names(rt: HostRuntime) -> Result<(), OutOfMemory> {
     assert_eq!(rt;
-        first_wrong(rt.alloc(), "wpds 1\nweights reach\n", LONG)?,
+        first_wrong(&rt, "wpds 1\nweights reach\n", LONG)?,
         None
     );
     Ok(())
@@ -91,7 +91,7 @@ const DECLARED: &str = "4 Form | controls one
 #[test]
 fn reserved_words_are_not_declared(rt: HostRuntime) -> Result<(), OutOfMemory> {
     let head = "wpds 1\nweights copy\n";
-    assert_eq!(rt; first_wrong_refusal(rt.alloc(), head, DECLARED)?, None);
+    assert_eq!(rt; first_wrong_refusal(&rt, head, DECLARED)?, None);
     Ok(())
 }
 
@@ -124,7 +124,7 @@ const USED: &str = "6 Unknown | rule p one -> p
 #[test]
 fn reserved_words_are_declared_nowhere(rt: HostRuntime) -> Result<(), OutOfMemory> {
     let head = "wpds 1\nweights reach\ncontrols p\nsymbols a\n";
-    assert_eq!(rt; first_wrong_refusal(rt.alloc(), head, USED)?, None);
+    assert_eq!(rt; first_wrong_refusal(&rt, head, USED)?, None);
     Ok(())
 }
 
@@ -178,7 +178,7 @@ query 4: reachable
 #[test]
 fn words_that_are_not_reserved(rt: HostRuntime) -> Result<(), OutOfMemory> {
     assert_eq!(rt;
-        first_wrong(rt.alloc(), "wpds 1\nweights reach\n", FREE)?,
+        first_wrong(&rt, "wpds 1\nweights reach\n", FREE)?,
         None
     );
     Ok(())
@@ -214,7 +214,7 @@ const CLASSES: &str = "5 Twice | controls q
 #[test]
 fn classes_of_names(rt: HostRuntime) -> Result<(), OutOfMemory> {
     let head = "wpds 1\nweights copy\ncontrols p q\nsymbols a b\nvariables x y\n";
-    assert_eq!(rt; first_wrong_refusal(rt.alloc(), head, CLASSES)?, None);
+    assert_eq!(rt; first_wrong_refusal(&rt, head, CLASSES)?, None);
     Ok(())
 }
 
@@ -229,11 +229,11 @@ const FOREIGN: &str = "4 Form | facts f
 #[test]
 fn names_of_other_weights(rt: HostRuntime) -> Result<(), OutOfMemory> {
     for head in ["wpds 1\nweights reach\n", "wpds 1\nweights cost 9\n"] {
-        assert_eq!(rt; first_wrong_refusal(rt.alloc(), head, FOREIGN)?, None);
+        assert_eq!(rt; first_wrong_refusal(&rt, head, FOREIGN)?, None);
     }
     let facts = "wpds 1\nweights genkill\n";
     let variables = "4 Form | variables x\n4 Form | variables x x\n5 Twice | facts f f\n";
-    assert_eq!(rt; first_wrong_refusal(rt.alloc(), facts, variables)?, None);
+    assert_eq!(rt; first_wrong_refusal(&rt, facts, variables)?, None);
     Ok(())
 }
 
@@ -267,6 +267,6 @@ query 1: gen f kill -
 
 #[test]
 fn a_name_in_three_classes(rt: HostRuntime) -> Result<(), OutOfMemory> {
-    assert_eq!(rt; first_wrong(rt.alloc(), "wpds 1\n", THRICE)?, None);
+    assert_eq!(rt; first_wrong(&rt, "wpds 1\n", THRICE)?, None);
     Ok(())
 }

@@ -1,7 +1,6 @@
 //! Documents whose weights are not built, which are relations: they are read whole, and then refused as a whole.
 
 use crate::rows::{first_wrong, numbered, writes};
-use std::alloc::Global;
 use wpds_base::OutOfMemory;
 
 const ACCEPTED: &str = "controls p
@@ -48,7 +47,7 @@ const HEAD: &str = "wpds 1\nweights relation\n";
 
 #[test]
 fn accepted_documents(rt: HostRuntime) -> Result<(), OutOfMemory> {
-    assert_eq!(rt; first_wrong(rt.alloc(), HEAD, ACCEPTED)?, None);
+    assert_eq!(rt; first_wrong(&rt, HEAD, ACCEPTED)?, None);
     Ok(())
 }
 
@@ -92,20 +91,20 @@ refused: line 5: 5 Twice
 
 #[test]
 fn refused_documents(rt: HostRuntime) -> Result<(), OutOfMemory> {
-    assert_eq!(rt; first_wrong(rt.alloc(), HEAD, REFUSED)?, None);
+    assert_eq!(rt; first_wrong(&rt, HEAD, REFUSED)?, None);
     Ok(())
 }
 
 // Whether this is written on a document with so many variables on its line 5.
-fn is_right(alloc: Global, count: u32, text: &str) -> Result<bool, OutOfMemory> {
+fn is_right(rt: &HostRuntime, count: u32, text: &str) -> Result<bool, OutOfMemory> {
     let front = "wpds 1\nweights relation\ncontrols p\nsymbols a b\nvariables";
-    let document = numbered(alloc, front, "x", count, "\nquery p: a => p: b\n")?;
-    writes(alloc, document.as_bytes(), text)
+    let document = numbered(rt.alloc(), front, "x", count, "\nquery p: a => p: b\n")?;
+    writes(rt, document.as_bytes(), text)
 }
 
 #[test]
 fn variables_are_counted(rt: HostRuntime) -> Result<(), OutOfMemory> {
-    assert!(rt; is_right(rt.alloc(), 24, "refused: line 0: 14 NotBuilt\n")?);
-    assert!(rt; is_right(rt.alloc(), 25, "refused: line 5: 9 Count\n")?);
+    assert!(rt; is_right(&rt, 24, "refused: line 0: 14 NotBuilt\n")?);
+    assert!(rt; is_right(&rt, 25, "refused: line 5: 9 Count\n")?);
     Ok(())
 }

@@ -43,7 +43,7 @@ query 14: reachable
 
 #[test]
 fn sets_and_symbols(rt: HostRuntime) -> Result<(), OutOfMemory> {
-    assert_eq!(rt; first_wrong(rt.alloc(), HEAD, SETS)?, None);
+    assert_eq!(rt; first_wrong(&rt, HEAD, SETS)?, None);
     Ok(())
 }
 
@@ -100,7 +100,7 @@ query 24: unreachable
 
 #[test]
 fn stars(rt: HostRuntime) -> Result<(), OutOfMemory> {
-    assert_eq!(rt; first_wrong(rt.alloc(), HEAD, STARS)?, None);
+    assert_eq!(rt; first_wrong(&rt, HEAD, STARS)?, None);
     Ok(())
 }
 
@@ -146,6 +146,6 @@ query 10: reachable
 
 #[test]
 fn a_stack_is_inspected(rt: HostRuntime) -> Result<(), OutOfMemory> {
-    assert_eq!(rt; first_wrong(rt.alloc(), INSPECTION, WAITING)?, None);
+    assert_eq!(rt; first_wrong(&rt, INSPECTION, WAITING)?, None);
     Ok(())
 }

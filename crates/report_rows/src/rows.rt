@@ -3,7 +3,7 @@
 use std::alloc::Global;
 use wpds_app::run;
 use wpds_base::OutOfMemory;
-use wpds_port::{MemSink, MemSource};
+use wpds_port::{MemSink, MemSource, OpenGate};
 
 // How many bytes are written at most.
 const ROOM: usize = 100_000;
@@ -12,35 +12,40 @@ const ROOM: usize = 100_000;
 const PIECE: usize = 4096;
 
 /// What `check --brief` writes on a document.
-pub(crate) fn written(alloc: Global, document: &[u8]) -> Result<Vec<u8>, OutOfMemory> {
-    written_by(alloc, document, "pre")
+pub(crate) fn written(rt: &HostRuntime, document: &[u8]) -> Result<Vec<u8>, OutOfMemory> {
+    written_by(rt, document, "pre", "1")
 }
 
-// What `check --brief --by` writes on a document by a direction, `pre` or `post`.
-fn written_by(alloc: Global, document: &[u8], by: &str) -> Result<Vec<u8>, OutOfMemory> {
-    let mut words = Vec::new(alloc);
-    for word in ["check", "--brief", "--by", by] {
-        words.push(String::from_str(alloc, word)?)?;
+/// What `check --brief` writes on a document by a direction, `pre` or `post`, and so many workers.
+pub(crate) fn written_by(
+    rt: &HostRuntime,
+    document: &[u8],
+    by: &str,
+    workers: &str,
+) -> Result<Vec<u8>, OutOfMemory> {
+    let mut words = Vec::new(rt.alloc());
+    for word in ["check", "--brief", "--by", by, "--workers", workers] {
+        words.push(String::from_str(rt.alloc(), word)?)?;
     }
-    let mut source = MemSource::new(document.to_vec(alloc)?, PIECE, Vec::new(alloc));
-    let mut sink = MemSink::new(alloc, ROOM, PIECE, Vec::new(alloc))?;
-    let _ = run(alloc, &words, &mut source, &mut sink);
-    Ok(sink.written().to_vec(alloc)?)
+    let mut source = MemSource::new(document.to_vec(rt.alloc())?, PIECE, Vec::new(rt.alloc()));
+    let mut sink = MemSink::new(rt.alloc(), ROOM, PIECE, Vec::new(rt.alloc()))?;
+    let _ = run(rt, rt.alloc(), &words, &mut source, &mut sink, &OpenGate);
+    Ok(sink.written().to_vec(rt.alloc())?)
 }
 
 /// Whether `check --brief` writes this text on a document, backwards and forwards.
-pub(crate) fn writes(alloc: Global, document: &[u8], text: &str) -> Result<bool, OutOfMemory> {
-    let backwards = written_by(alloc, document, "pre")?;
-    let forwards = written_by(alloc, document, "post")?;
+pub(crate) fn writes(rt: &HostRuntime, document: &[u8], text: &str) -> Result<bool, OutOfMemory> {
+    let backwards = written_by(rt, document, "pre", "1")?;
+    let forwards = written_by(rt, document, "post", "1")?;
     Ok(backwards.as_slice() == text.as_bytes() && forwards.as_slice() == text.as_bytes())
 }
 
 // Whether a row says what is written.
-fn is_right(alloc: Global, head: &str, row: &str) -> Result<bool, OutOfMemory> {
+fn is_right(rt: &HostRuntime, head: &str, row: &str) -> Result<bool, OutOfMemory> {
     match row.split_once("----\n") {
         Some((lines, text)) => {
-            let document = format!(in alloc; "{head}{lines}")?;
-            writes(alloc, document.as_bytes(), text)
+            let document = format!(in rt.alloc(); "{head}{lines}")?;
+            writes(rt, document.as_bytes(), text)
         }
         None => Ok(false),
     }
@@ -51,12 +56,12 @@ fn is_right(alloc: Global, head: &str, row: &str) -> Result<bool, OutOfMemory> {
 /// Lines `====` stand between the rows. Each row has the lines of a document behind the head, a
 /// line `----`, and what is written.
 pub(crate) fn first_wrong(
-    alloc: Global,
+    rt: &HostRuntime,
     head: &str,
     rows: &str,
 ) -> Result<Option<usize>, OutOfMemory> {
     for (place, row) in rows.split("====\n").enumerate() {
-        if !is_right(alloc, head, row)? {
+        if !is_right(rt, head, row)? {
             return Ok(Some(place.saturating_add(1)));
         }
     }
@@ -64,13 +69,13 @@ pub(crate) fn first_wrong(
 }
 
 // Whether a line behind the head, which is refused on it, is refused as it says.
-fn is_right_refusal(alloc: Global, head: &str, row: &str) -> Result<bool, OutOfMemory> {
+fn is_right_refusal(rt: &HostRuntime, head: &str, row: &str) -> Result<bool, OutOfMemory> {
     let number = head.split('\n').count();
     match row.split_once(" | ") {
         Some((kind, line)) => {
-            let document = format!(in alloc; "{head}{line}\n")?;
-            let text = format!(in alloc; "refused: line {number}: {kind}\n")?;
-            writes(alloc, document.as_bytes(), text.as_str())
+            let document = format!(in rt.alloc(); "{head}{line}\n")?;
+            let text = format!(in rt.alloc(); "refused: line {number}: {kind}\n")?;
+            writes(rt, document.as_bytes(), text.as_str())
         }
         None => Ok(false),
     }
@@ -81,12 +86,12 @@ fn is_right_refusal(alloc: Global, head: &str, row: &str) -> Result<bool, OutOfM
 /// Each row is a line: the kind by which the document's last line is refused, ` | `, and this line,
 /// which stands behind the head.
 pub(crate) fn first_wrong_refusal(
-    alloc: Global,
+    rt: &HostRuntime,
     head: &str,
     rows: &str,
 ) -> Result<Option<usize>, OutOfMemory> {
     for (place, row) in rows.lines().enumerate() {
-        if !is_right_refusal(alloc, head, row)? {
+        if !is_right_refusal(rt, head, row)? {
             return Ok(Some(place.saturating_add(1)));
         }
     }
@@ -94,12 +99,12 @@ pub(crate) fn first_wrong_refusal(
 }
 
 // Whether the document of a line behind the head and a query has the value that a row says.
-fn is_right_value(alloc: Global, head: &str, query: &str, row: &str) -> Result<bool, OutOfMemory> {
+fn is_right_value(rt: &HostRuntime, head: &str, query: &str, row: &str) -> Result<bool, OutOfMemory> {
     match row.split_once(" | ") {
         Some((value, line)) => {
-            let document = format!(in alloc; "{head}{line}\nquery {query}\n")?;
-            let text = format!(in alloc; "query 1: {value}\n")?;
-            writes(alloc, document.as_bytes(), text.as_str())
+            let document = format!(in rt.alloc(); "{head}{line}\nquery {query}\n")?;
+            let text = format!(in rt.alloc(); "query 1: {value}\n")?;
+            writes(rt, document.as_bytes(), text.as_str())
         }
         None => Ok(false),
     }
@@ -109,13 +114,13 @@ fn is_right_value(alloc: Global, head: &str, query: &str, row: &str) -> Result<b
 ///
 /// Each row is a line: a query's value, ` | `, and a line that stands between the head and this query.
 pub(crate) fn first_wrong_value(
-    alloc: Global,
+    rt: &HostRuntime,
     head: &str,
     query: &str,
     rows: &str,
 ) -> Result<Option<usize>, OutOfMemory> {
     for (place, row) in rows.lines().enumerate() {
-        if !is_right_value(alloc, head, query, row)? {
+        if !is_right_value(rt, head, query, row)? {
             return Ok(Some(place.saturating_add(1)));
         }
     }
@@ -139,20 +144,20 @@ pub(crate) fn numbered(
 }
 
 // Whether a document is accepted whose weights are not built.
-fn is_accepted(alloc: Global, head: &str, line: &str) -> Result<bool, OutOfMemory> {
-    let document = format!(in alloc; "{head}{line}\nquery p: => p:\n")?;
-    writes(alloc, document.as_bytes(), "refused: line 0: 14 NotBuilt\n")
+fn is_accepted(rt: &HostRuntime, head: &str, line: &str) -> Result<bool, OutOfMemory> {
+    let document = format!(in rt.alloc(); "{head}{line}\nquery p: => p:\n")?;
+    writes(rt, document.as_bytes(), "refused: line 0: 14 NotBuilt\n")
 }
 
 /// The number, from 1, of the first of the lines that is not accepted behind the head, whose
 /// weights are not built.
 pub(crate) fn first_not_accepted(
-    alloc: Global,
+    rt: &HostRuntime,
     head: &str,
     lines: &str,
 ) -> Result<Option<usize>, OutOfMemory> {
     for (place, line) in lines.lines().enumerate() {
-        if !is_accepted(alloc, head, line)? {
+        if !is_accepted(rt, head, line)? {
             return Ok(Some(place.saturating_add(1)));
         }
     }

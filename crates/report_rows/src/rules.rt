@@ -67,7 +67,7 @@ const RULES: &str = "4 Form | rule
 
 #[test]
 fn rules_with_reachability(rt: HostRuntime) -> Result<(), OutOfMemory> {
-    assert_eq!(rt; first_wrong_refusal(rt.alloc(), REACH, RULES)?, None);
+    assert_eq!(rt; first_wrong_refusal(&rt, REACH, RULES)?, None);
     Ok(())
 }
 
@@ -94,7 +94,7 @@ const COSTS: &str = "7 WeightText | rule p a -> p : 18446744073709551616
 
 #[test]
 fn rules_with_costs(rt: HostRuntime) -> Result<(), OutOfMemory> {
-    assert_eq!(rt; first_wrong_refusal(rt.alloc(), COST, COSTS)?, None);
+    assert_eq!(rt; first_wrong_refusal(&rt, COST, COSTS)?, None);
     Ok(())
 }
 
@@ -132,7 +132,7 @@ const FACT_RULES: &str = "7 WeightText | rule p a -> p : x
 
 #[test]
 fn rules_with_facts(rt: HostRuntime) -> Result<(), OutOfMemory> {
-    assert_eq!(rt; first_wrong_refusal(rt.alloc(), FACTS, FACT_RULES)?, None);
+    assert_eq!(rt; first_wrong_refusal(&rt, FACTS, FACT_RULES)?, None);
     Ok(())
 }
 
@@ -152,10 +152,10 @@ unreachable | rule p a -> p a b : none return plain
 #[test]
 fn rules_with_facts_that_are_accepted(rt: HostRuntime) -> Result<(), OutOfMemory> {
     let pop = "p: a => p:";
-    assert_eq!(rt; first_wrong_value(rt.alloc(), FACTS, pop, FACT_POPS)?, None);
+    assert_eq!(rt; first_wrong_value(&rt, FACTS, pop, FACT_POPS)?, None);
     let call = "p: a => p: a b";
     assert_eq!(rt;
-        first_wrong_value(rt.alloc(), FACTS, call, FACT_CALLS)?,
+        first_wrong_value(&rt, FACTS, call, FACT_CALLS)?,
         None
     );
     Ok(())
@@ -207,7 +207,7 @@ const COPY_RULES: &str = "7 WeightText | rule p a -> p : x
 
 #[test]
 fn rules_with_copies(rt: HostRuntime) -> Result<(), OutOfMemory> {
-    assert_eq!(rt; first_wrong_refusal(rt.alloc(), COPIES, COPY_RULES)?, None);
+    assert_eq!(rt; first_wrong_refusal(&rt, COPIES, COPY_RULES)?, None);
     Ok(())
 }
 
@@ -237,12 +237,12 @@ unreachable | rule p a -> p a b : none return plain
 fn rules_with_copies_that_are_accepted(rt: HostRuntime) -> Result<(), OutOfMemory> {
     let pop = "p: a => p:";
     assert_eq!(rt;
-        first_wrong_value(rt.alloc(), COPIES, pop, COPY_POPS)?,
+        first_wrong_value(&rt, COPIES, pop, COPY_POPS)?,
         None
     );
     let call = "p: a => p: a b";
     assert_eq!(rt;
-        first_wrong_value(rt.alloc(), COPIES, call, COPY_CALLS)?,
+        first_wrong_value(&rt, COPIES, call, COPY_CALLS)?,
         None
     );
     Ok(())
@@ -290,7 +290,7 @@ const ACTIONS: &str = "7 WeightText | rule p a -> p : x
 
 #[test]
 fn actions(rt: HostRuntime) -> Result<(), OutOfMemory> {
-    assert_eq!(rt; first_wrong_refusal(rt.alloc(), RELATIONS, ACTIONS)?, None);
+    assert_eq!(rt; first_wrong_refusal(&rt, RELATIONS, ACTIONS)?, None);
     Ok(())
 }
 
@@ -333,7 +333,7 @@ const EXPRESSIONS: &str = "7 WeightText | rule p a -> p : assume 2
 #[test]
 fn expressions(rt: HostRuntime) -> Result<(), OutOfMemory> {
     assert_eq!(rt;
-        first_wrong_refusal(rt.alloc(), RELATIONS, EXPRESSIONS)?,
+        first_wrong_refusal(&rt, RELATIONS, EXPRESSIONS)?,
         None
     );
     Ok(())
@@ -358,7 +358,7 @@ rule p a -> p : one";
 #[test]
 fn actions_that_are_accepted(rt: HostRuntime) -> Result<(), OutOfMemory> {
     assert_eq!(rt;
-        first_not_accepted(rt.alloc(), RELATIONS, ACTIONS_ACCEPTED)?,
+        first_not_accepted(&rt, RELATIONS, ACTIONS_ACCEPTED)?,
         None
     );
     Ok(())
@@ -381,7 +381,7 @@ const DEEP: &str =
 
 #[test]
 fn deep_expressions(rt: HostRuntime) -> Result<(), OutOfMemory> {
-    assert_eq!(rt; first_wrong_refusal(rt.alloc(), RELATIONS, DEEP)?, None);
+    assert_eq!(rt; first_wrong_refusal(&rt, RELATIONS, DEEP)?, None);
     Ok(())
 }
 
@@ -396,7 +396,7 @@ rule p a -> p : choose x; x, y := *, x = y != y = y != y = y != y = y != y = y !
 
 #[test]
 fn deepest_expressions(rt: HostRuntime) -> Result<(), OutOfMemory> {
-    assert_eq!(rt; first_not_accepted(rt.alloc(), RELATIONS, DEEPEST)?, None);
+    assert_eq!(rt; first_not_accepted(&rt, RELATIONS, DEEPEST)?, None);
     Ok(())
 }
 
@@ -432,7 +432,7 @@ const RETURNS: &str = "5 Twice | rule p a -> p a b return restore x x
 
 #[test]
 fn return_maps(rt: HostRuntime) -> Result<(), OutOfMemory> {
-    assert_eq!(rt; first_wrong_refusal(rt.alloc(), RELATIONS, RETURNS)?, None);
+    assert_eq!(rt; first_wrong_refusal(&rt, RELATIONS, RETURNS)?, None);
     Ok(())
 }
 
@@ -451,7 +451,7 @@ rule p a->p a b:assume x return move x = y z = y";
 #[test]
 fn return_maps_that_are_accepted(rt: HostRuntime) -> Result<(), OutOfMemory> {
     assert_eq!(rt;
-        first_not_accepted(rt.alloc(), RELATIONS, RETURNS_ACCEPTED)?,
+        first_not_accepted(&rt, RELATIONS, RETURNS_ACCEPTED)?,
         None
     );
     Ok(())

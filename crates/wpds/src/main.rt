@@ -11,7 +11,7 @@ use later_words::words;
 use std::process::ExitCode;
 use wpds_app::{Status, run};
 use wpds_base::OutOfMemory;
-use wpds_port::{StdSink, StdSource};
+use wpds_port::{OpenGate, StdSink, StdSource};
 
 // The exit status of a status.
 fn exit_status(status: Status) -> ExitCode
@@ -35,7 +35,7 @@ fn main(rt: HostRuntime) -> ExitCode {
         Ok(words) => {
             let mut source = StdSource::new(rt.stdin());
             let mut sink = StdSink::new(rt.stdout());
-            run(rt.alloc(), &words, &mut source, &mut sink)
+            run(&rt, rt.alloc(), &words, &mut source, &mut sink, &OpenGate)
         }
         Err(OutOfMemory) => Status::OutOfMemory,
     };

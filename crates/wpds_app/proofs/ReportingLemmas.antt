@@ -45,7 +45,7 @@ summed_lawful Post d q is = is.to
 
 -- the lines of an answer are the text of its query
 pub lines_told : {S W Map E : Type 0} (kind : Kind S W Map) (options : Options) (p : Pushdown S W Map) (items : List (List ℕ)) (i : ℕ) (from to : PatternValue) (a : Answer S W Map) (r : Result (List ℕ) E)
-    (kept : S) → IsAnswer kind.operations p options.by from to a → kept ≡ p.semiring → IfOk r (λ t. t ≡ query_text i options (kind.written kept items a.value) a.listing)
+    (kept : S) → IsAnswer kind.operations p options.by options.workers from to a → kept ≡ p.semiring → IfOk r (λ t. t ≡ query_text i options (kind.written kept items a.value) a.listing)
     → IfOk r (IsQueryText kind options p items i from to)
 lines_told kind options p items i from to a (Ok t) kept is same text =
     record { answer = a; is_answer = is; told = text ∙ ap (λ s. query_text i options (kind.written s items a.value) a.listing) same }

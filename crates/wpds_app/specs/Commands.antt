@@ -1,5 +1,6 @@
 -- The words of the command line.
-use Rattle.std.specs.Prelude.{◌≡◌, ℕ, Bool, ◌⊎◌, List, [], ◌∷◌, ◌++◌, codes, if◌then◌else◌}
+use Rattle.std.specs.Prelude.{◌≡◌, ℕ, Bool, ◌⊎◌, List, [], ◌∷◌, ◌++◌, codes, decimal, if◌then◌else◌}
+use Rattle.worker_pool.specs.Workers.{IsWorkerCount}
 use Rattle.witness_graph.specs.declared.node.Side.{Side}
 use Rattle.witness_graph.specs.declared.node.Side.TheVariants.{Pre, Post}
 use Rattle.wpds_app.specs.declared.words.Options.{Options}
@@ -19,10 +20,18 @@ abbrev pub IsBy : List (List ℕ) → Side → Type 0
 IsBy words Pre = (words ≡ []) ⊎ (words ≡ by_words Pre)
 IsBy words Post = words ≡ by_words Post
 
--- `check`, then `--brief` if the listings are left out, and then by which direction
-abbrev pub IsCheck : List (List ℕ) → Options → Type 0
-IsCheck words options =
-    (by : List (List ℕ)) × IsBy by options.by × (words ≡ codes "check" ∷ (brief_words options.brief ++ by))
+-- `--workers` and a number from 1 to 64; without these words there is one worker
+abbrev pub IsWorkers : List (List ℕ) → ℕ → Type 0
+IsWorkers words n =
+    ((words ≡ []) × (n ≡ 1)) ⊎ (IsWorkerCount n × (words ≡ codes "--workers" ∷ decimal n ∷ []))
+
+-- `check`, then `--brief` if the listings are left out, then by which direction, and then by how many workers
+pub record IsCheck (words : List (List ℕ)) (options : Options) : Type 0 where
+  pub by : List (List ℕ)
+  pub workers : List (List ℕ)
+  pub is_by : IsBy by options.by
+  pub are_workers : IsWorkers workers options.workers
+  pub said : words ≡ codes "check" ∷ (brief_words options.brief ++ (by ++ workers))
 
 -- the words are accepted
 abbrev pub IsCommand : List (List ℕ) → Type 0

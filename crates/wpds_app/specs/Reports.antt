@@ -48,7 +48,7 @@ module _ {S W Map : Type 0} (kind : Kind S W Map) (options : Options) where
   -- The text tells an answer to the query with a number, for runs of a system from a pattern to a pattern.
   pub record IsQueryText (p : Pushdown S W Map) (items : List (List ℕ)) (i : ℕ) (from to : PatternValue) (text : List ℕ) : Type 0 where
     pub answer : Answer S W Map
-    pub is_answer : IsAnswer kind.operations p options.by from to answer
+    pub is_answer : IsAnswer kind.operations p options.by options.workers from to answer
     pub told : text ≡ query_text i options (kind.written p.semiring items answer.value) answer.listing
 
   -- the text tells an answer to a query of the document with a number, over its system

@@ -2,6 +2,7 @@
 #![tactic(auto)]
 
 mod alike;
+mod crew;
 mod input;
 mod laws;
 mod program;

@@ -9,11 +9,14 @@ ghost use Rattle.wpds_app.specs.Running.{Replies, IsCutShort, IsDecided, IsDecid
 ghost use Rattle.wpds_app.specs.Commands.{IsCommand, usage_text};
 
 use crate::Status;
+use crate::crew::Crew;
 use crate::reply::read_and_reply;
 use crate::words::command_of;
 use document_forms::one_document_or_one_refusal;
 use std::alloc::Global;
-use wpds_port::{Failed, InputFault, Sink, Source, write_all};
+use std::sync::Wait;
+use std::thread::Threads;
+use wpds_port::{Failed, Gate, InputFault, Sink, Source, write_all};
 
 const USAGE: &str =
     "usage: wpds check [--workers N] [--by pre|post] [--brief] [--traces]\nusage: wpds gen N [--workers N] [--by pre|post]\n";
@@ -46,14 +49,19 @@ fn finish<W: Sink>(sink: &mut W, status: Status, text: &[u8]) -> Status
 
 /// Does all that the program does: takes the words after its name, reads a document, and writes the answer to it.
 ///
-/// The only words so far are `check` and `check --brief`, which leaves out the listings. The document is read to its
-/// end, or to one byte more than a document has, and refused by its first refusal (docs/FORMATS.md).
-/// The report stands in memory before its first byte is written.
-pub fn run<R: Source, W: Sink>(
+/// The words so far are `check`, then `--brief`, which leaves out the listings, `--by pre` or `--by post`, and `--workers N`
+/// with 1 to 64 workers. The document is read to its end, or to one byte more than a document has, and refused by its first
+/// refusal (docs/FORMATS.md). The report stands in memory before its first byte is written.
+///
+/// Two workers or more have a thread each, and take turns at one automaton. Each worker calls the gate between taking a
+/// transition and settling it; what the gate does changes no answer, and [`OpenGate`](wpds_port::OpenGate) does nothing.
+pub fn run<H: Threads + Wait + Sync, R: Source, W: Sink, G: Gate>(
+    rt: &H,
     alloc: Global,
     words: &[String],
     source: &mut R,
     sink: &mut W,
+    gate: &G,
 ) -> Status
     // Words are refused exactly if they are no command and no write fault came. Nothing is read then.
     ensures words_refused { (result ≡ Status.WordsRefused)
@@ -101,7 +109,8 @@ pub fn run<R: Source, W: Sink>(
     let Some(options) = command_of(words) else {
         return finish(sink, Status::WordsRefused, USAGE.as_bytes());
     };
-    match read_and_reply(alloc, source, options) {
+    let crew = Crew { rt, gate };
+    match read_and_reply(&crew, alloc, source, options) {
         Ok(reply) => finish(sink, reply.status, reply.text.as_bytes()),
         Err(InputFault::Read) => Status::ReadFault,
         Err(InputFault::Memory) => Status::OutOfMemory,

@@ -4,16 +4,20 @@ ghost use Rattle.wpds_port.specs.Causes.{Rose};
 ghost use Rattle.wpds_port.specs.Reading.{ConsumesPart};
 ghost use Rattle.wpds_port.specs.Refusals.{refusal_text};
 ghost use Rattle.document_forms.specs.Documents.{reads_as};
+ghost use Rattle.worker_pool.specs.Workers.{IsWorkerCount};
 ghost use Rattle.wpds_app.specs.Running.{HasReply, IsReply};
 
+use crate::crew::Crew;
 use crate::input::{MOST_BYTES, meaning_of, not_built};
 use crate::report::report;
 use crate::{Input, Options, Status};
 use document_forms::{Document, documents_are_lawful};
 use document_systems::Names;
 use std::alloc::Global;
+use std::sync::Wait;
+use std::thread::Threads;
 use wpds_base::OutOfMemory;
-use wpds_port::{InputFault, ReadFault, Refusal, Source, Text, read_up_to};
+use wpds_port::{Gate, InputFault, ReadFault, Refusal, Source, Text, read_up_to};
 
 /// A status and the text that is written with it.
 #[derive(Drop)]
@@ -36,17 +40,19 @@ fn refused(alloc: Global, refusal: Refusal) -> Result<Reply, OutOfMemory>
 }
 
 // What is answered to the document of a system.
-fn reply_on_system(
+fn reply_on_system<H: Threads + Wait + Sync, G: Gate>(
+    crew: &Crew<'_, H, G>,
     alloc: Global,
     input: &[u8],
     document: &Document<Names>,
     options: Options,
 ) -> Result<Reply, OutOfMemory>
-    requires { reads_as input.now document.now }
+    requires document { reads_as input.now document.now }
+    requires workers { IsWorkerCount options.workers }
     ensures { IfOk result (λ r. IsReply input.now options r.status r.text) }
 {
     documents_are_lawful();
-    match report(alloc, document, options)? {
+    match report(crew, alloc, document, options)? {
         Some(text) => Ok(Reply {
             status: Status::Answered,
             text,
@@ -56,22 +62,30 @@ fn reply_on_system(
 }
 
 // What is answered to an input.
-fn reply_to(alloc: Global, input: &[u8], options: Options) -> Result<Reply, OutOfMemory>
+fn reply_to<H: Threads + Wait + Sync, G: Gate>(
+    crew: &Crew<'_, H, G>,
+    alloc: Global,
+    input: &[u8],
+    options: Options,
+) -> Result<Reply, OutOfMemory>
+    requires { IsWorkerCount options.workers }
     ensures { IfOk result (λ r. IsReply input.now options r.status r.text) }
 {
     match meaning_of(alloc, input) {
-        Ok(Input::System(document)) => reply_on_system(alloc, input, &document, options),
+        Ok(Input::System(document)) => reply_on_system(crew, alloc, input, &document, options),
         Err(ReadFault::Refused(refusal)) => refused(alloc, refusal),
         Err(ReadFault::Memory) => Err(OutOfMemory),
     }
 }
 
 /// Reads an input, and answers it.
-pub(crate) fn read_and_reply<R: Source>(
+pub(crate) fn read_and_reply<H: Threads + Wait + Sync, R: Source, G: Gate>(
+    crew: &Crew<'_, H, G>,
     alloc: Global,
     source: &mut R,
     options: Options,
 ) -> Result<Reply, InputFault>
+    requires { IsWorkerCount options.workers }
     ensures reply { IfOk result (λ r.
         HasReply (R.left source.old) (R.left source.new) options r.status r.text) }
     ensures fault { IsErrOf result InputFault.Read
@@ -79,5 +93,5 @@ pub(crate) fn read_and_reply<R: Source>(
     ensures read_at_most { ConsumesPart (R.left source.old) (R.left source.new) (most_bytes + 1) }
 {
     let input = read_up_to(alloc, source, MOST_BYTES + 1)?;
-    Ok(reply_to(alloc, &input, options)?)
+    Ok(reply_to(crew, alloc, &input, options)?)
 }

@@ -5,12 +5,14 @@ ghost use Rattle.genkill_weights.specs.Widths.{width_for};
 ghost use Rattle.document_systems.specs.CopyWeights.{copy_kind};
 ghost use Rattle.document_systems.specs.FactWeights.{genkill_kind};
 ghost use Rattle.document_systems.specs.Systems.{system_of, side_of};
+ghost use Rattle.worker_pool.specs.Workers.{IsWorkerCount};
 ghost use Rattle.query_answers.specs.Answering.{IsFinished, IsSaturated, saturated_system};
 ghost use Rattle.wpds_app.specs.Reports.{query_text, TellsQuery, IsReported, IsReport, IsBuilt};
 ghost use Rattle.wpds_app.specs.private.Kept.{AreKept, TellsAt, opened_text, summed_text};
 
 use crate::Options;
 use crate::alike::same_pattern;
+use crate::crew::Crew;
 use copy_weights::CopyConst;
 use cost_weights::Cost;
 use document_forms::{Document, PatternText, QueryLine, WeightsLine};
@@ -22,9 +24,11 @@ use query_answers::{Saturation, answer_over, saturate};
 use report_text::{listing_text, query_line};
 use semiring_laws::Reach;
 use std::alloc::Global;
+use std::sync::Wait;
+use std::thread::Threads;
 use witness_graph::Side;
 use wpds_base::OutOfMemory;
-use wpds_port::Text;
+use wpds_port::{Gate, Text};
 
 // The lines of an answer to the query with a number.
 fn answer_lines<S: DocumentWeights>(
@@ -85,7 +89,7 @@ fn query_lines<S: DocumentWeights>(
     requires finished { IsFinished saturation.now }
     requires saturated { let opened = side_of document.now (opened_text options.by query.now) in
         let p = saturated_system saturation.now in
-        IsSaturated S.operations p options.by opened saturation.now }
+        IsSaturated S.operations p options.by options.workers opened saturation.now }
     ensures { let semiring = (saturated_system saturation.now).semiring in
         IfOk result (TellsQuery S.kind options semiring document.now number query.now) }
 {
@@ -126,7 +130,7 @@ fn keep_alike<S: DocumentWeights>(
     requires finished { IsFinished saturation.now }
     requires saturated { let pattern = side_of document.now opened.now in
         let p = saturated_system saturation.now in
-        IsSaturated S.operations p options.by pattern saturation.now }
+        IsSaturated S.operations p options.by options.workers pattern saturation.now }
     requires room { length kept.old ≡ length document.now.queries }
     requires kept { let semiring = (saturated_system saturation.now).semiring in
         AreKept S.kind options semiring document.now kept.old }
@@ -149,7 +153,12 @@ fn keep_alike<S: DocumentWeights>(
 
 // The lines of the query at a place. Those of the later queries that start from the same pattern are kept: one saturation
 // serves them all.
-fn lines_at<S: DocumentWeights>(
+fn lines_at<
+    H: Threads + Wait + Sync,
+    S: DocumentWeights<W: Send + Sync, Ret: Send + Sync> + Send + Sync,
+    G: Gate,
+>(
+    crew: &Crew<'_, H, G>,
     alloc: Global,
     system: &System<S>,
     document: &Document<Names>,
@@ -162,6 +171,7 @@ fn lines_at<S: DocumentWeights>(
     requires place { place < length document.now.queries }
     requires room { length kept.old ≡ length document.now.queries }
     requires kept { AreKept S.kind options system.now.semiring document.now kept.old }
+    requires workers { IsWorkerCount options.workers }
     ensures lines { let semiring = system.now.semiring in
         IfOk result (TellsAt S.kind options semiring document.now place) }
     ensures kept { let semiring = system.now.semiring in
@@ -174,7 +184,15 @@ fn lines_at<S: DocumentWeights>(
     let query = &document.queries.as_slice()[place];
     let opened = opened_text(options.by, query);
     let pattern = pattern_from(alloc, system, opened)?;
-    let saturation = saturate(alloc, system, options.by, &pattern)?;
+    let saturation = saturate(
+        crew.rt,
+        alloc,
+        system,
+        options.by,
+        options.workers,
+        &pattern,
+        crew.gate,
+    )?;
     let number = place as u64 + 1;
     let lines = query_lines(alloc, &saturation, document, options, number, query)?;
     keep_alike(
@@ -202,13 +220,19 @@ fn nothing_kept(alloc: Global, count: usize) -> Result<Vec<Option<Text>>, OutOfM
 }
 
 // The report on a document over a semiring.
-fn report_over<S: DocumentWeights>(
+fn report_over<
+    H: Threads + Wait + Sync,
+    S: DocumentWeights<W: Send + Sync, Ret: Send + Sync> + Send + Sync,
+    G: Gate,
+>(
+    crew: &Crew<'_, H, G>,
     alloc: Global,
     semiring: S,
     document: &Document<Names>,
     options: Options,
 ) -> Result<Text, OutOfMemory>
-    requires { IsDocument document.now }
+    requires document { IsDocument document.now }
+    requires workers { IsWorkerCount options.workers }
     ensures { IfOk result (IsReported S.kind options semiring document.now) }
 {
     let system = system_from(alloc, semiring, document)?;
@@ -216,7 +240,7 @@ fn report_over<S: DocumentWeights>(
     let mut kept = nothing_kept(alloc, count)?;
     let mut text = Vec::new(alloc);
     for place in 0..count {
-        let lines = lines_at(alloc, &system, document, options, place, &mut kept)?;
+        let lines = lines_at(crew, alloc, &system, document, options, place, &mut kept)?;
         text.extend_from_slice(lines.as_bytes())?;
     }
     Ok(Text::from_vec(text))
@@ -235,49 +259,55 @@ fn costs(cap: u64) -> Cost
 }
 
 // The report on a document over facts, by weights of the least width that has room for them.
-fn facts_report(
-    alloc: Global,
-    document: &Document<Names>,
-    options: Options,
-) -> Result<Text, OutOfMemory>
-    requires { IsDocument document.now }
-    ensures { let n = width_for (length document.now.items) in
-        IfOk result (IsReported (genkill_kind n) options (record {}) document.now) }
-{
-    with_width!(document.items.len(), genkill => report_over(alloc, genkill, document, options))
-}
-
-// The report on a document over variables.
-fn copies_report(
+fn facts_report<H: Threads + Wait + Sync, G: Gate>(
+    crew: &Crew<'_, H, G>,
     alloc: Global,
     document: &Document<Names>,
     options: Options,
 ) -> Result<Text, OutOfMemory>
     requires document { IsDocument document.now }
+    requires workers { IsWorkerCount options.workers }
+    ensures { let n = width_for (length document.now.items) in
+        IfOk result (IsReported (genkill_kind n) options (record {}) document.now) }
+{
+    with_width!(document.items.len(), genkill => report_over(crew, alloc, genkill, document, options))
+}
+
+// The report on a document over variables.
+fn copies_report<H: Threads + Wait + Sync, G: Gate>(
+    crew: &Crew<'_, H, G>,
+    alloc: Global,
+    document: &Document<Names>,
+    options: Options,
+) -> Result<Text, OutOfMemory>
+    requires document { IsDocument document.now }
+    requires workers { IsWorkerCount options.workers }
     requires few { length document.now.items ≤ most_copied }
     ensures { let variables = length document.now.items in
         IfOk result (IsReported copy_kind options variables document.now) }
 {
     let variables = document.items.len() as u32;
-    report_over(alloc, CopyConst::new(variables), document, options)
+    report_over(crew, alloc, CopyConst::new(variables), document, options)
 }
 
 /// The report on a document, if the semiring of its weights is built.
-pub(crate) fn report(
+pub(crate) fn report<H: Threads + Wait + Sync, G: Gate>(
+    crew: &Crew<'_, H, G>,
     alloc: Global,
     document: &Document<Names>,
     options: Options,
 ) -> Result<Option<Text>, OutOfMemory>
-    requires { IsDocument document.now }
+    requires document { IsDocument document.now }
+    requires workers { IsWorkerCount options.workers }
     ensures { IfOk result (λ found. MatchOption found
         (IsBuilt document.now → ⊥)
         (IsReport options document.now)) }
 {
     let text = match document.weights {
-        WeightsLine::Reach => report_over(alloc, Reach, document, options)?,
-        WeightsLine::Cost { cap } => report_over(alloc, costs(cap), document, options)?,
-        WeightsLine::GenKill => facts_report(alloc, document, options)?,
-        WeightsLine::Copy => copies_report(alloc, document, options)?,
+        WeightsLine::Reach => report_over(crew, alloc, Reach, document, options)?,
+        WeightsLine::Cost { cap } => report_over(crew, alloc, costs(cap), document, options)?,
+        WeightsLine::GenKill => facts_report(crew, alloc, document, options)?,
+        WeightsLine::Copy => copies_report(crew, alloc, document, options)?,
         WeightsLine::Relation => return Ok(None),
     };
     Ok(Some(text))

@@ -2,7 +2,7 @@ use crate::{Status, run};
 use std::alloc::Global;
 use std::test::Fail;
 use wpds_base::OutOfMemory;
-use wpds_port::{MemSink, MemSource};
+use wpds_port::{MemSink, MemSource, OpenGate};
 
 const CALL: &str =
     "wpds 1\nweights reach\ncontrols p q\nsymbols a b\nrule p a -> p b a\nrule p b -> q\nquery p: a => q: a\n";
@@ -14,22 +14,22 @@ const USAGE: &str =
 
 // How a run ends that reads 16 bytes at a time and writes 4, and what it writes.
 fn outcome(
-    alloc: Global,
+    rt: &HostRuntime,
     words: &[&str],
     document: &[u8],
     failing_reads: &[u64],
     room: usize,
     failing_writes: &[u64],
 ) -> Result<(Status, Vec<u8>), OutOfMemory> {
-    let mut owned = Vec::new(alloc);
+    let mut owned = Vec::new(rt.alloc());
     for word in words {
-        owned.push(String::from_str(alloc, word)?)?;
+        owned.push(String::from_str(rt.alloc(), word)?)?;
     }
-    let reads = failing_reads.to_vec(alloc)?;
-    let mut source = MemSource::new(document.to_vec(alloc)?, 16, reads);
-    let mut sink = MemSink::new(alloc, room, 4, failing_writes.to_vec(alloc)?)?;
-    let status = run(alloc, &owned, &mut source, &mut sink);
-    Ok((status, sink.written().to_vec(alloc)?))
+    let reads = failing_reads.to_vec(rt.alloc())?;
+    let mut source = MemSource::new(document.to_vec(rt.alloc())?, 16, reads);
+    let mut sink = MemSink::new(rt.alloc(), room, 4, failing_writes.to_vec(rt.alloc())?)?;
+    let status = run(rt, rt.alloc(), &owned, &mut source, &mut sink, &OpenGate);
+    Ok((status, sink.written().to_vec(rt.alloc())?))
 }
 
 const REACHABLE: &str = "query 1: reachable\n";
@@ -87,16 +87,16 @@ const REFUSED: [(&str, &str); 4] = [
 ];
 
 // How `check --brief` ends on these lines after those of the names, and what it writes.
-fn brief_outcome(alloc: Global, rest: &str) -> Result<(Status, Vec<u8>), OutOfMemory> {
+fn brief_outcome(rt: &HostRuntime, rest: &str) -> Result<(Status, Vec<u8>), OutOfMemory> {
     let head = "wpds 1\nweights reach\ncontrols p q\nsymbols a b\n";
-    let document = format!(in alloc; "{head}{rest}")?;
-    outcome(alloc, &BRIEF, document.as_bytes(), &[], 100, &[])
+    let document = format!(in rt.alloc(); "{head}{rest}")?;
+    outcome(rt, &BRIEF, document.as_bytes(), &[], 100, &[])
 }
 
 #[test]
 fn answers_documents(rt: HostRuntime) -> Result<(), Fail> {
     for (rest, text) in ANSWERED {
-        let (ended, written) = brief_outcome(rt.alloc(), rest)?;
+        let (ended, written) = brief_outcome(&rt, rest)?;
         assert_eq!(rt; ended, Status::Answered, "at {rest}");
         assert_eq!(rt; written.as_slice(), text.as_bytes(), "at {rest}");
     }
@@ -106,7 +106,7 @@ fn answers_documents(rt: HostRuntime) -> Result<(), Fail> {
 #[test]
 fn refuses_other_documents(rt: HostRuntime) -> Result<(), Fail> {
     for (rest, text) in REFUSED {
-        let (ended, written) = brief_outcome(rt.alloc(), rest)?;
+        let (ended, written) = brief_outcome(&rt, rest)?;
         assert_eq!(rt; ended, Status::DocumentRefused, "at {rest}");
         assert_eq!(rt; written.as_slice(), text.as_bytes(), "at {rest}");
     }
@@ -129,7 +129,7 @@ const NOT_BUILT: [(&str, &str); 3] = [
 #[test]
 fn refuses_what_is_not_built(rt: HostRuntime) -> Result<(), Fail> {
     for (document, text) in NOT_BUILT {
-        let (ended, written) = outcome(rt.alloc(), &BRIEF, document.as_bytes(), &[], 100, &[])?;
+        let (ended, written) = outcome(&rt, &BRIEF, document.as_bytes(), &[], 100, &[])?;
         assert_eq!(rt; ended, Status::DocumentRefused, "at {document}");
         assert_eq!(rt; written.as_slice(), text.as_bytes(), "at {document}");
     }
@@ -151,7 +151,7 @@ const OTHER_WEIGHTS: [(&str, &str); 2] = [
 #[test]
 fn answers_documents_over_facts_and_variables(rt: HostRuntime) -> Result<(), Fail> {
     for (document, text) in OTHER_WEIGHTS {
-        let (ended, written) = outcome(rt.alloc(), &BRIEF, document.as_bytes(), &[], 100, &[])?;
+        let (ended, written) = outcome(&rt, &BRIEF, document.as_bytes(), &[], 100, &[])?;
         assert_eq!(rt; ended, Status::Answered, "at {document}");
         assert_eq!(rt; written.as_slice(), text.as_bytes(), "at {document}");
     }
@@ -180,7 +180,7 @@ fn answers_queries_in_order(rt: HostRuntime) -> Result<(), Fail> {
         let document = format!(in rt.alloc();
             "rule p a -> p b a\nrule p b -> q\nrule p a -> q : none\n{queries}"
         )?;
-        let (ended, written) = brief_outcome(rt.alloc(), document.as_str())?;
+        let (ended, written) = brief_outcome(&rt, document.as_str())?;
         assert_eq!(rt; ended, Status::Answered, "at {queries}");
         assert_eq!(rt; written.as_slice(), text.as_bytes(), "at {queries}");
     }
@@ -208,7 +208,7 @@ fn refuses_words(rt: HostRuntime) -> Result<(), Fail> {
         &["--help"],
         &[""],
     ] {
-        let (ended, written) = outcome(rt.alloc(), words, CALL.as_bytes(), &[0], 1000, &[])?;
+        let (ended, written) = outcome(&rt, words, CALL.as_bytes(), &[0], 1000, &[])?;
         assert_eq!(rt; ended, Status::WordsRefused);
         assert_eq!(rt; written.as_slice(), USAGE.as_bytes());
     }
@@ -220,26 +220,26 @@ fn stops_at_each_fault(rt: HostRuntime) -> Result<(), Fail> {
     let text = REACHABLE.as_bytes();
     let reads = CALL.len() as u64 / 16 + 2;
     for call in 0..reads {
-        let (ended, written) = outcome(rt.alloc(), &BRIEF, CALL.as_bytes(), &[call], 100, &[])?;
+        let (ended, written) = outcome(&rt, &BRIEF, CALL.as_bytes(), &[call], 100, &[])?;
         assert_eq!(rt; ended, Status::ReadFault, "at read {call}");
         assert!(rt; written.is_empty());
     }
-    let (ended, _) = outcome(rt.alloc(), &BRIEF, CALL.as_bytes(), &[reads], 100, &[])?;
+    let (ended, _) = outcome(&rt, &BRIEF, CALL.as_bytes(), &[reads], 100, &[])?;
     assert_eq!(rt; ended, Status::Answered);
 
     // five pieces of the text and the flush
     for call in 0..6u64 {
-        let (ended, written) = outcome(rt.alloc(), &BRIEF, CALL.as_bytes(), &[], 100, &[call])?;
+        let (ended, written) = outcome(&rt, &BRIEF, CALL.as_bytes(), &[], 100, &[call])?;
         assert_eq!(rt; ended, Status::WriteFault, "at write {call}");
         let count = text.len().min(4 * call as usize);
         assert_eq!(rt; written.as_slice(), &text[..count]);
     }
     for room in 0..text.len() {
-        let (ended, written) = outcome(rt.alloc(), &BRIEF, CALL.as_bytes(), &[], room, &[])?;
+        let (ended, written) = outcome(&rt, &BRIEF, CALL.as_bytes(), &[], room, &[])?;
         assert_eq!(rt; ended, Status::WriteFault, "with room for {room}");
         assert!(rt; written.len() <= room && text.starts_with(&written));
     }
-    let (ended, written) = outcome(rt.alloc(), &BRIEF, CALL.as_bytes(), &[], text.len(), &[])?;
+    let (ended, written) = outcome(&rt, &BRIEF, CALL.as_bytes(), &[], text.len(), &[])?;
     assert_eq!(rt; ended, Status::Answered);
     assert_eq!(rt; written.as_slice(), text);
     Ok(())
@@ -253,7 +253,7 @@ fn refuses_what_is_too_long(rt: HostRuntime) -> Result<(), Fail> {
         (4_194_306, "refused: line 0: 1 TooLong\n"),
     ] {
         let bytes = vec![in rt.alloc(); b'#'; length]?;
-        let (ended, written) = outcome(rt.alloc(), &["check"], &bytes, &[], 100, &[])?;
+        let (ended, written) = outcome(&rt, &["check"], &bytes, &[], 100, &[])?;
         assert_eq!(rt; ended, Status::DocumentRefused, "at {length}");
         assert_eq!(rt; written.as_slice(), text.as_bytes(), "at {length}");
     }
@@ -265,7 +265,7 @@ fn refuses_each_beginning(rt: HostRuntime) -> Result<(), Fail> {
     let bytes = CALL.as_bytes();
     let query = "query p: a => q: a\n";
     for length in 0..bytes.len() - query.len() + 1 {
-        let (ended, _) = outcome(rt.alloc(), &["check"], &bytes[..length], &[], 100, &[])?;
+        let (ended, _) = outcome(&rt, &["check"], &bytes[..length], &[], 100, &[])?;
         assert_eq!(rt; ended, Status::DocumentRefused, "at {length}");
     }
     Ok(())
@@ -313,7 +313,7 @@ fn ladders(rt: HostRuntime) -> Result<(), Fail> {
         (30, "query 1: 1000000000 or more\n"),
     ] {
         let document = ladder(rt.alloc(), rungs)?;
-        let (ended, written) = outcome(rt.alloc(), &BRIEF, document.as_bytes(), &[], 100, &[])?;
+        let (ended, written) = outcome(&rt, &BRIEF, document.as_bytes(), &[], 100, &[])?;
         assert_eq!(rt; ended, Status::Answered, "{rungs} rungs");
         assert_eq!(rt; written.as_slice(), text.as_bytes(), "{rungs} rungs");
     }
@@ -340,7 +340,7 @@ fn costs(rt: HostRuntime) -> Result<(), Fail> {
         (pushes, "query p: a => p:\n", "query 1: 0\n"),
     ] {
         let document = format!(in rt.alloc(); "wpds 1\n{system}{query}")?;
-        let (ended, written) = outcome(rt.alloc(), &BRIEF, document.as_bytes(), &[], 100, &[])?;
+        let (ended, written) = outcome(&rt, &BRIEF, document.as_bytes(), &[], 100, &[])?;
         assert_eq!(rt; ended, Status::Answered, "at {query}");
         assert_eq!(rt; written.as_slice(), text.as_bytes(), "at {query}");
     }
@@ -368,7 +368,7 @@ fn forward_listings(rt: HostRuntime) -> Result<(), Fail> {
         ),
     ] {
         let document = format!(in rt.alloc(); "{system}query p: a => q: a\n")?;
-        let (ended, written) = outcome(rt.alloc(), words, document.as_bytes(), &[], 1000, &[])?;
+        let (ended, written) = outcome(&rt, words, document.as_bytes(), &[], 1000, &[])?;
         assert_eq!(rt; ended, Status::Answered);
         assert_eq!(rt; written.as_slice(), text.as_bytes());
     }
@@ -392,7 +392,7 @@ fn listings(rt: HostRuntime) -> Result<(), Fail> {
     ] {
         let document = format!(in rt.alloc(); "{system}{query}")?;
         let (ended, written) = outcome(
-            rt.alloc(),
+            &rt,
             &["check"],
             document.as_bytes(),
             &[],

@@ -3,6 +3,7 @@ ghost use Rattle.std.specs.String.{string_bytes};
 ghost use Rattle.wpds_app.specs.Commands.{IsCheck, IsCommand};
 ghost use Rattle.wpds_app.specs.private.CommandReading as reading;
 
+use itoa::Buffer;
 use witness_graph::Side;
 
 /// What the words ask for beside the answers.
@@ -12,6 +13,27 @@ pub struct Options {
     pub brief: bool,
     /// Which way the saturation goes.
     pub by: Side,
+    /// How many workers saturate, from 1 to 64.
+    pub workers: u32,
+}
+
+// The most workers that there may be.
+const MOST_WORKERS: u32 = 64;
+
+// The number of workers that a word writes, without a sign or a zero in front.
+fn count_named(word: &str) -> Option<u32>
+    ensures { result ≡ reading.count_named word.now }
+{
+    let Ok(count) = word.parse::<u32>() else {
+        return None;
+    };
+    if count == 0 || count > MOST_WORKERS {
+        return None;
+    }
+    if Buffer::new().format(count) != word {
+        return None;
+    }
+    Some(count)
 }
 
 fn side_named(word: &str) -> Option<Side>
@@ -26,23 +48,50 @@ fn side_named(word: &str) -> Option<Side>
     None
 }
 
-// Which way the words behind the others ask for.
-fn by_of(words: &[String]) -> Option<Side>
-    ensures { result ≡ reading.by_from (map string_bytes words.now) }
+// How many workers the words behind the others ask for.
+fn workers_of(words: &[String]) -> Option<u32>
+    ensures { result ≡ reading.workers_from (map string_bytes words.now) }
 {
-    let Some((by, behind)) = words.split_first() else {
-        return Some(Side::Pre);
+    let Some((workers, behind)) = words.split_first() else {
+        return Some(1);
     };
-    let Some((side, more)) = behind.split_first() else {
+    let Some((count, more)) = behind.split_first() else {
         return None;
     };
     if !more.is_empty() {
         return None;
     }
-    if by.as_str() != "--by" {
+    if workers.as_str() != "--workers" {
         return None;
     }
-    side_named(side.as_str())
+    count_named(count.as_str())
+}
+
+// What the words behind `--brief` ask for, by which direction and by how many workers.
+fn rest_of(brief: bool, words: &[String]) -> Option<Options>
+    ensures { result ≡ reading.rest_from brief (map string_bytes words.now) }
+{
+    let Some((by, behind)) = words.split_first() else {
+        return Some(Options {
+            brief,
+            by: Side::Pre,
+            workers: 1,
+        });
+    };
+    if by.as_str() != "--by" {
+        let workers = workers_of(words)?;
+        return Some(Options {
+            brief,
+            by: Side::Pre,
+            workers,
+        });
+    }
+    let Some((side, more)) = behind.split_first() else {
+        return None;
+    };
+    let by = side_named(side.as_str())?;
+    let workers = workers_of(more)?;
+    Some(Options { brief, by, workers })
 }
 
 // What the words behind `check` ask for.
@@ -50,14 +99,12 @@ fn options_of(words: &[String]) -> Option<Options>
     ensures { result ≡ reading.options_from (map string_bytes words.now) }
 {
     let Some((word, behind)) = words.split_first() else {
-        return Some(Options {
-            brief: false,
-            by: Side::Pre,
-        });
+        return rest_of(false, words);
     };
-    let brief = word.as_str() == "--brief";
-    let by = if brief { by_of(behind)? } else { by_of(words)? };
-    Some(Options { brief, by })
+    if word.as_str() == "--brief" {
+        return rest_of(true, behind);
+    }
+    rest_of(false, words)
 }
 
 // What the words ask for, if they are a command.

@@ -16,8 +16,8 @@ returns g c = λ s d one other report text named is brief brief' reported told.
     same_parts (λ i q t u h k.
     let from = side_of d q.from in
     let to = side_of d q.to in
-    let a = subst (λ operations. IsAnswer operations p one.by from to h.answer) g.met.S.DocumentWeights.computes h.is_answer in
-    let b = subst (λ operations. IsAnswer operations p other.by from to k.answer) g.met.S.DocumentWeights.computes k.is_answer in
+    let a = subst (λ operations. IsAnswer operations p one.by one.workers from to h.answer) g.met.S.DocumentWeights.computes h.is_answer in
+    let b = subst (λ operations. IsAnswer operations p other.by other.workers from to k.answer) g.met.S.DocumentWeights.computes k.is_answer in
     let same =
     c.answers_agree.ensures p (has_member from) (has_member to) h.answer.value k.answer.value
     (listed_runs h.answer.listing) (listed_runs k.answer.listing) system a.shows.answers b.shows.answers

@@ -9,7 +9,7 @@ use Rattle.wpds_app.proofs.laws.unreachable_where_infeasible.Goals as goal
 pub returns : goal.returns
 returns g c = λ p items i from to options text named system is.
     let a = is.answer in
-    let is_answer = subst (λ operations. IsAnswer operations p options.by from to a) g.met.S.DocumentWeights.computes is.is_answer in
+    let is_answer = subst (λ operations. IsAnswer operations p options.by options.workers from to a) g.met.S.DocumentWeights.computes is.is_answer in
     let answers = is_answer.shows.answers in
     let zero = c.zero_where_infeasible.ensures.zero p (has_member from) (has_member to) a.value (listed_runs a.listing) system answers in
     let fits = c.answers_are_greatest_below.ensures.fits p (has_member from) (has_member to) a.value (listed_runs a.listing) system answers in
