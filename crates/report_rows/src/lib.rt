@@ -25,3 +25,5 @@ mod patterns;
 mod rows;
 #[cfg(test)]
 mod rules;
+#[cfg(test)]
+mod workers;

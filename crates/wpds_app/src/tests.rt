@@ -203,6 +203,15 @@ fn refuses_words(rt: HostRuntime) -> Result<(), Fail> {
         &["check", "--by", "pre", "post"],
         &["check", "--by", "pre", "--brief"],
         &["check", "--brief", "--by"],
+        &["check", "--workers"],
+        &["check", "--workers", "0"],
+        &["check", "--workers", "65"],
+        &["check", "--workers", "07"],
+        &["check", "--workers", "+3"],
+        &["check", "--workers", "two"],
+        &["check", "--workers", ""],
+        &["check", "--workers", "2", "--by", "pre"],
+        &["check", "--workers", "2", "--workers", "2"],
         &["check", "post"],
         &["--by", "post"],
         &["--help"],
@@ -371,6 +380,21 @@ fn forward_listings(rt: HostRuntime) -> Result<(), Fail> {
         let (ended, written) = outcome(&rt, words, document.as_bytes(), &[], 1000, &[])?;
         assert_eq!(rt; ended, Status::Answered);
         assert_eq!(rt; written.as_slice(), text.as_bytes());
+    }
+    Ok(())
+}
+
+#[test]
+fn takes_workers(rt: HostRuntime) -> Result<(), Fail> {
+    for words in [
+        ["check", "--brief", "--workers", "1"].as_slice(),
+        &["check", "--brief", "--workers", "10"],
+        &["check", "--brief", "--workers", "64"],
+        &["check", "--brief", "--by", "post", "--workers", "2"],
+    ] {
+        let (ended, written) = outcome(&rt, words, CALL.as_bytes(), &[], 100, &[])?;
+        assert_eq!(rt; ended, Status::Answered);
+        assert_eq!(rt; written.as_slice(), REACHABLE.as_bytes());
     }
     Ok(())
 }

@@ -1,7 +1,7 @@
 #!/usr/bin/env python3
 """A slow and plain `wpds check`, to compare the program with: what specs/ define, with lists that are searched.
 
-    tools/plain-check [--brief] [--by pre|post] <DOCUMENT
+    tools/plain_check.py [--brief] [--by pre|post] <DOCUMENT
 
 It writes what `./wpds check` writes by one worker, byte for byte, listings too, on a document that is accepted. It
 refuses nothing, and takes time that grows with the cube of the document. tools/compare-plain runs both.
