@@ -6,6 +6,7 @@
 It writes what `./wpds check` writes by one worker, byte for byte, listings too, on a document that is accepted. It
 refuses nothing, and takes time that grows with the cube of the document. tools/compare-plain runs both.
 """
+import itertools
 import re
 import sys
 
@@ -154,15 +155,180 @@ class Copies:
         return " ".join(f"{x}={self.form_text(f)}" for x, f in zip(self.names, w)) or "-"
 
 
+# what stands between operands, from the weakest to the strongest, and whether it groups to the right
+OPERATORS = [
+    ({"=>": lambda a, b: b or not a}, True),
+    ({"=": lambda a, b: a == b, "!=": lambda a, b: a != b}, False),
+    ({"|": lambda a, b: a or b}, False),
+    ({"^": lambda a, b: a != b}, False),
+    ({"&": lambda a, b: a and b}, False),
+]
+
+
+class Expression:
+    """An expression as a function of the values of variables by name."""
+
+    def __init__(self, words):
+        self.words, self.at = words, 0
+
+    def next(self):
+        self.at += 1
+        return self.words[self.at - 1]
+
+    def peek(self):
+        return self.words[self.at] if self.at < len(self.words) else None
+
+    def level(self, k=0):
+        if k == len(OPERATORS):
+            return self.operand()
+        operators, to_the_right = OPERATORS[k]
+        value = self.level(k + 1)
+        while self.peek() in operators:
+            value = self.joined(operators[self.next()], value, self.level(k if to_the_right else k + 1))
+        return value
+
+    def joined(self, operator, a, b):
+        return lambda state: operator(a(state), b(state))
+
+    def operand(self):
+        word = self.next()
+        if word == "!":
+            inner = self.operand()
+            return lambda state: not inner(state)
+        if word == "(":
+            inner = self.level()
+            self.next()
+            return inner
+        if word in ("tab2", "tab3"):
+            return self.table(int(self.next()))
+        return (lambda state: word == "1") if word.isdigit() else (lambda state: state[word])
+
+    def table(self, number):
+        operands = []
+        while self.next() != ")":
+            operands.append(self.level())
+
+        def value(state):
+            row = 0
+            for operand in operands:
+                row = 2 * row + operand(state)
+            return bool(number >> row & 1)
+
+        return value
+
+
+def cut(words, mark):
+    parts = [[]]
+    for word in words:
+        if word == mark:
+            parts.append([])
+        else:
+            parts[-1].append(word)
+    return parts
+
+
+class Relations:
+    """A weight is a set of pairs of states; a state is the values of all variables."""
+
+    def __init__(self):
+        self.names = []
+
+    def states(self):
+        return itertools.product((False, True), repeat=len(self.names))
+
+    def pairs(self, leads):
+        return frozenset((x, y) for x in self.states() for y in self.states() if leads(x, y)) or None
+
+    @property
+    def one(self):
+        return self.pairs(lambda x, y: x == y)
+
+    def combine(self, a, b):
+        return a if b is None else b if a is None else a | b
+
+    def extend(self, a, b):
+        if a is None or b is None:
+            return None
+        return frozenset((x, z) for x, y in a for w, z in b if y == w) or None
+
+    def weight(self, words):
+        weight = self.one
+        for action in cut(words, ";"):
+            weight = self.extend(weight, self.action(action))
+        return weight
+
+    def action(self, words):
+        if words[0] == "assume" and ":=" not in words:
+            holds = Expression(words[1:]).level()
+            return self.pairs(lambda x, y: x == y and holds(dict(zip(self.names, x))))
+        if words[0] == "choose" and ":=" not in words:
+            return self.assigned({name: None for name in words[1:]})
+        middle = words.index(":=")
+        targets = [name for name in words[:middle] if name != ","]
+        values = self.values(words[middle + 1 :], len(targets))
+        return self.assigned({x: None if v == ["*"] else Expression(v).level() for x, v in zip(targets, values)})
+
+    def values(self, words, count):
+        # commas also stand in tables
+        parts, depth = [[]], 0
+        for word in words:
+            depth += {"(": 1, ")": -1}.get(word, 0)
+            if word == "," and depth == 0:
+                parts.append([])
+            else:
+                parts[-1].append(word)
+        return parts
+
+    def assigned(self, values):
+        def leads(x, y):
+            old = dict(zip(self.names, x))
+            for name, new in zip(self.names, y):
+                if name not in values:
+                    if new != old[name]:
+                        return False
+                elif values[name] is not None and new != values[name](old):
+                    return False
+            return True
+
+        return self.pairs(leads)
+
+    def after(self, returned, w):
+        """`returned` says of each variable whose value it has: the caller's own, or that of a variable of the callee."""
+        if w is None:
+            return None
+        place = {name: k for k, name in enumerate(self.names)}
+        merged = lambda x, z: tuple(x[k] if name in returned[0] else z[place[returned[1].get(name, name)]] for k, name in enumerate(self.names))
+        return frozenset((x, merged(x, z)) for x, z in w)
+
+    def text(self, w):
+        """The nodes of the reduced ordered diagram, each behind those below it: a name with `'` is a new value."""
+        nodes, number = [], {}
+
+        def node(k, bits):
+            if k == 2 * len(self.names):
+                return int(any(bits == tuple(b for xy in zip(x, y) for b in xy) for x, y in w))
+            low, high = node(k + 1, bits + (False,)), node(k + 1, bits + (True,))
+            if low == high:
+                return low
+            key = (k, low, high)
+            if key not in number:
+                number[key] = len(nodes) + 2
+                nodes.append(f"{self.names[k // 2]}{chr(39) * (k % 2)} {low} {high}")
+            return number[key]
+
+        node(0, ())
+        return "relation " + ("; ".join(nodes) or "true")
+
+
 # ---- documents
 
-WORD = re.compile(r"->|=>|[:;,.*+=?{}-]|[A-Za-z_][\w$@]*|[0-9]+")
+WORD = re.compile(r"->|=>|:=|!=|[:;,.*+=?!&|^(){}-]|[A-Za-z_][\w$@]*|[0-9]+")
 
 
 class Rule:
-    def __init__(self, number, control, symbol, to, right, weight, restored):
+    def __init__(self, number, control, symbol, to, right, weight, returned):
         self.number, self.control, self.symbol = number, control, symbol
-        self.to, self.right, self.weight, self.restored = to, right, weight, restored
+        self.to, self.right, self.weight, self.returned = to, right, weight, returned
 
 
 class Document:
@@ -172,7 +338,7 @@ class Document:
         lines = [WORD.findall(line) for line in text.splitlines() if not line.lstrip().startswith("#")]
         lines = [line for line in lines if line]
         name = lines[1][1]
-        self.weights = Cost(int(lines[1][2])) if name == "cost" else {"reach": Reach, "genkill": Facts, "copy": Copies}[name]()
+        self.weights = Cost(int(lines[1][2])) if name == "cost" else {"reach": Reach, "genkill": Facts, "copy": Copies, "relation": Relations}[name]()
         self.controls, self.symbols, self.rules, self.queries = [], [], [], []
         for words in lines[2:]:
             if words[0] == "controls":
@@ -189,11 +355,10 @@ class Document:
                 self.queries.append((self.pattern(words[1:middle]), self.pattern(words[middle + 1 :])))
 
     def add_rule(self, words):
-        restored = frozenset()
+        returned = None
         if "return" in words:
-            behind = words[words.index("return") + 1 :]
+            returned = self.returned(words[words.index("return") + 1 :])
             words = words[: words.index("return")]
-            restored = frozenset(behind[1:])
         weight = self.weights.one
         if ":" in words:
             of_rule = words[words.index(":") + 1 :]
@@ -201,7 +366,17 @@ class Document:
             if of_rule != ["one"]:
                 weight = None if of_rule == ["none"] else self.weights.weight(of_rule)
         control, to = self.controls.index(words[0]), self.controls.index(words[3])
-        self.rules.append(Rule(len(self.rules), control, words[1], to, words[4:], weight, restored))
+        self.rules.append(Rule(len(self.rules), control, words[1], to, words[4:], weight, returned))
+
+    def returned(self, words):
+        """What a return map restores, and with relations also what it moves; nothing where all comes from the callee."""
+        if words == ["plain"]:
+            return None
+        end = words.index("move") if "move" in words else len(words)
+        restored = frozenset(words[1:end])
+        if not isinstance(self.weights, Relations):
+            return restored
+        return restored, dict(zip(words[end + 1 :: 3], words[end + 3 :: 3]))
 
     def pattern(self, words):
         """A control, and items: a list of symbols, and whether there is a star."""
@@ -286,7 +461,7 @@ class Direction:
 
     def after(self, rule, w):
         """What the call's return map leaves of what it does."""
-        return self.weights.after(rule.restored, w) if rule.restored else w
+        return w if rule.returned is None else self.weights.after(rule.returned, w)
 
     def opened(self):
         state = State(self.weights, [START])
