@@ -3,7 +3,6 @@ use Rattle.std.proofs.Common.{◌≡◌, ℕ, Bool, false, Some, None, List, [],
 use Rattle.std.specs.Prelude.{Option, unwrap_or}
 use Rattle.truth_tables.specs.Formulas.{Formula, Constant, Variable, Opposite, Binary, Ternary}
 use Rattle.truth_tables.specs.Postfix.{first, newest_leaf}
-use Rattle.truth_tables.specs.declared.part.Part.{Part}
 use Rattle.truth_tables.specs.declared.part.Part.TheVariants.{Const, Var}
 
 pub constant_held : (fs : List (Formula ℕ)) (b : Bool) → Some (Const b) ≡ newest_leaf fs → Constant b ≡ unwrap_or (first fs) (Constant false)
