@@ -3,6 +3,7 @@ mod LineLemmas
 mod ItemLemmas
 mod NameLemmas
 mod CutLemmas
+mod HeldLemmas
 mod FormLemmas
 mod AboveLemmas
 mod LawfulLemmas

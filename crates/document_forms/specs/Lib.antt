@@ -1,3 +1,4 @@
+pub mod HeldExpressions
 pub mod HeldSymbols
 pub mod Lines
 pub mod Names

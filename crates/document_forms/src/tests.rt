@@ -93,6 +93,8 @@ fn an_expression_is_given_back(rt: HostRuntime) -> Result<(), OutOfMemory> {
     if let ValueText::Is(expression) = value {
         assert_eq!(rt; inverted(&expression.to_expr(alloc)?), Some(false));
     }
+    let variable = expression(alloc, &[Part::Var(7)])?;
+    assert!(rt; matches!(&variable.to_expr(alloc)?, Expr::Var(7)));
     // Of two the newest; of none `false`.
     let newest = expression(alloc, &[Part::Const(false), Part::Const(true)])?;
     assert_eq!(rt; constant(&newest.to_expr(alloc)?), Some(true));

@@ -55,7 +55,7 @@ fn each_is(alloc: Global, lines: &[u8], kind: Option<Kind>) -> Result<bool, OutO
 fn a_rule_is_read(rt: HostRuntime) -> Result<(), OutOfMemory> {
     let text = b"p a -> q b a : x := y return restore x move y = x";
     let want =
-        "RuleLine { control: 0, symbol: 0, to: 1, right: Symbols { held: Two([1, 0]) }, weight: Actions(Sequence { items: [Assign(Sequence { items: [Assignment { variable: 0, value: Is(Expression { parts: Postfix { parts: [Var(1)] } }) }] })] }), map: Some(MapText { restore: Sequence { items: [0] }, moves: Sequence { items: [Move { to: 1, from: 0 }] } }) }";
+        "RuleLine { control: 0, symbol: 0, to: 1, right: Symbols { held: Two([1, 0]) }, weight: Actions(Sequence { items: [Assign(Sequence { items: [Assignment { variable: 0, value: Is(Expression { held: Var(1) }) }] })] }), map: Some(MapText { restore: Sequence { items: [0] }, moves: Sequence { items: [Move { to: 1, from: 0 }] } }) }";
     let read = shown(rt.alloc(), 129_999, text)?;
     assert!(rt; read.is_some_and(|read| read.as_str() == want));
     assert!(rt; shown(rt.alloc(), 130_000, text)?.is_none());

@@ -1,8 +1,9 @@
 -- Lists of parts, each behind its operands.
-use Rattle.std.proofs.Common.{◌≡◌, ℕ, Some, None, List, [], ◌∷◌, ◌++◌, reverse, map, refl, ap, sym, ◌∙◌}
+use Rattle.std.proofs.Common.{◌≡◌, ℕ, ◌-◌, Option, Some, None, List, [], ◌∷◌, ◌++◌, length, reverse, map, refl, ap, sym, ◌∙◌, arith}
+use Rattle.std.specs.Prelude.{slice_get}
 use Rattle.std.proofs.lemmas.List.{reverse-append}
 use Rattle.truth_tables.specs.Formulas.{Formula, Opposite, Binary, Ternary, formula, renamed}
-use Rattle.truth_tables.specs.Postfix.{taken, built_onto, built, first, part_renamed}
+use Rattle.truth_tables.specs.Postfix.{taken, built_onto, built, first, leaf, newest_leaf, part_renamed}
 use Rattle.truth_tables.specs.private.Trees.{formulas_of}
 use Rattle.truth_tables.specs.declared.expr.Expr.{Expr}
 use Rattle.truth_tables.specs.declared.part.Part.{Part}
@@ -14,6 +15,38 @@ onto_more fs (q ∷ ps) p = onto_more (taken q fs) ps p
 
 pub part_more : (old now : List Part) (p : Part) → now ≡ old ++ p ∷ [] → built now ≡ taken p (built old)
 part_more old now p h = ap built h ∙ onto_more [] old p
+
+-- ---- the last part
+
+leaf_taken : (p : Part) (fs : List (Formula ℕ)) → newest_leaf (taken p fs) ≡ leaf p
+leaf_taken (Const b) fs = refl
+leaf_taken (Var k) fs = refl
+leaf_taken Not [] = refl
+leaf_taken Not (f ∷ fs) = refl
+leaf_taken (Two t) [] = refl
+leaf_taken (Two t) (g ∷ []) = refl
+leaf_taken (Two t) (g ∷ f ∷ fs) = refl
+leaf_taken (Three t) [] = refl
+leaf_taken (Three t) (h ∷ []) = refl
+leaf_taken (Three t) (h ∷ g ∷ []) = refl
+leaf_taken (Three t) (h ∷ g ∷ f ∷ fs) = refl
+
+abbrev last_of : Option Part → Option Part
+last_of (Some p) = leaf p
+last_of None = None
+
+leaf_onto : (fs : List (Formula ℕ)) (p : Part) (ps : List Part) → newest_leaf (built_onto fs (p ∷ ps)) ≡ last_of (slice_get (p ∷ ps) (length ps))
+leaf_onto fs p [] = leaf_taken p fs
+leaf_onto fs p (q ∷ ps) = leaf_onto (taken p fs) q ps
+
+-- of no parts, and of parts with this one at their end
+pub no_leaf : (ps : List Part) → None ≡ slice_get ps (length ps - 1) → None ≡ newest_leaf (built ps)
+no_leaf [] h = refl
+no_leaf (p ∷ ps) h = sym (leaf_onto [] p ps ∙ ap last_of (ap (slice_get (p ∷ ps)) (omega arith) ∙ sym h))
+
+pub leaf_of_last : (ps : List Part) (p : Part) → Some p ≡ slice_get ps (length ps - 1) → leaf p ≡ newest_leaf (built ps)
+leaf_of_last [] p h = let f : Some p ≡ None = h in cc
+leaf_of_last (q ∷ ps) p h = sym (leaf_onto [] q ps ∙ ap last_of (ap (slice_get (q ∷ ps)) (omega arith) ∙ sym h))
 
 -- ---- other numbers
 

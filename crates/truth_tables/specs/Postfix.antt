@@ -25,6 +25,18 @@ abbrev pub first : List (Formula ℕ) → Option (Formula ℕ)
 first [] = None
 first (f ∷ fs) = Some f
 
+-- a part that takes no operands
+abbrev pub leaf : Part → Option Part
+leaf (Const b) = Some (Const b)
+leaf (Var k) = Some (Var k)
+leaf _ = None
+
+-- the newest formula as a part, if it is a constant or a variable
+abbrev pub newest_leaf : List (Formula ℕ) → Option Part
+newest_leaf (Constant b ∷ fs) = Some (Const b)
+newest_leaf (Variable k ∷ fs) = Some (Var k)
+newest_leaf _ = None
+
 -- with each variable by another number
 abbrev pub part_renamed : (ℕ → ℕ) → Part → Part
 part_renamed r (Var k) = Var (r k)

@@ -1,5 +1,5 @@
 ghost use Rattle.std.specs.Prelude.{◌≡◌, slice_index_or};
-ghost use Rattle.truth_tables.specs.Postfix.{part_renamed};
+ghost use Rattle.truth_tables.specs.Postfix.{leaf, part_renamed};
 
 /// A part of an expression that stands behind its operands. It takes 8 bytes.
 #[derive(Clone, Copy, Debug, PartialEq, Eq)]
@@ -21,6 +21,15 @@ impl Part {
         match self {
             Part::Var(place) => Part::Var(numbers.get(place as usize).copied().unwrap_or(0)),
             other => other,
+        }
+    }
+    /// This part, if it takes no operands.
+    pub(crate) fn leaf(self) -> Option<Part>
+        ensures { result ≡ leaf self }
+    {
+        match self {
+            Part::Const(_) | Part::Var(_) => Some(self),
+            Part::Not | Part::Two(_) | Part::Three(_) => None,
         }
     }
 }

@@ -1,6 +1,6 @@
 ghost use Rattle.std.specs.Prelude.{◌≡◌, [], ◌∷◌, IfOk, OnOk, OnErr, map, option_map, slice_index_or};
 ghost use Rattle.truth_tables.specs.Formulas.{formula, renamed};
-ghost use Rattle.truth_tables.specs.Postfix.{taken, built, first, part_renamed};
+ghost use Rattle.truth_tables.specs.Postfix.{taken, built, first, newest_leaf, part_renamed};
 ghost use Rattle.truth_tables.specs.private.Trees.{formulas_of};
 ghost use Rattle.truth_tables.specs.declared.part.Part.TheVariants.{Not, Two, Three};
 
@@ -57,6 +57,16 @@ impl Postfix {
         ensures { self.new ≡ map (renamed (λ k. slice_index_or numbers.now k 0)) self.old }
     {
         renumber_parts(&mut self.parts, numbers);
+    }
+
+    /// The newest expression as a part, if it is a constant or a variable.
+    pub fn newest_leaf(&self) -> Option<Part>
+        ensures { result ≡ newest_leaf self.now }
+    {
+        match self.parts.last() {
+            Some(part) => part.leaf(),
+            None => None,
+        }
     }
 
     /// The newest expression as a tree.

@@ -84,7 +84,7 @@ a=-9223372036854775808#Forms(Sequence { items: [VariableForm { variable: 0, form
 #[test]
 fn weights_of_relations(rt: HostRuntime) -> Result<(), OutOfMemory> {
     let lines =
-        b"assume a & !b; choose c a; a, b := *, tab2 8 (a, c)#Actions(Sequence { items: [Assume(Expression { parts: Postfix { parts: [Var(0), Var(1), Not, Two(8)] } }), Choose(Sequence { items: [2, 0] }), Assign(Sequence { items: [Assignment { variable: 0, value: Free }, Assignment { variable: 1, value: Is(Expression { parts: Postfix { parts: [Var(0), Var(2), Two(8)] } }) }] })] })
+        b"assume a & !b; choose c a; a, b := *, tab2 8 (a, c)#Actions(Sequence { items: [Assume(Expression { held: Parts(Postfix { parts: [Var(0), Var(1), Not, Two(8)] }) }), Choose(Sequence { items: [2, 0] }), Assign(Sequence { items: [Assignment { variable: 0, value: Free }, Assignment { variable: 1, value: Is(Expression { held: Parts(Postfix { parts: [Var(0), Var(2), Two(8)] }) }) }] })] })
 a, a := b#unknown false unlawful true deep false
 assume tab2 16 (d, a)#unknown true unlawful true deep false
 assume a;#no form";
