@@ -1,6 +1,6 @@
 use crate::patterns::{A, C, Items, pattern_over};
 use crate::seats::{close_alone, close_in_turn};
-use crate::systems::{calls, grows, steps};
+use crate::systems::{calls, grows, same_goals, steps};
 use cost_weights::Cost;
 use prestar::pre_opening;
 use pushdown_rules::System;
@@ -125,6 +125,17 @@ fn costs_are_cut(rt: HostRuntime) -> Result<(), Fail> {
         let rows: &[Row] = &[(0, 2, 1, 0), (0, 1, 1, 3), (0, 0, 1, cost)];
         assert!(rt; saturates(alloc, &system, (0, &[C], rows))?);
     }
+    Ok(())
+}
+
+// For `p: c` one transition has five jobs: 5, 3 and 4 from a, of which the second lowers again what the
+// first made and the third changes nothing, and 2 and 6 from b, between them.
+#[test]
+fn one_hand_lowers_a_place_again(rt: HostRuntime) -> Result<(), Fail> {
+    let alloc = rt.alloc();
+    let system = same_goals(alloc, Cost::new(100)?)?;
+    let rows: &[Row] = &[(0, 2, 1, 0), (0, 0, 1, 3), (0, 1, 1, 2)];
+    assert!(rt; saturates(alloc, &system, (0, &[C], rows))?);
     Ok(())
 }
 

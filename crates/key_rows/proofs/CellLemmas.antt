@@ -6,8 +6,8 @@ use Rattle.std.specs.Ordering.{eq_by_cmp}
 use Rattle.std.specs.Cmp.{IsTotalOrder, eq_by_cmp_equiv, Equal-is}
 use Rattle.std.specs.BTreeMap.{BTreeMap, get, get_by, ContainsKey}
 use Rattle.key_rows.specs.declared.rows.Ends.{Ends}
-use Rattle.key_rows.specs.Rows.{index_where, has_key, gap_to, gaps_of, ends_of, cell, AreLinked}
-use Rattle.key_rows.proofs.RowLemmas.{first_of, gaps_push, ends_push, gap_to_ends, length-gaps, gaps-none, ends-none, first_is}
+use Rattle.key_rows.specs.Rows.{index_where, last_where, has_key, gap_to, gaps_of, ends_of, cell, AreLinked}
+use Rattle.key_rows.proofs.RowLemmas.{first_of, gaps_push, ends_push, gap_to_ends, length-gaps, gaps-none, ends-none, first_is, last_is}
 
 pub on_ok : {A E P : Type 0} (r : Result A E) (x : A) → r ≡ Ok x → OnOk r P → P
 on_ok {P = P} r x e h = subst (λ o. OnOk o P) e h
@@ -81,3 +81,8 @@ module _ {K : Type 0} (cmp : K → K → Ordering) where
   pub first_in : (ks : List (Option K)) (ends : BTreeMap K (Option Ends)) (gs : List ℕ) (key : K) (found : Option Ends) → AreLinked cmp ks ends gs → found ≡ cell cmp ends key
       → option_map (λ (e : Ends). e.first) found ≡ index_where (has_key (eq_by_cmp cmp) key) ks
   first_in ks ends gs key found rows is = ap (option_map (λ (e : Ends). e.first)) (is ∙ rows.ends_are key) ∙ first_is (eq_by_cmp cmp) key ks
+
+  -- what it says last
+  pub last_in : (ks : List (Option K)) (ends : BTreeMap K (Option Ends)) (gs : List ℕ) (key : K) (found : Option Ends) → AreLinked cmp ks ends gs → found ≡ cell cmp ends key
+      → option_map (λ (e : Ends). e.last) found ≡ last_where (has_key (eq_by_cmp cmp) key) ks
+  last_in ks ends gs key found rows is = ap (option_map (λ (e : Ends). e.last)) (is ∙ rows.ends_are key) ∙ last_is (eq_by_cmp cmp) key ks

@@ -215,6 +215,12 @@ module _ {K : Type 0} (same : K → K → Bool) where
     | Some i ↦ λ was. let both = last_if_first (has_key same s) ks i was in ap (λ l. option_map (λ (e : Ends). e.first) (ends_by (Some i) l)) both.1
   ] refl
 
+  pub last_is : (s : K) (ks : List (Option K)) → option_map (λ (e : Ends). e.last) (ends_of same s ks) ≡ last_where (has_key same s) ks
+  last_is s ks = elim (last_where (has_key same s) ks) as (λ o. last_where (has_key same s) ks ≡ o → option_map (λ (e : Ends). e.last) (ends_by (index_where (has_key same s) ks) o) ≡ o) [
+    | None ↦ λ was. ap (λ i. option_map (λ (e : Ends). e.last) (ends_by i None)) (none_if_no_last (has_key same s) ks was)
+    | Some l ↦ λ was. let both = first_if_last (has_key same s) ks l was in ap (λ i. option_map (λ (e : Ends). e.last) (ends_by i (Some l))) both.1
+  ] refl
+
 index_within : {X : Type 0} (p : X → Bool) (xs : List X) (k : ℕ) → index_where p xs ≡ Some k → k < length xs
 index_within p [] k e = cc
 index_within p (x ∷ xs) k e = elim (p x) as (λ b. cond b (Some 0) (option_map (λ j. j + 1) (index_where p xs)) ≡ Some k → k < length (x ∷ xs)) [

@@ -1,7 +1,7 @@
 ghost use Rattle.std.specs.Prelude.{◌≡◌, ◌↔◌, ℕ, ◌+◌, ◌<◌, ◌++◌, ◌∷◌, [], List, length, Option, None, Some, IsTrue, OnOk, vec_len, vec_capacity};
 ghost use Rattle.std.specs.Ordering.{eq_by_cmp};
 ghost use Rattle.std.specs.BTreeMap.{ContainsKey};
-ghost use Rattle.key_rows.specs.Rows.{index_where, has_key, next_alike, gap_to, cell, AreLinked, AreRows, HasCell, HasSpace};
+ghost use Rattle.key_rows.specs.Rows.{index_where, last_where, has_key, next_alike, gap_to, cell, AreLinked, AreRows, HasCell, HasSpace};
 
 use std::alloc::Global;
 use std::collections::BTreeMap;
@@ -112,6 +112,17 @@ impl<K: Ord + Copy + Drop> KeyRows<K> {
     {
         match cell_at(&self.ends, key) {
             Some(ends) => Some(ends.first),
+            None => None,
+        }
+    }
+
+    /// Where the last stands that has a key.
+    pub fn last(&self, key: K) -> Option<u64>
+        ensures { (ks : List (Option K)) → AreRows K.cmp ks self.now
+            → result ≡ last_where (has_key (eq_by_cmp K.cmp) key) ks }
+    {
+        match cell_at(&self.ends, key) {
+            Some(ends) => Some(ends.last),
             None => None,
         }
     }

@@ -9,9 +9,15 @@ fn rows_by_key(rt: HostRuntime) -> Result<(), Fail> {
         rows.push(key);
     }
     assert!(rt; rows.has_cell(5) && !rows.has_cell(7));
-    // a key, and where the first stands that has it
-    for (key, first) in [(3u32, Some(0u64)), (5, Some(2)), (7, None)] {
+    // a key, and where the first and the last stand that have it
+    let ends = [
+        (3u32, Some(0u64), Some(4u64)),
+        (5, Some(2), Some(2)),
+        (7, None, None),
+    ];
+    for (key, first, last) in ends {
         assert_eq!(rt; rows.first(key), first);
+        assert_eq!(rt; rows.last(key), last);
     }
     // for each member, and one behind the last, where the next stands that has its key
     let nexts = [Some(3u64), None, None, Some(4), None, None];

@@ -9,30 +9,17 @@ use Rattle.weighted_automata.specs.declared.place.Place.{Place}
 use Rattle.weighted_automata.specs.declared.place.Label.{Label}
 use Rattle.weighted_automata.specs.declared.place.Label.TheVariants.{Empty, Symbol}
 use Rattle.weighted_automata.specs.declared.transitions.Entry.{Entry}
-use Rattle.weighted_automata.specs.Entries.{Present, HasDistinctPlaces}
+use Rattle.weighted_automata.specs.Entries.{Present}
 use Rattle.witness_graph.specs.declared.node.Side.{Side}
 use Rattle.config_patterns.specs.declared.item.Item.{Item}
 use Rattle.config_patterns.specs.Edges.{edges_of}
 use Rattle.saturation_laws.specs.declared.opening.Opening.{Opening}
 use Rattle.saturation_laws.specs.States.{CoreState}
 use Rattle.wpds_base.specs.Lists.{IsIn}
-use Rattle.saturation_laws.proofs.CallerLemmas.{in_present}
 use Rattle.saturation_core.proofs.CallerLemmas.{drop_at}
 use Rattle.path_sum.specs.Sums.{Ways, edge_place, Move, move, grow}
 use Rattle.path_sum.proofs.ItemLemmas.{HasSet, by_items, on_step}
 use Rattle.path_sum.specs.private.Work.{edge_moves, into_moves, on_moves, back_moves, item_at, moves_by, pair_moves, end_moves, moves_of}
-
-module _ {S W Map : Type 0} where
-  at_in : (ts : List (Entry S W Map)) (k : ℕ) (t : Entry S W Map) → slice_get ts k ≡ Some t → IsIn t ts
-  at_in [] k t e = cc
-  at_in (u ∷ ts) zero t e = inl (same_Some u t e)
-  at_in (u ∷ ts) (suc k) t e = inr (at_in ts k t e)
-
-  -- a transition that was read is there
-  pub read_there : (us ts : List (Entry S W Map)) (k : ℕ) (t : Entry S W Map) → us ≡ ts → HasDistinctPlaces us → slice_get us k ≡ Some t → Present ts t × (slice_get ts k ≡ Some t)
-  read_there us ts k t same distinct read =
-      let P : List (Entry S W Map) → Type 0 = λ vs. Present vs t × (slice_get vs k ≡ Some t) in
-      subst P same (in_present us t distinct (at_in us k t read), read)
 
 module _ {S W Map : Type 0} (s : Operations W Map) (side : Side) (o : Opening) (ts : List (Entry S W Map)) (ways : Ways) where
   abbrev growing : CoreState S W Map → List Move → Option (CoreState S W Map)

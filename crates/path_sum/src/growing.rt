@@ -311,8 +311,6 @@ impl<'g, S: Semiring> Growing<'g, S> {
         ensures graph { self.new.nodes.graph ≡ self.old.nodes.graph }
     {
         let transitions = input.transitions();
-        // the places of the transitions are distinct
-        let _count = transitions.len();
         let mut at = transitions.first_out_of(state);
         while let Some(k) = at {
             self.follow_any(alloc, input, i, transitions.entry(k))?;

@@ -1,11 +1,10 @@
 -- What no row lists gives no job.
-use Rattle.std.proofs.Common.{◌≡◌, ℕ, zero, suc, ◌+◌, ◌<◌, ◌≤◌, Bool, true, false, List, [], ◌∷◌, ◌++◌, refl, sym, ap, ap₂, ◌∙◌, subst, inl, inr, arith}
-use Rattle.std.specs.Prelude.{Option, None, Some, cond, nat_eq, ◌&&◌, not, slice_get}
+use Rattle.std.proofs.Common.{◌≡◌, ℕ, zero, suc, ◌+◌, Bool, true, false, List, [], ◌∷◌, ◌++◌, refl, sym, ap, ap₂, ◌∙◌, arith}
+use Rattle.std.specs.Prelude.{Option, None, Some, nat_eq, ◌&&◌, not, slice_get}
 use Rattle.std.specs.List.{flat_map}
 use Rattle.std.proofs.lemmas.Bool.{and_parts, and_from, cond-true, cond-false, cond_both, eqb-true, eq-eqb, false_from_ne_true}
 use Rattle.std.proofs.lemmas.Option.{same_Some}
 use Rattle.weighted_automata.specs.declared.place.Place.{Place}
-use Rattle.weighted_automata.specs.declared.place.Label.{Label}
 use Rattle.weighted_automata.specs.declared.place.Label.TheVariants.{Symbol, Empty}
 use Rattle.weighted_automata.specs.declared.transitions.Entry.{Entry}
 use Rattle.weighted_automata.specs.Places.{same_label, same_place}
@@ -14,7 +13,7 @@ use Rattle.weighted_automata.proofs.CallerLemmas.{same_place_from, same_place_is
 use Rattle.key_rows.specs.Rows.{index_from}
 use Rattle.pushdown_rules.specs.declared.rule.Rule.{Rule}
 use Rattle.pushdown_rules.specs.Rows.{first_of, second_of, is_symbol, goes_onto, pushes_over, next_onto, next_over}
-use Rattle.pushdown_rules.proofs.CallerLemmas.{index_found, IsFound, onto_goes_on, over_goes_on}
+use Rattle.pushdown_rules.proofs.CallerLemmas.{index_found, onto_goes_on, over_goes_on}
 use Rattle.saturation_laws.specs.declared.job.JobKind.{JobKind}
 use Rattle.saturation_laws.specs.declared.job.Job.{Job}
 use Rattle.direction_parts.specs.Places.{arrow}

@@ -6,6 +6,7 @@ mod StartLemmas
 mod OpeningBook
 mod Passes
 mod PutPlan
+mod GoalLemmas
 mod PlanEqualsApply
 mod SettleBook
 mod AllPush

@@ -19,7 +19,7 @@ same_place-sym x y = elim (cases_Bool (same_place x y)) [
   | inr e ↦ e ∙ sym (false_from_ne_true (same_place y x) (λ h. let f : true ≡ false = sym (ap (λ z. same_place x z) (same_place_is y x h) ∙ same_place_itself x) ∙ e in cc))
 ]
 
-one_more : (y x : Place) (q : List Place) → has_place y (q ++ x ∷ []) ≡ (has_place y q || (same_place x y || false))
+pub one_more : (y x : Place) (q : List Place) → has_place y (q ++ x ∷ []) ≡ (has_place y q || (same_place x y || false))
 one_more y x q = has_place-append y q (x ∷ []) (q ++ x ∷ []) refl
 
 once_push : (x : Place) (q : List Place) → WaitOnce q → has_place x q ≡ false → WaitOnce (q ++ x ∷ [])

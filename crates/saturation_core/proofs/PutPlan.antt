@@ -1,16 +1,15 @@
 -- To make the planned lowerings is to apply the changes.
-use Rattle.std.proofs.Common.{◌≡◌, ℕ, suc, ◌+◌, ◌<◌, ◌≤◌, true, false, List, [], ◌∷◌, ◌++◌, length, map, get_or, take, drop, append_assoc, append-nil, length-take-le, refl, sym, ap, ◌∙◌, subst, arith}
+use Rattle.std.proofs.Common.{◌≡◌, ℕ, suc, ◌+◌, ◌<◌, ◌≤◌, true, false, List, [], ◌∷◌, ◌++◌, length, map, get_or, drop, append_assoc, append-nil, refl, sym, ap, ◌∙◌, subst, arith}
 use Rattle.std.specs.Prelude.{Option, None, Some, IfSome, IsTrue, is_some, ◌||◌, cond, option_map, option_to_list}
 use Rattle.std.specs.List.{AllByRecursion}
-use Rattle.std.proofs.lemmas.Option.{slice_get-get_or}
 use Rattle.std.proofs.lemmas.Bool.{or_left, or_right}
-use Rattle.std.proofs.lemmas.List.{length_push, take_more, at_drop_more, at_drop_all, length-append}
+use Rattle.std.proofs.lemmas.List.{length_push, at_drop_more, at_drop_all, length-append}
 use Rattle.semiring_laws.specs.Semiring.{Operations, IsSemiring, Fits}
 use Rattle.weighted_automata.specs.declared.place.Place.{Place}
 use Rattle.weighted_automata.specs.declared.transitions.Entry.{Entry}
 use Rattle.weighted_automata.specs.Places.{same_place, has_place}
 use Rattle.weighted_automata.specs.Entries.{entry_at, lowered}
-use Rattle.weighted_automata.proofs.CallerLemmas.{same_place_is, same_place_itself, entry_at-lowered_same, entry_at-lowered_other}
+use Rattle.weighted_automata.proofs.CallerLemmas.{same_place_itself}
 use Rattle.witness_graph.specs.declared.node.Node.TheVariants.{Lower}
 use Rattle.witness_graph.proofs.CallerLemmas.{orderly_from}
 use Rattle.saturation_laws.specs.declared.job.Job.{Job}
@@ -18,16 +17,11 @@ use Rattle.saturation_core.specs.declared.plan.Planned.{Planned}
 use Rattle.saturation_laws.specs.Jobs.{Tables, node_of}
 use Rattle.saturation_laws.specs.States.{CoreState, Change, weight_at, lower_state, apply, apply_all, change_of, apply_jobs}
 use Rattle.saturation_laws.specs.Openings.{AreKept, changed_weight}
-use Rattle.saturation_core.specs.private.Finding.{found_at}
 use Rattle.saturation_core.specs.private.Plans.{change_with, changes_with, put, put_all, put_from, AreNodesFrom, goal_of, HaveRoom, lowering_of, plan_of}
 use Rattle.saturation_core.proofs.ChangeLemmas.{kept_of, kept_lowered, kept_more, changed_fits}
 
-next_and : (n m : ℕ) → suc n + m ≡ n + suc m
+pub next_and : (n m : ℕ) → suc n + m ≡ n + suc m
 next_and n m = omega arith
-
-item_at : {X : Type 0} (xs : List X) (k : ℕ) → k < length xs → X
-item_at [] k within = absurd (omega (arith, within))
-item_at (x ∷ xs) k within = x
 
 module _ {S W Map : Type 0} where
   pub put_from-append : (n : ℕ) (ls ms : List (Planned S W Map)) (ts : List (Entry S W Map)) → put_from n (ls ++ ms) ts ≡ put_from (n + length ls) ms (put_from n ls ts)
@@ -61,49 +55,6 @@ module _ {S W Map : Type 0} where
 
   pub room_rest : (room new : List Place) (l : Planned S W Map) (ls : List (Planned S W Map)) → HaveRoom room (l ∷ ls) → ((x : Place) → IsTrue (has_place x room) → IsTrue (has_place x new)) → HaveRoom new ls
   room_rest room new l ls have keeps x named = keeps x (have x (or_right (same_place l.goal x) (has_place x (map goal_of ls)) named))
-
-  -- one lowering more
-  module _ (x : Place) (ls : List (Planned S W Map)) (i : ℕ) (d : Planned S W Map) (within : i < length ls) where
-    one_more : (n : ℕ) (ts : List (Entry S W Map)) → put_from n (take (i + 1) ls) ts ≡ lowered (get_or ls i d).goal (get_or ls i d).weight (n + i) (put_from n (take i ls) ts)
-    one_more n ts =
-        let l = get_or ls i d in
-        let e : length (take i ls) ≡ i = length-take-le i ls (omega (arith, within)) in
-        ap (λ ms. put_from n ms ts) (take_more ls i d within) ∙ put_from-append n (take i ls) (l ∷ []) ts ∙ ap (λ k. lowered l.goal l.weight (n + k) (put_from n (take i ls) ts)) e
-
-    pub found_here : same_place (get_or ls i d).goal x ≡ true → (n : ℕ) (ts : List (Entry S W Map)) → entry_at x (put_from n (take (i + 1) ls) ts) ≡ found_at x n ls (Some i) (entry_at x ts)
-    found_here same n ts =
-        let l = get_or ls i d in
-        let at : l.goal ≡ x = same_place_is l.goal x same in
-        let us = put_from n (take i ls) ts in
-        ap (entry_at x) (one_more n ts)
-        ∙ ap (λ y. entry_at x (lowered y l.weight (n + i) us)) at
-        ∙ entry_at-lowered_same x l.weight (n + i) us
-        ∙ ap (option_map (λ (m : Planned S W Map). record { place = x; weight = m.weight; node = n + i })) (sym (slice_get-get_or ls i d within))
-
-    pub found_before : (o : Option ℕ) → same_place (get_or ls i d).goal x ≡ false
-        → ((n : ℕ) (ts : List (Entry S W Map)) → entry_at x (put_from n (take i ls) ts) ≡ found_at x n ls o (entry_at x ts))
-        → (n : ℕ) (ts : List (Entry S W Map)) → entry_at x (put_from n (take (i + 1) ls) ts) ≡ found_at x n ls o (entry_at x ts)
-    found_before o other was n ts =
-        let l = get_or ls i d in
-        let differs : l.goal ≡ x → ⊥ = λ e. let f : true ≡ false = sym (ap (λ y. same_place y x) e ∙ same_place_itself x) ∙ other in cc in
-        ap (entry_at x) (one_more n ts) ∙ entry_at-lowered_other l.goal x l.weight (n + i) (put_from n (take i ls) ts) differs ∙ was n ts
-
-  -- what a search of a plan found
-  module _ (x : Place) (ls : List (Planned S W Map)) (o : Option ℕ) (found : (n : ℕ) (ts : List (Entry S W Map)) → entry_at x (put_from n ls ts) ≡ found_at x n ls o (entry_at x ts)) where
-    pub planned_at : (k : ℕ) (d : Planned S W Map) → o ≡ Some k → k < length ls → (n : ℕ) (ts : List (Entry S W Map))
-        → entry_at x (put_from n ls ts) ≡ Some (record { place = x; weight = (get_or ls k d).weight; node = n + k })
-    planned_at k d is within n ts =
-        found n ts ∙ ap (λ p. found_at x n ls p (entry_at x ts)) is
-        ∙ ap (option_map (λ (m : Planned S W Map). record { place = x; weight = m.weight; node = n + k })) (slice_get-get_or ls k d within)
-
-    pub planned_node : (k : ℕ) → o ≡ Some k → k < length ls → (n : ℕ) (ts : List (Entry S W Map)) → option_map node_of (entry_at x (put_from n ls ts)) ≡ Some (n + k)
-    planned_node k is within n ts = let d = item_at ls k within in ap (option_map node_of) (planned_at k d is within n ts)
-
-    pub planned_not : o ≡ None → (n : ℕ) (ts : List (Entry S W Map)) → entry_at x (put_from n ls ts) ≡ entry_at x ts
-    planned_not is n ts = found n ts ∙ ap (λ p. found_at x n ls p (entry_at x ts)) is
-
-    pub within_at : IfSome o (λ k. k < length ls) → (k : ℕ) → o ≡ Some k → k < length ls
-    within_at within k is = let P : Option ℕ → Type 0 = λ p. IfSome p (λ k. k < length ls) in subst P is within
 
 module _ {S W Map : Type 0} (s : Operations W Map) where
   -- one change

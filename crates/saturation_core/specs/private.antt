@@ -2,5 +2,6 @@
 pub mod Plans
 pub mod Steps
 pub mod Finding
+pub mod GoalRows
 pub mod Gather
 pub mod Notes

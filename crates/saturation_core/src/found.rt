@@ -12,7 +12,7 @@ ghost use Rattle.saturation_core.specs.private.Steps.{Becomes, IsKept, HasRoomFo
 
 use crate::change::{node_now, queue_up, weight_after, weight_now};
 use crate::place_queue::PlaceQueue;
-use crate::plan::{Planned, goals};
+use crate::plan::{Plan, Planned};
 use pushdown_rules::System;
 use semiring_laws::Semiring;
 use std::alloc::Global;
@@ -157,34 +157,30 @@ impl<S: Semiring> Found<S> {
     }
 
     /// Makes room for the lowerings of a plan, and in the queue for 64 places more. Only the room changes.
-    pub(crate) fn make_room(
-        &mut self,
-        alloc: Global,
-        plan: &[Planned<S>],
-    ) -> Result<(), OutOfMemory>
-        requires few { length plan.now < 2 ^ 63 }
+    pub(crate) fn make_room(&mut self, alloc: Global, plan: &Plan<S>) -> Result<(), OutOfMemory>
         ensures state { Becomes self.old (λ st. st) self.new }
         ensures side { self.new.graph.side ≡ self.old.graph.side }
         ensures kept { self.old.waiting.spare ≤ self.new.waiting.spare }
         ensures room { OnOk result (HasRoomFor plan.now self.new) }
         ensures queue { OnOk result (length plan.now + most_seats ≤ self.new.waiting.spare) }
     {
-        let places = goals(alloc, plan)?;
+        let places = plan.goals(alloc)?;
+        let count = plan.len();
         self.transitions.reserve(alloc, &places)?;
-        self.graph.reserve(alloc, plan.len() as u64)?;
-        self.waiting.reserve(plan.len() + 64)?;
+        self.graph.reserve(alloc, count as u64)?;
+        self.waiting.reserve(count + 64)?;
         Ok(())
     }
 
     /// Makes the lowerings of a plan in order, where there is room for them. It takes no memory.
-    pub(crate) fn lower_all(&mut self, alloc: Global, plan: Vec<Planned<S>>)
-        requires nodes { AreNodesFrom (length self.old.graph.nodes) plan.items }
-        requires room { HasRoomFor plan.items self.old }
-        ensures state { Becomes self.old (put_all plan.items) self.new }
+    pub(crate) fn lower_all(&mut self, alloc: Global, plan: Plan<S>)
+        requires nodes { AreNodesFrom (length self.old.graph.nodes) plan }
+        requires room { HasRoomFor plan self.old }
+        ensures state { Becomes self.old (put_all plan) self.new }
         ensures side { self.new.graph.side ≡ self.old.graph.side }
-        ensures queue { self.old.waiting.spare ≤ self.new.waiting.spare + length plan.items }
+        ensures queue { self.old.waiting.spare ≤ self.new.waiting.spare + length plan }
     {
-        let mut rest = VecDeque::from(plan);
+        let mut rest = VecDeque::from(plan.into_steps());
         'steps: while let Some(step) = rest.pop_front() {
             self.lower(alloc, step);
         }

@@ -6,7 +6,7 @@ use Rattle.std.proofs.lemmas.Option.{same_Some}
 use Rattle.weighted_automata.specs.declared.place.Place.{Place}
 use Rattle.weighted_automata.specs.declared.transitions.Entry.{Entry}
 use Rattle.weighted_automata.specs.Places.{same_place}
-use Rattle.weighted_automata.specs.Entries.{entry_at, index_at, lowered, places_of, HasDistinctPlaces}
+use Rattle.weighted_automata.specs.Entries.{entry_at, index_at, lowered, places_of, HasDistinctPlaces, Present}
 use Rattle.weighted_automata.proofs.PlaceLemmas.{same_place_is, same_place_itself, other_place}
 
 module _ {S W Map : Type 0} where
@@ -159,6 +159,12 @@ module _ {S W Map : Type 0} where
       let next : i + 1 ≡ suc i = omega arith in
       cond-false (same_place u.place t.place) (Some 0) (option_map (λ k. k + 1) (index_at t.place ts)) (other_place u.place t.place differs)
       ∙ ap (option_map (λ k. k + 1)) there ∙ ap Some next
+
+  -- what stands at a number is the transition at its place
+  pub present_there : (ts us : List (Entry S W Map)) → HasDistinctPlaces ts → ts ≡ us → (i : ℕ) (t : Entry S W Map) → slice_get us i ≡ Some t → Present us t
+  present_there ts us d same i t e =
+      let P : List (Entry S W Map) → Type 0 = λ vs. slice_get vs i ≡ Some t → Present vs t in
+      subst P same (λ at. sym (at_index_at t.place ts) ∙ ap (option_and_then (slice_get ts)) (get_at_place ts d i t at) ∙ at) e
 
   pub stands_once : (ts : List (Entry S W Map)) → HasDistinctPlaces ts → (i j : ℕ) (t u : Entry S W Map)
       → slice_get ts i ≡ Some t → slice_get ts j ≡ Some u → t.place ≡ u.place → i ≡ j

@@ -1,6 +1,6 @@
 -- Lists of places, and what waits.
 use Rattle.std.proofs.Common.{zero, suc, ◌≡◌, ℕ, ◌+◌, ◌<◌, ◌≤◌, true, false, List, [], ◌∷◌, ◌++◌, length, get_or, take, drop, map, refl, sym, ap, ◌∙◌, arith}
-use Rattle.std.specs.Prelude.{Option, None, Some, cond, option_map, ◌||◌, ◌⊎◌, is_some, Result, Ok, Err, OnErr}
+use Rattle.std.specs.Prelude.{Option, None, Some, cond, option_map, ◌||◌, ◌⊎◌, is_some, IsSome, OnSome, Result, Ok, Err, OnErr}
 use Rattle.std.proofs.Common.{inl, inr}
 use Rattle.std.proofs.lemmas.Bool.{cond-true, cond-false, cond_both, cases_Bool, or_left, or_right, or_cases}
 use Rattle.std.proofs.lemmas.Option.{same_Some}
@@ -238,6 +238,10 @@ has_place-take_more z xs i d within e =
         | inr f ↦ cc
       ]
     ]
+
+pub on_some : {T P : Type 0} (o : Option T) → IsSome o → OnSome o P → P
+on_some None there h = cc
+on_some (Some x) there h = h
 
 -- what holds at any answer holds at a refusal
 pub at_refusal : {T E P : Type 0} (r : Result T E) → P → OnErr r P

@@ -8,14 +8,15 @@ ghost use Rattle.weighted_automata.specs.Entries.{index_where};
 use crate::index::PlaceIndex;
 use crate::{Entry, Place};
 use semiring_laws::Semiring;
+use std::collections::VecDeque;
 use wpds_base::OutOfMemory;
 
 /// Where a place stands first.
-pub(crate) fn position(places: &[Place], place: Place) -> Option<usize>
-    ensures { result ≡ index_where (λ y. same_place y place) places.now }
+pub(crate) fn position(places: &VecDeque<Place>, place: Place) -> Option<usize>
+    ensures { result ≡ index_where (λ y. same_place y place) places.now.items }
 {
-    for (i, other) in places.iter().enumerate() {
-        if other.is(place) {
+    for i in 0..places.len() {
+        if places[i].is(place) {
             return Some(i);
         }
     }
@@ -23,7 +24,7 @@ pub(crate) fn position(places: &[Place], place: Place) -> Option<usize>
 }
 
 /// Takes a place out of those that wait for their transition, and says whether it was there.
-pub(crate) fn take_out(waiting: &mut Vec<Place>, place: Place) -> bool
+pub(crate) fn take_out(waiting: &mut VecDeque<Place>, place: Place) -> bool
     ensures taken { result ≡ has_place place waiting.old.items }
     ensures left { waiting.new.items ≡ without place waiting.old.items }
 {
@@ -40,7 +41,7 @@ pub(crate) fn take_out(waiting: &mut Vec<Place>, place: Place) -> bool
 fn make_space<S: Semiring>(
     entries: &mut Vec<Entry<S>>,
     index: &mut PlaceIndex,
-    waiting: &Vec<Place>,
+    waiting: &VecDeque<Place>,
     place: Place,
 ) -> Result<(), OutOfMemory>
     ensures rows { (ps : List PlaceValue) → AreIndexed ps index.old → AreIndexed ps index.new }
@@ -63,7 +64,7 @@ fn make_space<S: Semiring>(
 fn take_room<S: Semiring>(
     entries: &mut Vec<Entry<S>>,
     index: &mut PlaceIndex,
-    waiting: &mut Vec<Place>,
+    waiting: &mut VecDeque<Place>,
     place: Place,
 ) -> Result<(), OutOfMemory>
     requires room { vec_len entries.old + length waiting.old.items ≤ vec_capacity entries.old }
@@ -91,7 +92,7 @@ fn take_room<S: Semiring>(
 pub(crate) fn add<S: Semiring>(
     entries: &mut Vec<Entry<S>>,
     index: &mut PlaceIndex,
-    waiting: &mut Vec<Place>,
+    waiting: &mut VecDeque<Place>,
     entry: Entry<S>,
 ) -> Result<(), OutOfMemory>
     requires room { vec_len entries.old + length waiting.old.items ≤ vec_capacity entries.old }
@@ -129,7 +130,7 @@ pub(crate) fn replace<S: Semiring>(entries: &mut Vec<Entry<S>>, k: usize, entry:
 pub(crate) fn wait<S: Semiring>(
     entries: &mut Vec<Entry<S>>,
     index: &mut PlaceIndex,
-    waiting: &mut Vec<Place>,
+    waiting: &mut VecDeque<Place>,
     place: Place,
 ) -> Result<(), OutOfMemory>
     requires room { vec_len entries.old + length waiting.old.items ≤ vec_capacity entries.old }
@@ -142,6 +143,6 @@ pub(crate) fn wait<S: Semiring>(
     ensures room { vec_len entries.new + length waiting.new.items ≤ vec_capacity entries.new }
 {
     make_space(entries, index, waiting, place)?;
-    waiting.push(place)?;
+    waiting.push_back(place)?;
     Ok(())
 }

@@ -1,7 +1,7 @@
 ghost use Rattle.std.specs.Prelude.{◌≡◌, ◌+◌, ◌<◌, ◌++◌, List, [], ◌∷◌, None, Some, length, slice_get, filter, IsTrue, IsFalse, IsOk, IsSome, IfOk, OnOk, OnErr, IfSome, option_and_then};
 ghost use Rattle.weighted_automata.specs.declared.place.Place.{Place as PlaceValue};
 ghost use Rattle.weighted_automata.specs.Places.{same_label, has_place, AreAmong};
-ghost use Rattle.weighted_automata.specs.Entries.{entry_at, index_at, index_where, index_from, lowered, indices_from, is_from, is_out_of, is_into, is_empty_into, HasDistinctPlaces};
+ghost use Rattle.weighted_automata.specs.Entries.{entry_at, index_at, index_where, index_from, lowered, Present, indices_from, is_from, is_out_of, is_into, is_empty_into, HasDistinctPlaces};
 ghost use Rattle.weighted_automata.specs.declared.place.Label.TheVariants.{Empty};
 ghost use Rattle.weighted_automata.specs.declared.transitions.Entry.{Entry as EntryValue};
 
@@ -10,6 +10,7 @@ use crate::room::{add, position, replace, wait};
 use crate::{Label, Place};
 use semiring_laws::Semiring;
 use std::alloc::Global;
+use std::collections::VecDeque;
 use std::marker::Model;
 use wpds_base::OutOfMemory;
 
@@ -31,7 +32,7 @@ pub struct Transitions<S: Semiring> {
     // Where their places stand.
     index: PlaceIndex,
     // Places for which `entries` and `index` have room beside their own.
-    waiting: Vec<Place>,
+    waiting: VecDeque<Place>,
 }
 
 impl<S: Semiring> Model for Transitions<S> {
@@ -60,7 +61,7 @@ impl<S: Semiring> Transitions<S> {
         Transitions {
             entries: Vec::new(alloc),
             index: PlaceIndex::new(alloc),
-            waiting: Vec::new(alloc),
+            waiting: VecDeque::new(alloc),
         }
     }
 
@@ -75,7 +76,8 @@ impl<S: Semiring> Transitions<S> {
     /// The `k`-th transition in order of addition.
     pub fn entry(&self, k: u64) -> &Entry<S>
         requires { k < length self.now.transitions }
-        ensures { slice_get self.now.transitions k ≡ Some result.now }
+        ensures entry { slice_get self.now.transitions k ≡ Some result.now }
+        ensures present { Present self.now.transitions result.now }
     {
         &self.entries[k as usize]
     }

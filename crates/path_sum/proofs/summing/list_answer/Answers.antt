@@ -18,7 +18,7 @@ entry-requires g c =
 
 pub shorter-requires : goal.shorter-requires
 shorter-requires g c =
-    let at = found_here answer_place c.args.sum.now.pairs.transitions c.in-Some.k c.find.result c.entry.result.now c.find.ensures.entry c.in-Some.is c.entry.ensures in
+    let at = found_here answer_place c.args.sum.now.pairs.transitions c.in-Some.k c.find.result c.entry.result.now c.find.ensures.entry c.in-Some.is c.entry.ensures.entry in
     let root = (c.requires.kept.1.each c.entry.result.now (present_here answer_place c.args.sum.now.pairs.transitions c.entry.result.now at)).1 in
     let added = c.added-added.result.now in
     let begins = c.requires.begins in
@@ -32,7 +32,7 @@ shorter-requires g c =
 
 pub returns-in_ok-listing-in-Some : goal.returns-in_ok-listing-in-Some
 returns-in_ok-listing-in-Some g c =
-    let at = found_here answer_place c.args.sum.now.pairs.transitions c.in-Some.k c.find.result c.entry.result.now c.find.ensures.entry c.in-Some.is c.entry.ensures in
+    let at = found_here answer_place c.args.sum.now.pairs.transitions c.in-Some.k c.find.result c.entry.result.now c.find.ensures.entry c.in-Some.is c.entry.ensures.entry in
     let l = c.in_ok-listing-in-Some in
     let added = c.added-added.result.now in
     let short = subst (λ (v : Nodes). IsListingOf v.side v.nodes added (Some c.entry.result.now) (Some l.listing)) c.graph-graph.ensures (l.listing, refl, l.ensures.side, l.ensures.nodes, l.ensures.runs) in

@@ -32,7 +32,7 @@ partners-preserved g c =
     let f = glue_jobs t in
     let p = may_glue t.place in
     let here = pass_here p (λ _ u. f u) ts _ c.partners.jobs.items c.partners.at c.partners.invariant c.in-Some.i c.in-Some.is in
-    pass_goes_on p (λ _ u. f u) ts _ c.partners.jobs.items c.partners.at c.partners.invariant (λ n u e. glue_only t u e) c.in-Some.i c.entry.result.now _ c.next_glued-at.result c.in-Some.is c.entry.ensures
+    pass_goes_on p (λ _ u. f u) ts _ c.partners.jobs.items c.partners.at c.partners.invariant (λ n u e. glue_only t u e) c.in-Some.i c.entry.result.now _ c.next_glued-at.result c.in-Some.is c.entry.ensures.entry
     c.in_ok-list_glue.ensures (c.next_glued-at.ensures here)
 
 pub partners-smaller : goal.partners-smaller
@@ -43,7 +43,7 @@ partners-smaller g c =
     let p = may_glue t.place in
     let here = pass_here p (λ _ u. f u) ts _ c.partners.jobs.items c.partners.at c.partners.invariant c.in-Some.i c.in-Some.is in
     let P : Option ℕ → Type 0 = λ o. to_go (length ts) c.next_glued-at.result < to_go (length ts) o in
-    subst P (sym c.in-Some.is) (less_to_go p ts c.in-Some.i c.next_glued-at.result (slice_get_within ts c.in-Some.i c.entry.result.now c.entry.ensures) (c.next_glued-at.ensures here))
+    subst P (sym c.in-Some.is) (less_to_go p ts c.in-Some.i c.next_glued-at.result (slice_get_within ts c.in-Some.i c.entry.result.now c.entry.ensures.entry) (c.next_glued-at.ensures here))
 
 pub returns : goal.returns
 returns g c =

@@ -12,5 +12,5 @@ entry-requires g c =
 pub copy-requires : goal.copy-requires
 copy-requires g c =
     let law = g.S.Semiring.laws c.args.semiring.now in
-    let there = read_entry law c.args.place c.args.transitions.now.transitions c.in-Some.k c.find.result c.entry.result.now c.find.ensures.entry c.in-Some.is c.entry.ensures in
+    let there = read_entry law c.args.place c.args.transitions.now.transitions c.in-Some.k c.find.result c.entry.result.now c.find.ensures.entry c.in-Some.is c.entry.ensures.entry in
     (c.requires.1.each c.entry.result.now (present_at law c.args.place c.args.transitions.now.transitions c.entry.result.now there)).0

@@ -6,5 +6,5 @@ use Rattle.saturation_core.proofs.plan.plan_jobs.Given as goal
 abbrev pub invariant-loop-i : goal.invariant-loop-i
 invariant-loop-i g l =
     (plan_of (g.S.Semiring.operations l.semiring) (changes_with l.jobs l.worths) l.nodes l.transitions.transitions
-    ≡ l.plan.items ++ plan_of (g.S.Semiring.operations l.semiring) (changes_with (drop l.i l.jobs) (drop l.i l.worths)) (l.nodes + length l.plan.items) (put_from l.nodes l.plan.items l.transitions.transitions))
-    × AreKept (g.S.Semiring.operations l.semiring) (put_from l.nodes l.plan.items l.transitions.transitions) (l.nodes + length l.plan.items)
+    ≡ l.plan ++ plan_of (g.S.Semiring.operations l.semiring) (changes_with (drop l.i l.jobs) (drop l.i l.worths)) (l.nodes + length l.plan) (put_from l.nodes l.plan l.transitions.transitions))
+    × AreKept (g.S.Semiring.operations l.semiring) (put_from l.nodes l.plan l.transitions.transitions) (l.nodes + length l.plan)

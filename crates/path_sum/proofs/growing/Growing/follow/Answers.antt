@@ -11,14 +11,14 @@ use Rattle.path_sum.proofs.growing.Growing.follow.Goals as goal
 pub product-requires-clause-pair : goal.product-requires-clause-pair
 product-requires-clause-pair g c =
     let pair = found_kept (g.S.Semiring.laws c.args.input.now.semiring) (pair_place c.args.i c.args.transition.now.place.from) c.args.self.now.pairs.transitions (length c.args.self.now.nodes.nodes) c.in-Some.k c.find.result
-    c.entry-from.result.now c.requires.ready.pairs c.find.ensures.entry c.in-Some.is c.entry-from.ensures in
+    c.entry-from.result.now c.requires.ready.pairs c.find.ensures.entry c.in-Some.is c.entry-from.ensures.entry in
     subst (λ m. Fits (g.S.Semiring.operations m) c.entry-from.result.now.weight) (sym c.semiring-semiring.ensures) pair.0
 
 pub apply-requires-clause-weight : goal.apply-requires-clause-weight
 apply-requires-clause-weight g c =
     let semiring = c.semiring-semiring.result.now in
     let pair = found_kept (g.S.Semiring.laws c.args.input.now.semiring) (pair_place c.args.i c.args.transition.now.place.from) c.args.self.now.pairs.transitions (length c.args.self.now.nodes.nodes) c.in-Some.k c.find.result
-    c.entry-from.result.now c.requires.ready.pairs c.find.ensures.entry c.in-Some.is c.entry-from.ensures in
+    c.entry-from.result.now c.requires.ready.pairs c.find.ensures.entry c.in-Some.is c.entry-from.ensures.entry in
     let other = c.requires.ready.transitions.each c.args.transition.now c.requires.there in
     let fit = order_fits (g.S.Semiring.laws c.args.input.now.semiring) c.side-side.result c.entry-from.result.now.weight c.args.transition.now.weight pair.0 other.0 in
     let e : c.args.input.now.semiring ≡ semiring = sym c.semiring-semiring.ensures in
@@ -29,7 +29,7 @@ pub apply-requires-clause-first : goal.apply-requires-clause-first
 apply-requires-clause-first g c =
     let n = length c.args.self.now.nodes.nodes in
     let pair = found_kept (g.S.Semiring.laws c.args.input.now.semiring) (pair_place c.args.i c.args.transition.now.place.from) c.args.self.now.pairs.transitions n c.in-Some.k c.find.result
-    c.entry-from.result.now c.requires.ready.pairs c.find.ensures.entry c.in-Some.is c.entry-from.ensures in
+    c.entry-from.result.now c.requires.ready.pairs c.find.ensures.entry c.in-Some.is c.entry-from.ensures.entry in
     let other = c.requires.ready.transitions.each c.args.transition.now c.requires.there in
     subst (λ k. k < n) (sym c.parts-first.ensures.first) (first_within c.side-side.result c.entry-from.result.now.node c.args.transition.now.node n pair.1 other.1)
 
@@ -37,7 +37,7 @@ pub apply-requires-clause-second : goal.apply-requires-clause-second
 apply-requires-clause-second g c =
     let n = length c.args.self.now.nodes.nodes in
     let pair = found_kept (g.S.Semiring.laws c.args.input.now.semiring) (pair_place c.args.i c.args.transition.now.place.from) c.args.self.now.pairs.transitions n c.in-Some.k c.find.result
-    c.entry-from.result.now c.requires.ready.pairs c.find.ensures.entry c.in-Some.is c.entry-from.ensures in
+    c.entry-from.result.now c.requires.ready.pairs c.find.ensures.entry c.in-Some.is c.entry-from.ensures.entry in
     let other = c.requires.ready.transitions.each c.args.transition.now c.requires.there in
     subst (λ k. k < n) (sym c.parts-first.ensures.second) (second_within c.side-side.result c.entry-from.result.now.node c.args.transition.now.node n pair.1 other.1)
 

@@ -1,10 +1,9 @@
-use Rattle.std.proofs.Common.{◌≡◌, ◌+◌, ℕ, sym, ap, ◌∙◌}
-use Rattle.std.specs.Prelude.{◌&&◌, Some, None}
-use Rattle.key_rows.specs.Rows.{index_where, index_from}
-use Rattle.pushdown_rules.specs.Rows.{goes_onto, pushes_over}
+use Rattle.std.proofs.Common.{sym, ap, ◌∙◌}
+use Rattle.std.specs.Prelude.{◌&&◌}
+use Rattle.key_rows.specs.Rows.{index_where}
+use Rattle.pushdown_rules.specs.Rows.{goes_onto}
 use Rattle.prestar_laws.specs.Jobs.{goes_on}
 use Rattle.prestar.specs.private.Pushes.{kind_of}
-use Rattle.prestar.specs.private.Rows.{may_be_first, may_be_second}
 use Rattle.direction_parts.proofs.CallerLemmas.{none_where}
 use Rattle.prestar.proofs.pass.Pass.first_onto.Goals as goal
 

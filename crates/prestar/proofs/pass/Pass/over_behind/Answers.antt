@@ -1,10 +1,8 @@
-use Rattle.std.proofs.Common.{◌≡◌, ◌+◌, ℕ, sym, ap, ◌∙◌}
-use Rattle.std.specs.Prelude.{◌&&◌, Some, None}
-use Rattle.key_rows.specs.Rows.{index_where, index_from}
-use Rattle.pushdown_rules.specs.Rows.{goes_onto, pushes_over}
+use Rattle.std.proofs.Common.{sym, ap, ◌∙◌}
+use Rattle.std.specs.Prelude.{Some, None}
 use Rattle.prestar_laws.specs.Jobs.{goes_on}
 use Rattle.prestar.specs.private.Pushes.{kind_of}
-use Rattle.prestar.specs.private.Rows.{may_be_first, may_be_second}
+use Rattle.prestar.specs.private.Rows.{may_be_second}
 use Rattle.std.proofs.lemmas.Option.{same_Some}
 use Rattle.direction_parts.proofs.CallerLemmas.{not_there}
 use Rattle.prestar.proofs.RowLemmas.{over_next}

@@ -1,13 +1,10 @@
-use Rattle.std.proofs.Common.{◌≡◌, ◌+◌, ℕ, sym, ap, ◌∙◌}
-use Rattle.std.specs.Prelude.{◌&&◌, Some, None}
+use Rattle.std.proofs.Common.{sym, ap, ◌∙◌}
+use Rattle.std.specs.Prelude.{◌&&◌}
 use Rattle.weighted_automata.specs.declared.place.Label.TheVariants.{Symbol}
-use Rattle.weighted_automata.specs.Places.{same_label, same_place}
 use Rattle.weighted_automata.specs.Entries.{is_from}
-use Rattle.key_rows.specs.Rows.{index_where, index_from}
-use Rattle.direction_parts.specs.Places.{arrow}
+use Rattle.key_rows.specs.Rows.{index_where}
 use Rattle.prestar_laws.specs.Jobs.{goes_on}
 use Rattle.prestar.specs.private.Pushes.{kind_of}
-use Rattle.prestar.specs.private.Rows.{is_first, is_second}
 use Rattle.direction_parts.proofs.CallerLemmas.{none_where}
 use Rattle.prestar.proofs.push.Push.first_second.Goals as goal
 

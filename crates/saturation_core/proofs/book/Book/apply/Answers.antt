@@ -55,11 +55,11 @@ lower_all-requires-clause-nodes g c =
     let r = ready g.S.Semiring.operations g.D.Direction.way g.met.D.Direction.same_candidate (book_view c.self.inside) c.args.self.now c.self.view_is c.args.done.now c.requires c.candidates.ensures.worked
     c.seat-seat.result c.as_slice-jobs.result.now c.as_slice-worths.result.now c.seat-seat.ensures (c.as_slice-jobs.ensures ∙ c.jobs.ensures.value) (c.as_slice-worths.ensures ∙ c.candidates.ensures.value) in
     let planned = planned_is g.S.Semiring.operations g.D.Direction.way c.self.inside.system.now.semiring c.semiring-semiring.result.now (changes_with c.as_slice-jobs.result.now c.as_slice-worths.result.now) (length c.self.inside.found.graph.nodes)
-    c.self.inside.found.transitions.transitions c.in_ok-plan.plan.items c.in_ok-plan.ensures c.semiring-semiring.ensures.value in
-    subst (λ ns. AreNodesFrom (length ns) c.in_ok-plan.plan.items) (sym (ap (λ st. st.nodes) (c.make_room.ensures.state [])))
+    c.self.inside.found.transitions.transitions c.in_ok-plan.plan c.in_ok-plan.ensures c.semiring-semiring.ensures.value in
+    subst (λ ns. AreNodesFrom (length ns) c.in_ok-plan.plan) (sym (ap (λ st. st.nodes) (c.make_room.ensures.state [])))
     (nodes_next g.S.Semiring.operations g.S.Semiring.laws g.D.Direction.way g.met.D.Direction.laws
     (book_view c.self.inside) c.self.invariant.0 c.seat-seat.result c.as_slice-jobs.result.now r.out c.as_slice-worths.result.now r.worths
-    (length c.self.inside.found.graph.nodes) c.in_ok-plan.plan.items refl planned)
+    (length c.self.inside.found.graph.nodes) c.in_ok-plan.plan refl planned)
 
 pub push_reserved-requires : goal.push_reserved-requires
 push_reserved-requires g c =
@@ -76,12 +76,12 @@ made g c =
     let r = ready g.S.Semiring.operations g.D.Direction.way g.met.D.Direction.same_candidate (book_view c.self.inside) c.args.self.now c.self.view_is c.args.done.now c.requires c.candidates.ensures.worked
     c.seat-seat.result c.as_slice-jobs.result.now c.as_slice-worths.result.now c.seat-seat.ensures (c.as_slice-jobs.ensures ∙ c.jobs.ensures.value) (c.as_slice-worths.ensures ∙ c.candidates.ensures.value) in
     let planned = planned_is g.S.Semiring.operations g.D.Direction.way c.self.inside.system.now.semiring c.semiring-semiring.result.now (changes_with c.as_slice-jobs.result.now c.as_slice-worths.result.now) (length c.self.inside.found.graph.nodes)
-    c.self.inside.found.transitions.transitions c.in_ok-plan.plan.items c.in_ok-plan.ensures c.semiring-semiring.ensures.value in
+    c.self.inside.found.transitions.transitions c.in_ok-plan.plan c.in_ok-plan.ensures c.semiring-semiring.ensures.value in
     let b = book_view c.self.inside in
-    settled g.S.Semiring.operations g.D.Direction.way b c.seat-seat.result c.as_slice-jobs.result.now c.as_slice-worths.result.now (length c.self.inside.found.graph.nodes) c.in_ok-plan.plan.items
+    settled g.S.Semiring.operations g.D.Direction.way b c.seat-seat.result c.as_slice-jobs.result.now c.as_slice-worths.result.now (length c.self.inside.found.graph.nodes) c.in_ok-plan.plan
     r.out r.worths refl planned
     c.lower_all.new.self c.put.new.out.items c.push_reserved.new.self.items
-    (put_on c.in_ok-plan.plan.items c.self.inside.found c.make_room.new.self c.lower_all.new.self c.make_room.ensures.state c.lower_all.ensures.state c.self.inside.out.items)
+    (put_on c.in_ok-plan.plan c.self.inside.found c.make_room.new.self c.lower_all.new.self c.make_room.ensures.state c.lower_all.ensures.state c.self.inside.out.items)
     c.put.ensures c.push_reserved.ensures.items
 
 pub invariant_of-self-2 : goal.invariant_of-self-2
@@ -114,6 +114,6 @@ pub returns-clause-count : goal.returns-clause-count
 returns-clause-count g c =
     let b = book_view c.self.inside in
     let was : length c.args.self.now.state.nodes ≡ length b.state.nodes = ap (λ v. length v.state.nodes) (sym c.self.view_is) in
-    let all = settled_nodes g.S.Semiring.operations g.D.Direction.way b c.in_ok-plan.plan.items c.lower_all.new.self
-    (put_on c.in_ok-plan.plan.items c.self.inside.found c.make_room.new.self c.lower_all.new.self c.make_room.ensures.state c.lower_all.ensures.state c.self.inside.out.items) in
+    let all = settled_nodes g.S.Semiring.operations g.D.Direction.way b c.in_ok-plan.plan c.lower_all.new.self
+    (put_on c.in_ok-plan.plan c.self.inside.found c.make_room.new.self c.lower_all.new.self c.make_room.ensures.state c.lower_all.ensures.state c.self.inside.out.items) in
     omega (arith, was, all)
