@@ -3,7 +3,7 @@
 use std::alloc::Global;
 use wpds_app::run;
 use wpds_base::OutOfMemory;
-use wpds_port::{MemSink, MemSource, OpenGate};
+use wpds_port::{Gate, MemSink, MemSource, OpenGate};
 
 // How many bytes are written at most.
 const ROOM: usize = 100_000;
@@ -23,13 +23,24 @@ pub(crate) fn written_by(
     by: &str,
     workers: &str,
 ) -> Result<Vec<u8>, OutOfMemory> {
+    written_at(rt, document, by, workers, &OpenGate)
+}
+
+/// The same, where the workers call this gate.
+pub(crate) fn written_at<G: Gate>(
+    rt: &HostRuntime,
+    document: &[u8],
+    by: &str,
+    workers: &str,
+    gate: &G,
+) -> Result<Vec<u8>, OutOfMemory> {
     let mut words = Vec::new(rt.alloc());
     for word in ["check", "--brief", "--by", by, "--workers", workers] {
         words.push(String::from_str(rt.alloc(), word)?)?;
     }
     let mut source = MemSource::new(document.to_vec(rt.alloc())?, PIECE, Vec::new(rt.alloc()));
     let mut sink = MemSink::new(rt.alloc(), ROOM, PIECE, Vec::new(rt.alloc()))?;
-    let _ = run(rt, rt.alloc(), &words, &mut source, &mut sink, &OpenGate);
+    let _ = run(rt, rt.alloc(), &words, &mut source, &mut sink, gate);
     Ok(sink.written().to_vec(rt.alloc())?)
 }
 

@@ -1,6 +1,7 @@
 //! Reports by several workers.
 
-use crate::rows::written_by;
+use crate::rows::{written_at, written_by};
+use row_systems::MeetingGate;
 use wpds_base::OutOfMemory;
 
 // Documents with what `check --brief` writes on them.
@@ -87,5 +88,25 @@ fn as_many_workers_as_there_may_be(rt: HostRuntime) -> Result<(), OutOfMemory> {
 fn one_worker(rt: HostRuntime) -> Result<(), OutOfMemory> {
     assert_eq!(rt; first_wrong(&rt, "pre", "1")?, None);
     assert_eq!(rt; first_wrong(&rt, "post", "1")?, None);
+    Ok(())
+}
+
+const GROWTH: &str = "wpds 1
+weights cost 100
+controls p
+symbols a
+rule p a -> p a a : 1
+rule p a -> p : 0
+query p: a => p: {a}*
+";
+
+// Two workers have hands out at once. Without the workers, or with all their work on one thread, the gate would hold the first
+// of them in vain.
+#[test]
+fn two_workers_meet(rt: HostRuntime) -> Result<(), OutOfMemory> {
+    let gate = MeetingGate::new();
+    let text = written_at(&rt, GROWTH.as_bytes(), "pre", "2", &gate)?;
+    assert_eq!(rt; text.as_slice(), "query 1: 0\n".as_bytes());
+    assert!(rt; gate.have_met());
     Ok(())
 }
