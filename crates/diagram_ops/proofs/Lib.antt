@@ -12,3 +12,4 @@ mod ComposingLemmas
 mod RelationLemmas
 mod VariableLemmas
 mod ShortCutLemmas
+pub mod CallerLemmas

@@ -1,0 +1,6 @@
+mod DiagramLemmas
+mod FrameLemmas
+mod ActionLemmas
+mod ReturnLemmas
+mod OperationLemmas
+mod PairLemmas

@@ -1,0 +1,4 @@
+pub mod Actions
+pub mod Relations
+pub mod RelationLaws
+pub mod private

@@ -1,0 +1,209 @@
+ghost use Rattle.std.specs.Prelude.{◌≡◌, ◌≤◌, ◌<◌, All, IsTrue, IfOk};
+ghost use Rattle.wpds_base.specs.Limits.{most_related};
+ghost use Rattle.semiring_laws.specs.Semiring.{Fits};
+ghost use Rattle.truth_tables.specs.Formulas.{formula, is_over};
+ghost use Rattle.relation_laws.specs.Relations.{relation_of, identity, leads, union, composition};
+ghost use Rattle.relation_weights.specs.Actions as spec;
+ghost use Rattle.relation_weights.specs.Actions.{frame_pairs, AreTargets};
+ghost use Rattle.relation_weights.specs.Relations.{relation_operations, relation_fits};
+ghost use Rattle.relation_weights.specs.RelationLaws.{relation_laws};
+
+use crate::actions::{assigned, assumed};
+use crate::frames::frame;
+use crate::returns::returned;
+use crate::{RelMap, Relation, Value};
+use diagram_ops::{apply_table2, compose_relations};
+use diagram_store::Diagram;
+use semiring_laws::Semiring;
+use std::alloc::Global;
+use std::marker::Model;
+use truth_tables::Expr;
+use wpds_base::OutOfMemory;
+
+// The table of disjunction.
+const OR: u8 = 14;
+
+/// The semiring of relations between states of so many bits, at most 24 (as the weights of Boolean programs: Schwoon 2002;
+/// Reps, Schwoon, Jha and Melski 2005). Combine is the union, extend is the composition, the first relation first, zero is
+/// the empty relation and one the identity. Contracts see it as the number of bits.
+///
+/// Extending by zero or the identity, combining with zero or an equal relation, and a return map that changes nothing
+/// share an operand, and make no operation on diagrams.
+#[derive(Clone, Copy, Debug)]
+pub struct Relations {
+    n: u32,
+}
+
+impl Model for Relations {
+    ghost use Rattle.std.specs.Prelude.{ℕ, ◌≤◌};
+    ghost use Rattle.wpds_base.specs.Limits.{most_related};
+
+    ghost Value = { ℕ };
+
+    ghost view = { λ r. r.n };
+
+    ghost invariant = { λ r. r.n ≤ most_related };
+
+    ghost inverse = { λ n. record { n = n } };
+}
+
+impl Relations {
+    /// The relations between states of `n` bits.
+    pub fn new(n: u32) -> Relations
+        requires { n ≤ most_related }
+        ensures { result ≡ n }
+    {
+        Relations { n }
+    }
+
+    /// The assignment of these targets. All values are taken in the old state, and the other numbers stay.
+    pub fn assign(&self, alloc: Global, targets: &[(u32, Value)]) -> Result<Relation, OutOfMemory>
+        requires { AreTargets self.now targets.now }
+        ensures pairs { IfOk result (λ w.
+            w ≡ relation_of self.now (spec.assigned self.now targets.now)) }
+        ensures fits { IfOk result (λ w. Fits (relation_operations self.now) w) }
+    {
+        assigned(alloc, self.n, targets)
+    }
+
+    /// The identity where the expression is true in the old state.
+    pub fn assume(&self, alloc: Global, e: &Expr) -> Result<Relation, OutOfMemory>
+        requires { IsTrue (is_over self.now (formula e.now)) }
+        ensures pairs { IfOk result (λ w.
+            w ≡ relation_of self.now (spec.assumed self.now (formula e.now))) }
+        ensures fits { IfOk result (λ w. Fits (relation_operations self.now) w) }
+    {
+        assumed(alloc, self.n, e)
+    }
+
+    /// Each listed number may have either bit, and the others stay. One that is listed twice counts once.
+    pub fn choose(&self, alloc: Global, vars: &[u32]) -> Result<Relation, OutOfMemory>
+        requires { All (λ v. v < self.now) vars.now }
+        ensures pairs { IfOk result (λ w.
+            w ≡ relation_of self.now (frame_pairs self.now vars.now)) }
+        ensures fits { IfOk result (λ w. Fits (relation_operations self.now) w) }
+    {
+        let made = frame(alloc, self.n, vars)?;
+        Relation::new(alloc, made)
+    }
+}
+
+// The identity on so many bits.
+fn identity_on(alloc: Global, n: u32) -> Result<Relation, OutOfMemory>
+    requires { n ≤ 24 }
+    ensures { IfOk result (λ w. w ≡ relation_of n (identity n)) }
+{
+    let made = frame(alloc, n, &[])?;
+    Relation::new(alloc, made)
+}
+
+// Whether a relation is the identity. Few others have so many nodes.
+fn is_identity(alloc: Global, n: u32, w: &Relation) -> Result<bool, OutOfMemory>
+    requires { n ≤ 24 }
+    ensures { IfOk result (λ b. IsTrue b → w.now ≡ relation_of n (identity n)) }
+{
+    if w.diagram().nodes().len() != 3 * n as usize {
+        return Ok(false);
+    }
+    let stay = identity_on(alloc, n)?;
+    Ok(w.is_same(&stay))
+}
+
+// The union, by the operation on diagrams.
+fn united(alloc: Global, n: u32, a: &Relation, b: &Relation) -> Result<Relation, OutOfMemory>
+    requires left { IsTrue (relation_fits n a.now) }
+    requires right { IsTrue (relation_fits n b.now) }
+    ensures { IfOk result (λ w. w ≡ relation_of n (union (leads a.now) (leads b.now))) }
+{
+    let made = apply_table2(alloc, OR, a.diagram(), b.diagram())?;
+    Relation::new(alloc, made)
+}
+
+// The composition, by the operation on diagrams.
+fn composed(alloc: Global, n: u32, a: &Relation, b: &Relation) -> Result<Relation, OutOfMemory>
+    requires left { IsTrue (relation_fits n a.now) }
+    requires right { IsTrue (relation_fits n b.now) }
+    ensures { IfOk result (λ w. w ≡ relation_of n (composition n (leads a.now) (leads b.now))) }
+{
+    let made = compose_relations(alloc, n, a.diagram(), b.diagram())?;
+    Relation::new(alloc, made)
+}
+
+impl Semiring for Relations {
+    type W = Relation;
+
+    type Ret = RelMap;
+
+    ghost operations = { relation_operations };
+
+    ghost laws = { relation_laws };
+
+    fn zero(&self, alloc: Global) -> Result<Relation, OutOfMemory> {
+        let never = Diagram::constant(alloc, false);
+        Relation::new(alloc, never)
+    }
+
+    fn one(&self, alloc: Global) -> Result<Relation, OutOfMemory> {
+        identity_on(alloc, self.n)
+    }
+
+    fn combine(&self, alloc: Global, a: &Relation, b: &Relation) -> Result<Relation, OutOfMemory> {
+        if a.is_empty() {
+            return b.share();
+        }
+        if b.is_empty() {
+            return a.share();
+        }
+        if a.is_same(b) {
+            return a.share();
+        }
+        united(alloc, self.n, a, b)
+    }
+
+    fn extend(&self, alloc: Global, a: &Relation, b: &Relation) -> Result<Relation, OutOfMemory> {
+        if a.is_empty() {
+            return a.share();
+        }
+        if b.is_empty() {
+            return b.share();
+        }
+        if is_identity(alloc, self.n, a)? {
+            return b.share();
+        }
+        if is_identity(alloc, self.n, b)? {
+            return a.share();
+        }
+        composed(alloc, self.n, a, b)
+    }
+
+    fn copy(&self, _alloc: Global, a: &Relation) -> Result<Relation, OutOfMemory> {
+        a.share()
+    }
+
+    fn after(&self, alloc: Global, map: &RelMap, w: &Relation) -> Result<Relation, OutOfMemory> {
+        match map {
+            RelMap::Plain => w.share(),
+            RelMap::Slots(slots) => returned(alloc, self.n, slots, w),
+        }
+    }
+
+    fn same(&self, a: &Relation, b: &Relation) -> bool {
+        a.is_same(b)
+    }
+
+    fn is_zero(&self, a: &Relation) -> bool {
+        a.is_empty()
+    }
+
+    fn plain(&self) -> RelMap {
+        RelMap::Plain
+    }
+
+    fn same_map(&self, a: &RelMap, b: &RelMap) -> bool {
+        a.is_same(b)
+    }
+
+    fn same_kind(&self, other: &Relations) -> bool {
+        self.n == other.n
+    }
+}
