@@ -1,21 +1,18 @@
 -- The moves of a pair, one after another.
-use Rattle.std.proofs.Common.{◌≡◌, inl, inr, ℕ, zero, suc, ◌+◌, List, [], ◌∷◌, ◌++◌, map, drop, sym, ap, ◌∙◌, subst}
+use Rattle.std.proofs.Common.{◌≡◌, ℕ, ◌+◌, List, [], ◌∷◌, ◌++◌, map, drop, sym, ap, ◌∙◌}
 use Rattle.std.specs.Prelude.{Option, None, Some, cond, slice_get, option_and_then}
 use Rattle.std.specs.List.{All}
 use Rattle.std.proofs.lemmas.Bool.{eq-eqb}
-use Rattle.std.proofs.lemmas.Option.{same_Some}
 use Rattle.semiring_laws.specs.Semiring.{Operations}
 use Rattle.weighted_automata.specs.declared.place.Place.{Place}
 use Rattle.weighted_automata.specs.declared.place.Label.{Label}
 use Rattle.weighted_automata.specs.declared.place.Label.TheVariants.{Empty, Symbol}
 use Rattle.weighted_automata.specs.declared.transitions.Entry.{Entry}
-use Rattle.weighted_automata.specs.Entries.{Present}
 use Rattle.witness_graph.specs.declared.node.Side.{Side}
 use Rattle.config_patterns.specs.declared.item.Item.{Item}
 use Rattle.config_patterns.specs.Edges.{edges_of}
 use Rattle.saturation_laws.specs.declared.opening.Opening.{Opening}
 use Rattle.saturation_laws.specs.States.{CoreState}
-use Rattle.wpds_base.specs.Lists.{IsIn}
 use Rattle.saturation_core.proofs.CallerLemmas.{drop_at}
 use Rattle.path_sum.specs.Sums.{Ways, edge_place, Move, move, grow}
 use Rattle.path_sum.proofs.ItemLemmas.{HasSet, by_items, on_step}

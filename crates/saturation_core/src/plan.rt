@@ -51,8 +51,8 @@ impl<S: Semiring> Model for Plan<S> {
 }
 
 impl<S: Semiring> Plan<S> {
-    // No lowering. It takes no memory.
-    fn new(alloc: Global) -> Plan<S>
+    /// No lowering. It takes no memory.
+    pub(crate) fn new(alloc: Global) -> Plan<S>
         ensures { result ≡ [] }
     {
         Plan {
@@ -77,8 +77,8 @@ impl<S: Semiring> Plan<S> {
         &self.steps[k as usize]
     }
 
-    // Where the last lowering of a place stands.
-    fn last_at(&self, place: Place) -> Option<u64>
+    /// Where the last lowering of a place stands.
+    pub(crate) fn last_at(&self, place: Place) -> Option<u64>
         ensures within { IfSome result (λ k. k < length self.now) }
         ensures limit { IfSome result (λ k. k < 2 ^ 63) }
         ensures found { (n : ℕ) (ts : List (EntryValue S S.W S.Ret))
@@ -95,8 +95,8 @@ impl<S: Semiring> Plan<S> {
         self.rows.first(place) == Some(k)
     }
 
-    // Adds a lowering, where there is one.
-    fn add(&mut self, step: Option<Planned<S>>) -> Result<(), OutOfMemory>
+    /// Adds a lowering, where there is one.
+    pub(crate) fn add(&mut self, step: Option<Planned<S>>) -> Result<(), OutOfMemory>
         ensures { OnOk result (self.new ≡ self.old ++ option_to_list step) }
     {
         let Some(step) = step else {

@@ -1,4 +1,5 @@
 use crate::gather::{Gather, HUB};
+use crate::plan::{Plan, Planned};
 use crate::{Book, Done, PlaceQueue, Taken, queue_up};
 use pushdown_rules::{RuleFault, System};
 use saturation_laws::{Direction, Opening, PlaceList, StateList};
@@ -6,7 +7,7 @@ use semiring_laws::{Reach, Semiring};
 use std::alloc::Global;
 use std::test::Fail;
 use weighted_automata::{Label, Place};
-use witness_graph::Side;
+use witness_graph::{Node, Side};
 use wpds_base::OutOfMemory;
 
 const FORWARDS: Gather = Gather { side: Side::Post };
@@ -322,5 +323,26 @@ fn waits_once_and_in_order(rt: HostRuntime) -> Result<(), Fail> {
     for left in [Some(two), Some(one), None] {
         assert_eq!(rt; queue.pop(), left);
     }
+    Ok(())
+}
+
+#[test]
+fn a_plan_looks_up_its_goals(rt: HostRuntime) -> Result<(), Fail> {
+    let alloc = rt.alloc();
+    let (one, two, other) = (place(0, 1), place(1, 0), place(1, 1));
+    let mut plan: Plan<Reach> = Plan::new(alloc);
+    for goal in [one, two, one, two, one] {
+        let (weight, node) = (true, Node::Start);
+        plan.add(Some(Planned { goal, weight, node }))?;
+    }
+    plan.add(None)?;
+    assert_eq!(rt; plan.len(), 5);
+    // a place, and where its last lowering stands
+    for (goal, last) in [(one, Some(4u64)), (two, Some(3)), (other, None)] {
+        assert_eq!(rt; plan.last_at(goal), last);
+    }
+    // each goal once, in the order of their first lowerings
+    let goals = plan.goals(alloc)?;
+    assert_eq!(rt; goals.as_slice(), [one, two].as_slice());
     Ok(())
 }
