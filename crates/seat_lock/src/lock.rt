@@ -74,7 +74,8 @@ impl<T: Journaled> SeatLock<T> {
     pub fn new(alloc: Global, value: T, seats: u32) -> Result<(SeatLock<T>, Pass<T>), LockFault<T>>
         requires seats { (0 < seats) × (seats ≤ 64) }
         requires empty { T.journal value ≡ [] }
-        ensures { MatchResult result (λ r. IsFirst r.0 (T.base value) seats r.1) (λ f. f.value ≡ value) }
+        ensures { MatchResult result (λ r. IsFirst r.0 (T.base value) seats r.1)
+            (λ f. f.value ≡ value) }
     {
         let about = Snapshot::of(&value);
         let mut slots = match Vec::with_capacity(alloc, 1) {
@@ -273,7 +274,8 @@ impl<T: Journaled> SeatLock<T> {
         ensures { MatchResult result
             (λ x. (pass.made ≤ pass.joined) × Fits T.number pass (T.base x) (T.journal x)
             × Each (λ e. Among (T.number e) pass.seat.me.0.claims) (T.journal x))
-            (λ f. (pass.joined < pass.made) × (f.lock ≡ self) × (f.pass ≡ pass) × (f.made ≡ pass.made)) }
+            (λ f. (pass.joined < pass.made)
+            × (f.lock ≡ self) × (f.pass ≡ pass) × (f.made ≡ pass.made)) }
     {
         if pass.joined < pass.made {
             let made = pass.made;
