@@ -17,6 +17,7 @@ use std::alloc::Global;
 use witness_graph::Side;
 use worker_pool::saturate_alone;
 use wpds_base::OutOfMemory;
+use wpds_port::OpenGate;
 
 /// The finished saturation from a pattern, by one worker: backwards from where runs end, or forwards from where they begin.
 /// Refused only when out of memory.
@@ -34,11 +35,11 @@ pub fn saturate<'s, S: Semiring>(
     match side {
         Side::Pre => {
             let book = pre_opening(alloc, system, opened)?;
-            Ok(Saturation::Backward(saturate_alone(alloc, book)?))
+            Ok(Saturation::Backward(saturate_alone(alloc, book, &OpenGate)?))
         }
         Side::Post => {
             let book = post_opening(alloc, system, opened)?;
-            Ok(Saturation::Forward(saturate_alone(alloc, book)?))
+            Ok(Saturation::Forward(saturate_alone(alloc, book, &OpenGate)?))
         }
     }
 }

@@ -232,11 +232,13 @@ fn a_give_wakes_who_waits(rt: HostRuntime) -> Result<(), Fail> {
             &rt,
             move || -> Pass<Diary>
                 requires { IsOf zero shared.now }
-                ensures { (result.seat.table_id ≡ zero.seat.table_id) × (result.number ≡ zero.number) }
+                ensures { (result.seat.table_id ≡ zero.seat.table_id)
+                    × (result.number ≡ zero.number) }
             { note_late(&rt, shared, zero, text, begun) },
             move || -> Pass<Diary>
                 requires { IsOf one shared.now }
-                ensures { (result.seat.table_id ≡ one.seat.table_id) × (result.number ≡ one.number) }
+                ensures { (result.seat.table_id ≡ one.seat.table_id)
+                    × (result.number ≡ one.number) }
             { wait_for(&rt, shared, one, line, begun) },
         );
         assert!(rt; waits.load(Ordering::SeqCst) > 0);
