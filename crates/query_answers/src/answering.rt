@@ -18,6 +18,7 @@ use std::alloc::Global;
 use std::sync::Wait;
 use std::thread::Threads;
 use witness_graph::Side;
+use worker_pool::saturate as saturate_book;
 use wpds_base::OutOfMemory;
 use wpds_port::Gate;
 
@@ -47,13 +48,11 @@ pub fn saturate<
     match side {
         Side::Pre => {
             let book = pre_opening(alloc, system, opened)?;
-            let book = worker_pool::saturate(rt, alloc, book, workers, gate)?;
-            Ok(Saturation::Backward(book))
+            Ok(Saturation::Backward(saturate_book(rt, alloc, book, workers, gate)?))
         }
         Side::Post => {
             let book = post_opening(alloc, system, opened)?;
-            let book = worker_pool::saturate(rt, alloc, book, workers, gate)?;
-            Ok(Saturation::Forward(book))
+            Ok(Saturation::Forward(saturate_book(rt, alloc, book, workers, gate)?))
         }
     }
 }

@@ -20,5 +20,6 @@ pub use Rattle.saturation_laws.proofs.OpeningWeights.{opened_below, opening_edge
 pub use Rattle.saturation_laws.proofs.OpeningWeights.{opening_weights_fit}
 pub use Rattle.saturation_laws.proofs.QueueLemmas.{all_append, get_push, has_place_is, in_append}
 pub use Rattle.saturation_laws.proofs.QueueLemmas.{in_left}
+pub use Rattle.saturation_laws.proofs.ReplayLemmas.{others_leave, replay_append, step_leaves}
 pub use Rattle.saturation_laws.proofs.SettleState.{apply_keeps, grows_further, grows_itself}
 pub use Rattle.saturation_laws.proofs.ValueLemmas.{worth_fits}

@@ -39,7 +39,7 @@ module _ {S W Map : Type 0} (s : Operations W Map) (d : Tables S W Map) where
   jobs_leave (j ∷ js) st = jobs_leave js (apply s (change_of s d j) st) ∙ apply_leaves (change_of s d j) st
 
   -- one event of another seat
-  step_leaves : (e : Event) (st new : CoreState S W Map) → step s d st e ≡ Some new → (k : ℕ) → (k ≡ seat_of e → ⊥) → hand_at k new.hands ≡ hand_at k st.hands
+  pub step_leaves : (e : Event) (st new : CoreState S W Map) → step s d st e ≡ Some new → (k : ℕ) → (k ≡ seat_of e → ⊥) → hand_at k new.hands ≡ hand_at k st.hands
   step_leaves (Take seat x) st new legal k other =
       let P : Option (CoreState S W Map) → Type 0 = λ i. i ≡ Some new → hand_at k new.hands ≡ hand_at k st.hands in
       cond_both (can_take s d seat x st) (Some (take s d seat x st)) None P

@@ -17,7 +17,7 @@ use Rattle.worker_pool.specs.Alone.{HasBase, IsAlone, turns_of}
 use Rattle.saturation_laws.specs.Ways.{Way}
 
 -- what comes first, and what comes of it
-then_parts : {A B : Type 0} (f : A → Option B) (o : Option A) (y : B) → option_and_then f o ≡ Some y → (x : A) × (o ≡ Some x) × (f x ≡ Some y)
+pub then_parts : {A B : Type 0} (f : A → Option B) (o : Option A) (y : B) → option_and_then f o ≡ Some y → (x : A) × (o ≡ Some x) × (f x ≡ Some y)
 then_parts f None y e = cc
 then_parts f (Some x) y e = (x, refl, e)
 

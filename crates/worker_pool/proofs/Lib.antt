@@ -1,3 +1,10 @@
 mod AloneLemmas
 mod TurnLemmas
+mod ReplayLemmas
+mod StepLemmas
+mod PassLemmas
+mod WorkerTurnLemmas
+mod DrivingLemmas
+mod ErrandLemmas
+mod GiveLemmas
 mod Examples

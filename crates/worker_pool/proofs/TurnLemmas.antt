@@ -26,7 +26,7 @@ use Rattle.worker_pool.specs.Alone.{HasTurned, HasBase, IsAlone, turns_of}
 use Rattle.worker_pool.proofs.AloneLemmas.{took}
 use Rattle.saturation_laws.specs.Ways.{Way, IsLawful}
 
-set_none : {X : Type 0} (hs : List (Option X)) (i : ℕ) → get_or (set hs i None) i None ≡ None
+pub set_none : {X : Type 0} (hs : List (Option X)) (i : ℕ) → get_or (set hs i None) i None ≡ None
 set_none hs i = elim (cases_lt i (length hs)) [
   | inl within ↦ get_or-set_same hs i None None within
   | inr past ↦ get_or_past (set hs i None) i None (omega (arith, length-set hs i None))
@@ -49,7 +49,7 @@ module _ {S W Map : Type 0} (s : Operations W Map) where
   edges_hands (x ∷ xs) st = edges_hands xs (with_edge s x st)
 
   -- no hand is out in the beginning
-  opening_free : (d : Tables S W Map) (p : Pushdown S W Map) (edges : List Place) (seat : ℕ) → hand_at seat (opening_state s d.side p edges).hands ≡ None
+  pub opening_free : (d : Tables S W Map) (p : Pushdown S W Map) (edges : List Place) (seat : ℕ) → hand_at seat (opening_state s d.side p edges).hands ≡ None
   opening_free d p edges seat =
       ap (hand_at seat) (changes_hands (pops d.side p.rules) (with_edges s edges (bare s)) ∙ edges_hands edges (bare s)) ∙ none_out 64 seat
 
@@ -59,17 +59,17 @@ module _ {S W Map : Type 0} (s : Operations W Map) (d : Tables S W Map) where
   jobs_hands (j ∷ js) st = jobs_hands js (apply s (change_of s d j) st) ∙ change_hands s (change_of s d j) st
 
   -- the hand of a place that is taken
-  abbrev hand_for : Place → CoreState S W Map → Holding S W Map
+  abbrev pub hand_for : Place → CoreState S W Map → Holding S W Map
   hand_for x st = record { place = x; jobs = jobs_at s d (entry_at x st.transitions) st.transitions }
 
-  hand_taken : (seat : ℕ) (x : Place) (st mid : CoreState S W Map) → step s d st (Take seat x) ≡ Some mid → hand_at seat mid.hands ≡ Some (hand_for x st)
+  pub hand_taken : (seat : ℕ) (x : Place) (st mid : CoreState S W Map) → step s d st (Take seat x) ≡ Some mid → hand_at seat mid.hands ≡ Some (hand_for x st)
   hand_taken seat x st mid legal =
       let taken = took s d seat x st mid legal in
       let parts = and_parts (nat_lt seat (length st.hands) && is_none (hand_at seat st.hands)) (is_front s d x st.queue) taken.0 in
       let within = ltb-true seat (length st.hands) (and_parts (nat_lt seat (length st.hands)) (is_none (hand_at seat st.hands)) parts.0).0 in
       ap (λ (m : CoreState S W Map). hand_at seat m.hands) (sym taken.1) ∙ get_or-set_same st.hands seat (Some (hand_for x st)) None within
 
-  settled_hands : (seat : ℕ) (st new : CoreState S W Map) (o : Option (Holding S W Map)) → option_map (λ h. settle s d seat h st) o ≡ Some new → new.hands ≡ set st.hands seat None
+  pub settled_hands : (seat : ℕ) (st new : CoreState S W Map) (o : Option (Holding S W Map)) → option_map (λ h. settle s d seat h st) o ≡ Some new → new.hands ≡ set st.hands seat None
   settled_hands seat st new None e = cc
   settled_hands seat st new (Some h) e =
       ap (λ (m : CoreState S W Map). m.hands) (sym (same_Some (settle s d seat h st) new e)) ∙ ap (λ hs. set hs seat None) (jobs_hands h.jobs st)
@@ -91,7 +91,7 @@ agrees_at : {X : Type 0} (f : ℕ → X) (o : Option ℕ) → IfSome o (λ k. f 
 agrees_at f None = tt
 agrees_at f (Some k) = refl
 
-agrees : {S W Map : Type 0} (p : Pushdown S W Map) (js : List (Job S W Map)) → AllByRecursion (AgreeOn p p) js
+pub agrees : {S W Map : Type 0} (p : Pushdown S W Map) (js : List (Job S W Map)) → AllByRecursion (AgreeOn p p) js
 agrees p [] = tt
 agrees p (j ∷ js) = (record { semiring = refl; rule = agrees_at _ j.rule; frame = agrees_at _ j.frame }, agrees p js)
 

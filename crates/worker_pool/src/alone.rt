@@ -8,13 +8,16 @@ use saturation_laws::Direction;
 use semiring_laws::Semiring;
 use std::alloc::Global;
 use wpds_base::OutOfMemory;
+use wpds_port::Gate;
 
-// One turn of seat 0, which takes a transition, works out its jobs and settles them. False where nothing was left to take.
-fn turn<S: Semiring, D: Direction<S>>(
+// One turn of seat 0, which takes a transition, calls the gate, works out its jobs and settles them. False where nothing
+// was left to take.
+fn turn<S: Semiring, D: Direction<S>, G: Gate>(
     alloc: Global,
     book: &mut Book<'_, S, D>,
     system: &System<S>,
     direction: &D,
+    gate: &G,
 ) -> Result<bool, OutOfMemory>
     requires free { NoHand book.old }
     requires system { system.now ≡ book.old.system }
@@ -25,6 +28,7 @@ fn turn<S: Semiring, D: Direction<S>>(
     let Taken::Hand(hand) = book.take(alloc, 0)? else {
         return Ok(false);
     };
+    gate.between(0);
     let Ok(done) = hand.work(alloc, system, direction) else {
         return Err(OutOfMemory);
     };
@@ -36,9 +40,10 @@ fn turn<S: Semiring, D: Direction<S>>(
 
 /// Saturates a book by seat 0 alone, which settles each hand before it takes the next, until nothing waits. It is refused
 /// only when out of memory, and then the book is gone.
-pub fn saturate_alone<'s, S: Semiring, D: Direction<S>>(
+pub fn saturate_alone<'s, S: Semiring, D: Direction<S>, G: Gate>(
     alloc: Global,
     book: Book<'s, S, D>,
+    gate: &G,
 ) -> Result<Book<'s, S, D>, OutOfMemory>
     requires { book.journal ≡ [] }
     ensures closed { IfOk result IsClosed }
@@ -48,6 +53,6 @@ pub fn saturate_alone<'s, S: Semiring, D: Direction<S>>(
 {
     let mut book = book;
     let (system, direction) = (book.system(), book.direction());
-    while turn(alloc, &mut book, system, &direction)? {}
+    while turn(alloc, &mut book, system, &direction, gate)? {}
     Ok(book)
 }

@@ -2,9 +2,15 @@ use Rattle.std.proofs.Common.{sym, ap, ◌∙◌, subst}
 use Rattle.saturation_laws.specs.declared.event.Event.TheVariants.{Take, Settle}
 use Rattle.weighted_automata.specs.declared.place.Place.{Place}
 use Rattle.saturation_laws.specs.Books.{Makes}
-use Rattle.saturation_core.specs.Calls.{AnswersTake}
+use Rattle.saturation_laws.specs.Ways.{HaveFitInputs}
+use Rattle.saturation_core.specs.Calls.{AnswersTake, HandWorks}
 use Rattle.worker_pool.proofs.TurnLemmas.{can_settle, turned_free}
 use Rattle.worker_pool.proofs.alone.turn.Goals as goal
+
+pub work-requires-clause-inputs : goal.work-requires-clause-inputs
+work-requires-clause-inputs g c =
+    let works = subst (HandWorks g.S.Semiring.operations g.D.Direction.way c.args.book.now) c.in-Hand.is c.in_ok-hand.ensures.works in
+    subst (λ p. HaveFitInputs g.S.Semiring.operations p c.in-Hand.hand.jobs) (sym c.requires.system) works.inputs
 
 pub settle-requires : goal.settle-requires
 settle-requires g c =

@@ -1,0 +1,5 @@
+mod Lists
+mod Moves
+mod Turns
+mod ClientLemmas
+pub mod CallerLemmas

@@ -1,0 +1,200 @@
+-- Passes that are handed to threads, and what they are when they come back.
+use Rattle.std.proofs.Common.{◌≡◌, ◌≢◌, ℕ, ◌+◌, ◌-◌, ◌<◌, true, inl, inr, List, [], ◌∷◌, ◌++◌, length, refl, sym, ap, ◌∙◌, subst, arith}
+use Rattle.std.specs.Prelude.{Option, Some, None, IfSome, All, slice_index_or, Result, Ok, Err, IfOk, Vec}
+use Rattle.std.specs.Vec.{with_items}
+use Rattle.std.proofs.lemmas.List.{with_items_is}
+use Rattle.std.specs.Option.{IsSomeAnd}
+use Rattle.std.proofs.lemmas.List.{append-nil, get_or_push}
+use Rattle.std.proofs.lemmas.Option.{same_Some}
+use Rattle.pushdown_rules.specs.Pushdown.{Pushdown}
+use Rattle.saturation_laws.specs.declared.event.Event.{Event}
+use Rattle.saturation_laws.specs.Books.{BookValue}
+use Rattle.seat_lock.specs.declared.view.View.{View}
+use Rattle.seat_lock.specs.declared.view.Journaled.{Ghosts}
+use Rattle.seat_lock.specs.declared.lock.Pass.{Pass}
+use Rattle.seat_lock.specs.declared.lock.SeatLock.{SeatLock}
+use Rattle.seat_lock.specs.Queue.{Each, Claim, Among, of_pass, FitsView}
+use Rattle.seat_lock.specs.Passes.{own_number, own_entries}
+use Rattle.std.proofs.lemmas.Bool.{cases_eq}
+use Rattle.weighted_automata.specs.declared.place.Place.{Place}
+use Rattle.saturation_laws.specs.declared.event.Event.TheVariants.{Take, Settle}
+use Rattle.seat_lock.proofs.CallerLemmas.{own-after, each-map, each-both, among_or, among-each, filter-none}
+use Rattle.worker_pool.specs.declared.shared.Origin.{Origin}
+use Rattle.worker_pool.specs.declared.driven.DriveEnd.{DriveEnd}
+use Rattle.worker_pool.specs.declared.driven.DriveEnd.TheVariants.{Closed, Memory}
+use Rattle.worker_pool.specs.Alone.{HasBase, IsAlone, turns_of}
+use Rattle.saturation_laws.specs.States.{seat_of}
+use Rattle.worker_pool.specs.Events.{turns_by, given_by, free_after}
+use Rattle.worker_pool.specs.Origins.{origin_of}
+use Rattle.worker_pool.specs.Driving.{HasDriven}
+use Rattle.worker_pool.specs.Errands.{IsDrivenBy, IsWorkedBySeats, HasRun, IsFresh, IsDone, IsFirst}
+
+-- the one claim of a pass that nothing was joined into
+pub one_claim : (cs : List (Claim Event)) (n workers : ℕ) → length cs ≡ 1 → own_number cs ≡ n → n < workers → IsDrivenBy n (own_entries cs) → Each (λ c. (c.0 < workers) × IsDrivenBy c.0 c.1) cs
+one_claim [] n workers one is within driven = absurd (omega arith)
+one_claim (c ∷ []) n workers one is within driven = ((subst (λ k. k < workers) (sym is) within, subst (λ k. IsDrivenBy k c.1) (sym is) driven), tt)
+one_claim (c ∷ d ∷ cs) n workers one is within driven = absurd (omega arith)
+
+pub count_first : (joined rest all workers : ℕ) → joined ≡ 1 → rest + 1 ≡ all → all ≡ workers → joined + rest ≡ workers
+count_first joined rest all workers one more are = omega arith
+
+pub count_more : (new joined one rest all workers : ℕ) → new ≡ joined + one → one ≡ 1 → rest + 1 ≡ all → joined + all ≡ workers → new + rest ≡ workers
+count_more new joined one rest all workers is single more are = omega arith
+
+-- what a worker that begins with nothing has done
+driven_by : {B : Type 0} (end : DriveEnd) (old new : View B Event) → own_entries old.claims ≡ [] → HasDriven end old new → IsDrivenBy (own_number old.claims) (own_entries new.claims)
+driven_by Closed old new none h = (h.0, None, h.1 ∙ ap (λ es. es ++ turns_by (own_number old.claims) h.0) none ∙ sym (append-nil (turns_by (own_number old.claims) h.0)))
+driven_by Memory old new none h = (h.0, h.1, h.2 ∙ ap (λ es. es ++ (turns_by (own_number old.claims) h.0 ++ given_by (own_number old.claims) h.1)) none)
+
+module _ {T B : Type 0} {J : Ghosts T B Event} where
+  pub done : (lock : SeatLock T B Event) (workers : ℕ) (p q : Pass T B Event J) → IsFresh lock workers p → HasRun p q → IsDone lock workers q
+  done lock workers p q fresh run = record {
+    of = run.0.lock ∙ fresh.of;
+    seat = subst (λ n. n < workers) (sym run.0.number) fresh.seat;
+    joined = run.0.joined ∙ fresh.joined;
+    own = subst (λ n. IsDrivenBy n (own_entries q.seat.me.0.claims)) (p.is.names ∙ sym run.0.number) (driven_by run.2.0 p.seat.me.0 q.seat.me.0 fresh.own run.2.1);
+  }
+
+  some_done : (lock : SeatLock T B Event) (workers : ℕ) (o n : Option (Pass T B Event J)) → IsSomeAnd o (IsFresh lock workers) → IfSome o (λ p. IsSomeAnd n (HasRun p)) → IsSomeAnd n (IsDone lock workers)
+  some_done lock workers None n fresh run = absurd fresh
+  some_done lock workers (Some p) None fresh run = absurd run
+  some_done lock workers (Some p) (Some q) fresh run = done lock workers p q fresh run
+
+  some_first : (base : Option B) (workers : ℕ) (o n : Option (Pass T B Event J)) → IsSomeAnd o (IsFirst base workers) → IfSome o (λ p. IsSomeAnd n (HasRun p)) → IsSomeAnd n (IsFirst base workers)
+  some_first base workers None n first run = absurd first
+  some_first base workers (Some p) None first run = absurd run
+  some_first base workers (Some p) (Some q) first run = record { number = run.0.number ∙ first.number; made = run.0.made ∙ first.made; based = run.1.base ∙ first.based }
+
+  fresh_ended : (lock : SeatLock T B Event) (workers : ℕ) (o : Option (Pass T B Event J)) → IsSomeAnd o (IsFresh lock workers) → IfSome o (λ p. free_after true (own_entries p.seat.me.0.claims) ≡ true)
+  fresh_ended lock workers None fresh = tt
+  fresh_ended lock workers (Some p) fresh = ap (free_after true) fresh.own
+
+  module _ {X : Type 0} (f : X → Option (Pass T B Event J)) (lock : SeatLock T B Event) (workers : ℕ) (xs ys : List X) where
+    pub all_ended : All (λ e. IsSomeAnd (f e) (IsFresh lock workers)) xs → All (λ e. IfSome (f e) (λ p. free_after true (own_entries p.seat.me.0.claims) ≡ true)) xs
+    all_ended fresh k d within = fresh_ended lock workers (f (slice_index_or xs k d)) (fresh k d within)
+
+    pub all_done : length ys ≡ length xs → All (λ e. IsSomeAnd (f e) (IsFresh lock workers)) xs
+        → ((k : ℕ) (d : X) → k < length xs → IfSome (f (slice_index_or xs k d)) (λ p. IsSomeAnd (f (slice_index_or ys k d)) (HasRun p))) → All (λ e. IsSomeAnd (f e) (IsDone lock workers)) ys
+    all_done len fresh ran k d within =
+        let there : k < length xs = subst (λ n. k < n) len within in
+        some_done lock workers (f (slice_index_or xs k d)) (f (slice_index_or ys k d)) (fresh k d there) (ran k d there)
+
+    pub first_done : (base : Option B) (k : ℕ) → k < length xs → ((d : X) → IsSomeAnd (f (slice_index_or xs k d)) (IsFirst base workers))
+        → ((k : ℕ) (d : X) → k < length xs → IfSome (f (slice_index_or xs k d)) (λ p. IsSomeAnd (f (slice_index_or ys k d)) (HasRun p))) → (d : X) → IsSomeAnd (f (slice_index_or ys k d)) (IsFirst base workers)
+    first_done base k within first ran d = some_first base workers (f (slice_index_or xs k d)) (f (slice_index_or ys k d)) (first d) (ran k d within)
+
+-- what a worker pool's passes are when they come back
+module _ {T B X Z : Type 0} {J : Ghosts T B Event} (f : X → Option (Pass T B Event J)) (lock : SeatLock T B Event) (workers : ℕ) (vec : Vec X Z) (xs ys : List X) (base : Option B)
+    (value : xs ≡ vec.items) (kept : length ys ≡ length xs) (within : length xs ≡ vec.len) (len : vec.len ≡ workers) (some : 0 < workers)
+    (fresh : All (λ e. IsSomeAnd (f e) (IsFresh lock workers)) vec.items) (first : (d : X) → IsSomeAnd (f (slice_index_or vec.items (workers - 1) d)) (IsFirst base workers))
+    (ran : (k : ℕ) (d : X) → k < length xs → IfSome (f (slice_index_or xs k d)) (λ p. IsSomeAnd (f (slice_index_or ys k d)) (HasRun p))) where
+  pub after_run : (All (λ e. IsSomeAnd (f e) (IsDone lock workers)) (with_items vec ys).items)
+      × ((d : X) → IsSomeAnd (f (slice_index_or (with_items vec ys).items (workers - 1) d)) (IsFirst base workers))
+      × (workers - 1 < length (with_items vec ys).items)
+  after_run =
+      let is : (with_items vec ys).items ≡ ys = with_items_is vec ys (kept ∙ within) in
+      let last : workers - 1 < length xs = omega (arith, within, len, some) in
+      let first0 : (d : X) → IsSomeAnd (f (slice_index_or xs (workers - 1) d)) (IsFirst base workers) = subst (λ zs. (d : X) → IsSomeAnd (f (slice_index_or zs (workers - 1) d)) (IsFirst base workers)) (sym value) first in (
+        subst (All (λ e. IsSomeAnd (f e) (IsDone lock workers))) (sym is) (all_done f lock workers xs ys kept (subst (All (λ e. IsSomeAnd (f e) (IsFresh lock workers))) (sym value) fresh) ran),
+        subst (λ zs. (d : X) → IsSomeAnd (f (slice_index_or zs (workers - 1) d)) (IsFirst base workers)) (sym is) (first_done f lock workers xs ys base (workers - 1) last first0 ran),
+        subst (λ zs. workers - 1 < length zs) (sym is) (subst (λ n. workers - 1 < n) (sym kept) last),
+      )
+
+-- what is known of the first pass
+known : {T B : Type 0} {J : Ghosts T B Event} (base : Option B) (workers made : ℕ) (b : Option B) (o : Option (Pass T B Event J)) → IsSomeAnd o (IsFirst base workers)
+    → IsSomeAnd o (λ p. (made ≡ p.made) × (b ≡ p.seat.me.0.base)) → (made ≡ workers) × (b ≡ base)
+known base workers made b None first same = absurd first
+known base workers made b (Some p) first same = (same.0 ∙ first.made, same.1 ∙ first.based)
+
+pub first_known : {T B X : Type 0} {J : Ghosts T B Event} (f : X → Option (Pass T B Event J)) (xs : List X) (k : ℕ) → k < length xs → (base : Option B) (workers made : ℕ) (b : Option B)
+    → ((d : X) → IsSomeAnd (f (slice_index_or xs k d)) (IsFirst base workers)) → ((d : X) → IsSomeAnd (f (slice_index_or xs k d)) (λ p. (made ≡ p.made) × (b ≡ p.seat.me.0.base)))
+    → (made ≡ workers) × (b ≡ base)
+first_known f [] k within base workers made b first same = absurd (omega arith)
+first_known f (x ∷ xs) k within base workers made b first same = known base workers made b (f (slice_index_or (x ∷ xs) k x)) (first x) (same x)
+
+zero_of : {T B : Type 0} {J : Ghosts T B Event} (base : Option B) (workers : ℕ) (o : Option (Pass T B Event J)) → IsSomeAnd o (IsFirst base workers) → IsSomeAnd o (λ p. p.number ≡ 0)
+zero_of base workers None first = absurd first
+zero_of base workers (Some p) first = first.number
+
+pub first_zero : {T B X : Type 0} {J : Ghosts T B Event} (f : X → Option (Pass T B Event J)) (xs : List X) (k : ℕ) (base : Option B) (workers : ℕ)
+    → ((d : X) → IsSomeAnd (f (slice_index_or xs k d)) (IsFirst base workers)) → (d : X) → IsSomeAnd (f (slice_index_or xs k d)) (λ p. p.number ≡ 0)
+first_zero f xs k base workers first d = zero_of base workers (f (slice_index_or xs k d)) (first d)
+
+-- what the claims of all passes say of the journal
+module _ (workers : ℕ) (log : List Event) (claims : List (Claim Event)) (fits : Each (λ c. of_pass seat_of c.0 log ≡ c.1) claims) (among : Each (λ e. Among (seat_of e) claims) log)
+    (done : Each (λ c. (c.0 < workers) × IsDrivenBy c.0 c.1) claims) where
+  seat_below : (n : ℕ) → Among n claims → n < workers
+  seat_below n a = let c = among-each (λ k. (k.0 < workers) × IsDrivenBy k.0 k.1) n claims done a in subst (λ m. m < workers) c.1 c.2.0
+
+  seat_driven : (seat : ℕ) → IsDrivenBy seat (of_pass seat_of seat log)
+  seat_driven seat = elim (among_or seat claims) [
+    | inl a ↦
+        let both = each-both (λ k. of_pass seat_of k.0 log ≡ k.1) (λ k. (k.0 < workers) × IsDrivenBy k.0 k.1) (λ k. IsDrivenBy k.0 (of_pass seat_of k.0 log)) (λ k is d. subst (IsDrivenBy k.0) (sym is) d.1) claims fits done in
+        let c = among-each (λ k. IsDrivenBy k.0 (of_pass seat_of k.0 log)) seat claims both a in
+        subst (λ n. IsDrivenBy n (of_pass seat_of n log)) c.1 c.2
+    | inr none ↦
+        let others = each-map (λ e. Among (seat_of e) claims) (λ e. seat_of e ≢ seat)
+        (λ e a is. let c = among-each (λ k. k.0 ≢ seat) (seat_of e) claims none a in c.2 (c.1 ∙ is)) log among in
+        ([], None, filter-none seat_of seat log others)
+  ]
+
+  pub worked_by_seats : IsWorkedBySeats workers log
+  worked_by_seats = record {
+    seats = each-map (λ e. Among (seat_of e) claims) (λ e. seat_of e < workers) (λ e a. seat_below (seat_of e) a) log among;
+    each = seat_driven;
+  }
+
+module _ {S W Map D : Type 0} (a b : BookValue S W Map D) where
+  -- books of one origin
+  pub base_of_origin : (v : Option (Origin S D W Map)) → v ≡ Some (origin_of b) → v ≡ Some (origin_of a) → HasBase a b
+  base_of_origin v is was =
+      let same : origin_of b ≡ origin_of a = same_Some (origin_of b) (origin_of a) (sym is ∙ was) in
+      record {
+        system = ap (λ (o : Origin S D W Map). o.system) same;
+        direction = ap (λ (o : Origin S D W Map). o.direction) same;
+        opening = ap (λ (o : Origin S D W Map). o.opening) same;
+      }
+
+-- one worker is seat 0
+turns_are : (xs : List Place) → turns_of xs ≡ turns_by 0 xs
+turns_are [] = refl
+turns_are (x ∷ xs) = ap (λ es. Take 0 x ∷ Settle 0 ∷ es) (turns_are xs)
+
+all_zero : (xs : List Place) → Each (λ e. seat_of e ≡ 0) (turns_of xs)
+all_zero [] = tt
+all_zero (x ∷ xs) = (refl, (refl, all_zero xs))
+
+pub alone_seats : (log : List Event) → IsAlone log → IsWorkedBySeats 1 log
+alone_seats log alone =
+    let xs = alone.0 in
+    let zero = subst (Each (λ e. seat_of e ≡ 0)) (sym alone.1) (all_zero xs) in
+    record {
+      seats = each-map (λ e. seat_of e ≡ 0) (λ e. seat_of e < 1) (λ e is. omega (arith, is)) log zero;
+      each = λ seat. elim (cases_eq seat 0) [
+        | inl same ↦ subst (λ n. IsDrivenBy n (of_pass seat_of n log)) (sym same)
+            (xs, None, own-after seat_of 0 [] log zero ∙ alone.1 ∙ turns_are xs ∙ sym (append-nil (turns_by 0 xs)))
+        | inr other ↦ ([], None, filter-none seat_of seat log (each-map (λ e. seat_of e ≡ 0) (λ e. seat_of e ≢ seat) (λ e is at. other (sym at ∙ is)) log zero))
+      ];
+    }
+
+pub ok_alone : {X Y : Type 0} (r : Result X Y) (workers : ℕ) (journal : X → List Event) → workers ≡ 1 → IfOk r (λ b. IsAlone (journal b)) → IfOk r (λ b. IsWorkedBySeats workers (journal b))
+ok_alone (Ok b) workers journal one alone = subst (λ n. IsWorkedBySeats n (journal b)) (sym one) (alone_seats (journal b) alone)
+ok_alone (Err e) workers journal one alone = tt
+
+pub too_few : (joined made workers : ℕ) → joined ≡ workers → made ≡ workers → joined < made → ⊥
+too_few joined made workers is are few = absurd (omega arith)
+
+-- the pass that stands last is the first one
+pub last_first : {T B X : Type 0} {J : Ghosts T B Event} (f : X → Option (Pass T B Event J)) (base : Option B) (workers : ℕ) (ys rest : List X) (last : X) (p : Pass T B Event J)
+    → ys ≡ rest ++ last ∷ [] → length rest + 1 ≡ length ys → length ys ≡ workers → ((d : X) → IsSomeAnd (f (slice_index_or ys (workers - 1) d)) (IsFirst base workers)) → f last ≡ Some p → IsFirst base workers p
+last_first f base workers ys rest last p split count len first is =
+    let at : slice_index_or ys (workers - 1) last ≡ last = ap (λ zs. slice_index_or zs (workers - 1) last) split ∙ get_or_push rest last last (workers - 1) (omega (arith, count, len)) in
+    let here = subst (λ e. IsSomeAnd (f e) (IsFirst base workers)) at (first last) in
+    subst (λ o. IsSomeAnd o (IsFirst base workers)) is here
+
+pub below : (workers n : ℕ) → n ≡ workers → 0 < workers → workers - 1 < n
+below workers n len some = omega arith
+
+pub first_in : {T B X : Type 0} {J : Ghosts T B Event} (f : X → Option (Pass T B Event J)) (xs ys : List X) (base : Option B) (workers : ℕ) → xs ≡ ys
+    → ((d : X) → IsSomeAnd (f (slice_index_or ys (workers - 1) d)) (IsFirst base workers)) → (d : X) → IsSomeAnd (f (slice_index_or xs (workers - 1) d)) (IsFirst base workers)
+first_in f xs ys base workers same first d = subst (λ zs. IsSomeAnd (f (slice_index_or zs (workers - 1) d)) (IsFirst base workers)) (sym same) (first d)

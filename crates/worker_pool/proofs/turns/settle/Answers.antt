@@ -1,0 +1,46 @@
+use Rattle.std.proofs.Common.{◌≡◌, ℕ, sym, ap, ◌∙◌, subst}
+use Rattle.std.specs.Prelude.{MatchBool}
+use Rattle.saturation_laws.specs.declared.event.Event.TheVariants.{Settle, GiveBack}
+use Rattle.saturation_laws.specs.Books.{Makes}
+use Rattle.worker_pool.specs.Steps.{HasOut, IsOverBook}
+use Rattle.worker_pool.proofs.PassLemmas.{finds, over_book}
+use Rattle.worker_pool.proofs.WorkerTurnLemmas.{settle_grown, has_settled, settle_keeps}
+use Rattle.worker_pool.proofs.turns.settle.Goals as goal
+
+pub settle-settled-requires-clause-out : goal.settle-settled-requires-clause-out
+settle-settled-requires-clause-out g c =
+    let out = finds g.S.Semiring.operations g.D.Direction.way c.args.pass.seat.me.0 c.turn-held.result.value.book c.args.pass.is.some_claim c.turn-held.ensures.fits c.args.done.jobs c.requires.hand in
+    subst (λ z. HasOut g.S.Semiring.operations g.D.Direction.way z.book c.args.done.seat c.args.done.jobs) (sym c.value.ensures.value)
+    (subst (λ (k : ℕ). HasOut g.S.Semiring.operations g.D.Direction.way c.turn-held.result.value.book k c.args.done.jobs) (c.args.pass.is.names ∙ sym c.requires.seat) out)
+
+pub settle-settled-requires-clause-over : goal.settle-settled-requires-clause-over
+settle-settled-requires-clause-over g c =
+    let over = over_book c.args.pass.seat.me.0 c.turn-held.result.value.book c.args.pass.is.some_claim c.turn-held.ensures.fits c.args.done.system c.args.done.direction c.requires.over in
+    subst (λ z. IsOverBook z.book c.args.done.system c.args.done.direction) (sym c.value.ensures.value) over
+
+pub give_to-requires-clause-grown : goal.give_to-requires-clause-grown
+give_to-requires-clause-grown g c =
+    settle_grown g.S.Semiring.operations g.D.Direction.way c.turn-held.result.value.book c.settle-settled.new.book c.args.pass.seat.me.0 c.turn-held.result.seat.me.0 c.turn-held.result.ticket c.args.pass.is.some_claim
+    c.turn-held.ensures.fits c.turn-held.ensures.turn c.settle-settled.result
+    (subst (λ (k : ℕ). MatchBool c.settle-settled.result (Makes g.S.Semiring.operations g.D.Direction.way c.turn-held.result.value.book (Settle k) c.settle-settled.new.book) (Makes g.S.Semiring.operations g.D.Direction.way c.turn-held.result.value.book (GiveBack k) c.settle-settled.new.book))
+    (c.requires.seat ∙ sym c.args.pass.is.names)
+    (subst (λ z. MatchBool c.settle-settled.result (Makes g.S.Semiring.operations g.D.Direction.way z.book (Settle c.args.done.seat) c.settle-settled.new.book) (Makes g.S.Semiring.operations g.D.Direction.way z.book (GiveBack c.args.done.seat) c.settle-settled.new.book))
+    c.value.ensures.value c.settle-settled.ensures))
+
+pub returns-clause-keeps : goal.returns-clause-keeps
+returns-clause-keeps g c =
+    settle_keeps g.S.Semiring.operations g.D.Direction.way c.turn-held.result.value.book c.settle-settled.new.book c.args.pass.seat.me.0 c.turn-held.result.seat.me.0 c.turn-held.result.ticket c.args.pass.is.some_claim
+    c.turn-held.ensures.fits c.turn-held.ensures.turn c.give_to.result.seat.me.0 c.give_to.ensures.gave c.settle-settled.result
+    (subst (λ (k : ℕ). MatchBool c.settle-settled.result (Makes g.S.Semiring.operations g.D.Direction.way c.turn-held.result.value.book (Settle k) c.settle-settled.new.book) (Makes g.S.Semiring.operations g.D.Direction.way c.turn-held.result.value.book (GiveBack k) c.settle-settled.new.book))
+    (c.requires.seat ∙ sym c.args.pass.is.names)
+    (subst (λ z. MatchBool c.settle-settled.result (Makes g.S.Semiring.operations g.D.Direction.way z.book (Settle c.args.done.seat) c.settle-settled.new.book) (Makes g.S.Semiring.operations g.D.Direction.way z.book (GiveBack c.args.done.seat) c.settle-settled.new.book))
+    c.value.ensures.value c.settle-settled.ensures))
+
+pub returns-clause-settled : goal.returns-clause-settled
+returns-clause-settled g c =
+    has_settled g.S.Semiring.operations g.D.Direction.way c.turn-held.result.value.book c.settle-settled.new.book c.args.pass.seat.me.0 c.turn-held.result.seat.me.0 c.turn-held.result.ticket c.args.pass.is.some_claim
+    c.turn-held.ensures.fits c.turn-held.ensures.turn c.give_to.result.seat.me.0 c.give_to.ensures.gave c.settle-settled.result
+    (subst (λ (k : ℕ). MatchBool c.settle-settled.result (Makes g.S.Semiring.operations g.D.Direction.way c.turn-held.result.value.book (Settle k) c.settle-settled.new.book) (Makes g.S.Semiring.operations g.D.Direction.way c.turn-held.result.value.book (GiveBack k) c.settle-settled.new.book))
+    (c.requires.seat ∙ sym c.args.pass.is.names)
+    (subst (λ z. MatchBool c.settle-settled.result (Makes g.S.Semiring.operations g.D.Direction.way z.book (Settle c.args.done.seat) c.settle-settled.new.book) (Makes g.S.Semiring.operations g.D.Direction.way z.book (GiveBack c.args.done.seat) c.settle-settled.new.book))
+    c.value.ensures.value c.settle-settled.ensures))
