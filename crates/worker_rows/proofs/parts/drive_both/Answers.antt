@@ -1,5 +1,5 @@
-use Rattle.cross_crate_tests.proofs.PartLemmas.{all_of}
-use Rattle.cross_crate_tests.proofs.parts.drive_both.Goals as goal
+use Rattle.worker_rows.proofs.PartLemmas.{all_of}
+use Rattle.worker_rows.proofs.parts.drive_both.Goals as goal
 
 pub join_both-requires : goal.join_both-requires
 join_both-requires g c =

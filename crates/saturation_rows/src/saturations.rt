@@ -1,54 +1,17 @@
-use crate::patterns::{A, C, Items, pattern_over};
 use crate::seats::{close_alone, close_in_turn};
-use crate::systems::{calls, grows, steps};
 use cost_weights::Cost;
 use prestar::pre_opening;
 use pushdown_rules::System;
+use row_systems::{A, C, Items, Row, calls, entry_at, grows, has_rows, pattern_over, steps};
 use saturation_core::Book;
 use saturation_laws::Direction;
 use semiring_laws::{Reach, Semiring};
 use std::alloc::Global;
 use std::test::Fail;
-use weighted_automata::{Entry, Label, Place};
-
-/// A transition from a state over a symbol to a state, and its weight.
-pub(crate) type Row = (u32, u32, u32, u64);
+use weighted_automata::{Label, Place};
 
 // A target by its control and its items, and the transitions of its saturation.
 type Target<'a> = (u32, Items<'a>, &'a [Row]);
-
-/// The transition at a place, if the book has one.
-pub(crate) fn entry_at<'b, S: Semiring, D: Direction<S>>(
-    book: &'b Book<'_, S, D>,
-    place: Place,
-) -> Option<&'b Entry<S>> {
-    let transitions = book.transitions();
-    match transitions.find(place) {
-        Some(k) if k < transitions.len() => Some(transitions.entry(k)),
-        _ => None,
-    }
-}
-
-/// Whether the book has these transitions with these weights, and no others.
-pub(crate) fn has_rows<D: Direction<Cost>>(book: &Book<'_, Cost, D>, rows: &[Row]) -> bool {
-    if book.transitions().len() != rows.len() as u64 {
-        return false;
-    }
-    for (from, symbol, to, cost) in rows {
-        let place = Place {
-            from: *from,
-            label: Label::Symbol(*symbol),
-            to: *to,
-        };
-        let Some(entry) = entry_at(book, place) else {
-            return false;
-        };
-        if entry.weight != Some(*cost) {
-            return false;
-        }
-    }
-    true
-}
 
 // Whether the book has these transitions, each reached, and no others.
 fn has_places<D: Direction<Reach>>(book: &Book<'_, Reach, D>, places: &[Place]) -> bool {
@@ -97,8 +60,8 @@ fn a_call_returns(rt: HostRuntime) -> Result<(), Fail> {
     Ok(())
 }
 
-/// What is found of growth for `p: a a a`.
-pub(crate) const THREE_GROWN: &[Row] = &[
+// What is found of growth for `p: a a a`.
+const THREE_GROWN: &[Row] = &[
     (0, 0, 1, 0),
     (1, 0, 2, 0),
     (2, 0, 3, 0),

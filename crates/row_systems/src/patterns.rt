@@ -9,22 +9,22 @@ use std::alloc::Global;
 use std::test::Fail;
 
 /// The sets and stars of a pattern's items.
-pub(crate) type Items<'a> = &'a [(&'a [u32], bool)];
+pub type Items<'a> = &'a [(&'a [u32], bool)];
 
 /// The first symbol.
-pub(crate) const A: (&[u32], bool) = (&[0], false);
+pub const A: (&[u32], bool) = (&[0], false);
 
 /// The second symbol.
-pub(crate) const B: (&[u32], bool) = (&[1], false);
+pub const B: (&[u32], bool) = (&[1], false);
 
 /// The third symbol.
-pub(crate) const C: (&[u32], bool) = (&[2], false);
+pub const C: (&[u32], bool) = (&[2], false);
 
 /// The fourth symbol.
-pub(crate) const D: (&[u32], bool) = (&[3], false);
+pub const D: (&[u32], bool) = (&[3], false);
 
 /// Any number of the first symbol.
-pub(crate) const SOME_A: (&[u32], bool) = (&[0], true);
+pub const SOME_A: (&[u32], bool) = (&[0], true);
 
 // A pattern of those of the items that are sets.
 fn pattern(
@@ -43,7 +43,7 @@ fn pattern(
 }
 
 /// A pattern of these items over a system, if that has the control.
-pub(crate) fn pattern_over<S: Semiring>(
+pub fn pattern_over<S: Semiring>(
     alloc: Global,
     system: &System<S>,
     control: u32,

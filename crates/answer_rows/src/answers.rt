@@ -1,9 +1,8 @@
-use crate::patterns::{A, B, C, Items, SOME_A, pattern_over};
-use crate::systems::{calls, grows, one_step, ruleless, steps};
 use cost_weights::Cost;
 use path_sum::Answer;
 use pushdown_rules::System;
 use query_answers::answer;
+use row_systems::{A, B, C, Items, SOME_A, calls, grows, one_step, pattern_over, ruleless, steps};
 use semiring_laws::{Reach, Semiring};
 use std::test::Fail;
 use witness_graph::{Listing, Node, Side};
@@ -129,10 +128,7 @@ fn costs_where_little_waits(rt: HostRuntime) -> Result<(), Fail> {
         wrong_row(&rt, &ruleless(alloc, cost), &without_rules)?,
         None
     );
-    assert_eq!(rt;
-        wrong_row(&rt, &one_step(alloc, cost)?, &by_a_step)?,
-        None
-    );
+    assert_eq!(rt; wrong_row(&rt, &one_step(alloc, cost)?, &by_a_step)?, None);
     Ok(())
 }
 

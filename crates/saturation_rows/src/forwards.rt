@@ -1,11 +1,11 @@
-use crate::patterns::{A, B, D, Items, pattern_over};
 use crate::return_maps::{Guarded, guarded_calls};
-use crate::saturations::entry_at;
 use crate::seats::{close_alone, close_in_turn};
-use crate::systems::{calls_again, calls_itself, pops, two_calls};
 use cost_weights::Cost;
 use poststar::{Post, post_opening};
 use pushdown_rules::System;
+use row_systems::{
+    A, B, D, Items, calls_again, calls_itself, entry_at, pattern_over, pops, two_calls,
+};
 use saturation_core::Book;
 use saturation_laws::Direction;
 use semiring_laws::Semiring;

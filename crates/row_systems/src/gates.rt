@@ -6,7 +6,7 @@ const MOST_LOOKS: u64 = 1_000_000_000;
 
 /// Counts the calls of the seats 0 and 1, holds its first caller until the other of the two has called it, and notes whether
 /// that happened.
-pub(crate) struct MeetingGate {
+pub struct MeetingGate {
     zero: AtomicU64,
     one: AtomicU64,
     callers: AtomicU64,
@@ -14,7 +14,7 @@ pub(crate) struct MeetingGate {
 }
 
 impl MeetingGate {
-    pub(crate) fn new() -> MeetingGate {
+    pub fn new() -> MeetingGate {
         MeetingGate {
             zero: AtomicU64::new(0),
             one: AtomicU64::new(0),
@@ -24,12 +24,12 @@ impl MeetingGate {
     }
 
     /// Whether the first caller was still held when the other seat called.
-    pub(crate) fn have_met(&self) -> bool {
+    pub fn have_met(&self) -> bool {
         self.meetings.load(Ordering::SeqCst) > 0
     }
 
     /// How often this seat has called.
-    pub(crate) fn calls_of(&self, seat: u32) -> u64 {
+    pub fn calls_of(&self, seat: u32) -> u64 {
         let calls = if seat == 0 { &self.zero } else { &self.one };
         calls.load(Ordering::SeqCst)
     }
@@ -56,18 +56,18 @@ impl Gate for MeetingGate {
 }
 
 /// Counts its calls.
-pub(crate) struct CountingGate {
+pub struct CountingGate {
     calls: AtomicU64,
 }
 
 impl CountingGate {
-    pub(crate) fn new() -> CountingGate {
+    pub fn new() -> CountingGate {
         CountingGate {
             calls: AtomicU64::new(0),
         }
     }
 
-    pub(crate) fn calls(&self) -> u64 {
+    pub fn calls(&self) -> u64 {
         self.calls.load(Ordering::SeqCst)
     }
 }

@@ -6,7 +6,7 @@ use Rattle.seat_lock.specs.declared.view.Journaled.{Ghosts}
 use Rattle.seat_lock.specs.declared.lock.Pass.{Pass}
 use Rattle.seat_lock.specs.declared.lock.SeatLock.{SeatLock}
 use Rattle.seat_lock.specs.Words.{IsOf}
-use Rattle.cross_crate_tests.specs.Parts.{IsSamePass}
+use Rattle.worker_rows.specs.Parts.{IsSamePass}
 
 module _ {T B E : Type 0} {J : Ghosts T B E} (lock : SeatLock T B E) where
   still_of : (o n : Option (Pass T B E J)) → IsSomeAnd o (λ p. IsOf p lock) → IfSome o (λ p. IsSomeAnd n (IsSamePass p)) → IsSomeAnd n (λ p. IsOf p lock)

@@ -2,11 +2,11 @@ ghost use Rattle.std.specs.Prelude.{◌≡◌, ℕ, ◌<◌, true, All, IfOk, If
 ghost use Rattle.std.specs.Option.{ForSome, IsSomeAnd};
 ghost use Rattle.seat_lock.specs.Words.{mine, IsOf};
 ghost use Rattle.worker_pool.specs.Events.{is_ended};
-ghost use Rattle.cross_crate_tests.specs.Parts.{IsSamePass};
+ghost use Rattle.worker_rows.specs.Parts.{IsSamePass};
 
-use crate::gates::MeetingGate;
 use cost_weights::Cost;
 use prestar::Pre;
+use row_systems::MeetingGate;
 use seat_lock::{Journaled, Pass, SeatLock};
 use std::alloc::Global;
 use std::sync::Wait;

@@ -3,11 +3,10 @@ ghost use Rattle.cost_weights.specs.Cost.{cost_operations};
 ghost use Rattle.saturation_laws.specs.Jobs.{row_of, InputsFit};
 ghost use Rattle.prestar_laws.specs.Rows.{pre_rows};
 
-use crate::patterns::{A, pattern_over};
-use crate::systems::grows;
 use cost_weights::Cost;
 use prestar::{Pre, pre_opening};
 use pushdown_rules::System;
+use row_systems::{A, grows, pattern_over};
 use saturation_core::{Book, Taken};
 use saturation_laws::{Direction, Input, Job, JobKind};
 use semiring_laws::Semiring;

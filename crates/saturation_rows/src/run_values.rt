@@ -1,8 +1,8 @@
 ghost use Rattle.std.specs.Prelude.{◌≡◌, ◌<◌, true, All, length};
 
-use crate::systems::calls;
 use cost_weights::Cost;
 use pushdown_rules::{Config, System};
+use row_systems::calls;
 use semiring_laws::Semiring;
 use std::alloc::Global;
 use std::test::Fail;

@@ -1,17 +1,24 @@
-use crate::gates::{CountingGate, MeetingGate};
 use crate::parts::{drive_both, let_go, two_parts};
-use crate::patterns::{A, C, SOME_A, pattern_over};
-use crate::saturations::{THREE_GROWN, has_rows};
 use crate::short::Short;
-use crate::systems::grows;
 use cost_weights::Cost;
 use prestar::pre_opening;
 use pushdown_rules::{RuleFault, System};
+use row_systems::{A, C, CountingGate, MeetingGate, Row, SOME_A, grows, has_rows, pattern_over};
 use seat_lock::SeatLock;
 use std::alloc::Global;
 use std::test::Fail;
 use worker_pool::{Shared, saturate};
 use wpds_port::OpenGate;
+
+// What is found of growth for `p: a a a`.
+const THREE_GROWN: &[Row] = &[
+    (0, 0, 1, 0),
+    (1, 0, 2, 0),
+    (2, 0, 3, 0),
+    (0, 0, 0, 0),
+    (0, 0, 2, 1),
+    (0, 0, 3, 2),
+];
 
 // Two workers have hands at once, and for each seat the gate is called as often as the seat takes.
 #[test]

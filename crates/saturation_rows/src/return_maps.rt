@@ -1,4 +1,4 @@
-ghost use Rattle.cross_crate_tests.specs.Guarded.{guarded_operations, guarded_laws};
+ghost use Rattle.saturation_rows.specs.Guarded.{guarded_operations, guarded_laws};
 
 use crate::run_values::are_below;
 use pushdown_rules::{Config, RuleFault, System};

@@ -1,0 +1,5 @@
+//! Worked rows of answers to queries, by both directions, as tests.
+#![tactic(auto)]
+
+#[cfg(test)]
+mod answers;
