@@ -1,5 +1,5 @@
-//! Worked rows that take several crates, as tests: values of runs, saturations in both directions by one seat and by
-//! two, and answers to queries.
+//! Worked rows that take several crates, as tests: values of runs, saturations in both directions by one seat, by two and by
+//! workers in threads, and answers to queries.
 #![tactic(auto)]
 
 #[cfg(test)]
@@ -7,7 +7,11 @@ mod answers;
 #[cfg(test)]
 mod forwards;
 #[cfg(test)]
+mod gates;
+#[cfg(test)]
 mod openings;
+#[cfg(test)]
+mod parts;
 #[cfg(test)]
 mod patterns;
 #[cfg(test)]
@@ -19,4 +23,8 @@ mod saturations;
 #[cfg(test)]
 mod seats;
 #[cfg(test)]
+mod short;
+#[cfg(test)]
 mod systems;
+#[cfg(test)]
+mod workers;

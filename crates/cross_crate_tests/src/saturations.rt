@@ -11,8 +11,8 @@ use std::alloc::Global;
 use std::test::Fail;
 use weighted_automata::{Entry, Label, Place};
 
-// A transition from a state over a symbol to a state, and its weight.
-type Row = (u32, u32, u32, u64);
+/// A transition from a state over a symbol to a state, and its weight.
+pub(crate) type Row = (u32, u32, u32, u64);
 
 // A target by its control and its items, and the transitions of its saturation.
 type Target<'a> = (u32, Items<'a>, &'a [Row]);
@@ -29,8 +29,8 @@ pub(crate) fn entry_at<'b, S: Semiring, D: Direction<S>>(
     }
 }
 
-// Whether the book has these transitions with these weights, and no others.
-fn has_rows<D: Direction<Cost>>(book: &Book<'_, Cost, D>, rows: &[Row]) -> bool {
+/// Whether the book has these transitions with these weights, and no others.
+pub(crate) fn has_rows<D: Direction<Cost>>(book: &Book<'_, Cost, D>, rows: &[Row]) -> bool {
     if book.transitions().len() != rows.len() as u64 {
         return false;
     }
@@ -97,21 +97,23 @@ fn a_call_returns(rt: HostRuntime) -> Result<(), Fail> {
     Ok(())
 }
 
+/// What is found of growth for `p: a a a`.
+pub(crate) const THREE_GROWN: &[Row] = &[
+    (0, 0, 1, 0),
+    (1, 0, 2, 0),
+    (2, 0, 3, 0),
+    (0, 0, 0, 0),
+    (0, 0, 2, 1),
+    (0, 0, 3, 2),
+];
+
 // For `p: a a a`, by the states 1, 2 and 3, a second symbol costs one push, and a third two. For `p:` popping costs
 // nothing, and pushing first gains nothing.
 #[test]
 fn growth_costs(rt: HostRuntime) -> Result<(), Fail> {
     let alloc = rt.alloc();
     let system = grows(alloc, Cost::new(100)?)?;
-    let three: &[Row] = &[
-        (0, 0, 1, 0),
-        (1, 0, 2, 0),
-        (2, 0, 3, 0),
-        (0, 0, 0, 0),
-        (0, 0, 2, 1),
-        (0, 0, 3, 2),
-    ];
-    assert!(rt; saturates(alloc, &system, (0, &[A, A, A], three))?);
+    assert!(rt; saturates(alloc, &system, (0, &[A, A, A], THREE_GROWN))?);
     assert!(rt; saturates(alloc, &system, (0, &[], &[(0, 0, 0, 0)]))?);
     Ok(())
 }

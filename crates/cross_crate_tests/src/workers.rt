@@ -1,0 +1,142 @@
+use crate::gates::{CountingGate, MeetingGate};
+use crate::parts::{drive_both, let_go, two_parts};
+use crate::patterns::{A, C, SOME_A, pattern_over};
+use crate::saturations::{THREE_GROWN, has_rows};
+use crate::short::Short;
+use crate::systems::grows;
+use cost_weights::Cost;
+use prestar::pre_opening;
+use pushdown_rules::{RuleFault, System};
+use seat_lock::SeatLock;
+use std::alloc::Global;
+use std::test::Fail;
+use worker_pool::{Shared, saturate};
+use wpds_port::OpenGate;
+
+// Two workers have hands at once, and for each seat the gate is called as often as the seat takes.
+#[test]
+fn two_hands_out(rt: HostRuntime) -> Result<(), Fail> {
+    let alloc = rt.alloc();
+    let system = grows(alloc, Cost::new(100)?)?;
+    let pattern = pattern_over(alloc, &system, 0, &[SOME_A])?;
+    let gate = MeetingGate::new();
+    let opened = pre_opening(alloc, &system, &pattern)?;
+    let book = saturate(&rt, alloc, opened, 2, &gate)?;
+    assert!(rt; book.is_closed() && gate.have_met());
+    for seat in 0..2u32 {
+        assert!(rt; seat < 2);
+        assert_eq!(rt; gate.calls_of(seat) as u128, book.takes_of(seat));
+    }
+    Ok(())
+}
+
+// So have two workers on threads of the test's own, each with a pass of the lock under which the book lies.
+#[test]
+fn two_hands_out_of_a_lock(rt: HostRuntime) -> Result<(), Fail> {
+    let alloc = rt.alloc();
+    let system = grows(alloc, Cost::new(100)?)?;
+    let pattern = pattern_over(alloc, &system, 0, &[SOME_A])?;
+    let book = pre_opening(alloc, &system, &pattern)?;
+    let Ok((lock, pass)) = SeatLock::new(alloc, Shared { book }, 2) else {
+        panic!(rt; "no lock")
+    };
+    let (zero, one) = lock.split(pass);
+    let gate = MeetingGate::new();
+    let mut parts = two_parts(alloc, &lock, zero, one)?;
+    let joined = drive_both(&rt, alloc, &lock, &mut parts, &gate);
+    let_go(parts);
+    let Some(pass) = joined else {
+        panic!(rt; "a worker ended before the book was closed")
+    };
+    let Ok(Shared { book }) = lock.close(pass) else {
+        panic!(rt; "a pass is missing")
+    };
+    assert!(rt; book.is_closed() && gate.have_met());
+    for seat in 0..2u32 {
+        assert!(rt; seat < 2);
+        assert_eq!(rt; gate.calls_of(seat) as u128, book.takes_of(seat));
+    }
+    Ok(())
+}
+
+// One worker calls the gate too, by seat 0.
+#[test]
+fn one_worker_calls_the_gate(rt: HostRuntime) -> Result<(), Fail> {
+    let alloc = rt.alloc();
+    let system = grows(alloc, Cost::new(100)?)?;
+    let pattern = pattern_over(alloc, &system, 0, &[A])?;
+    let gate = CountingGate::new();
+    let opened = pre_opening(alloc, &system, &pattern)?;
+    let book = saturate(&rt, alloc, opened, 1, &gate)?;
+    assert!(rt; book.is_closed() && book.takes() > 0);
+    assert_eq!(rt; book.takes_of(0), book.takes());
+    assert_eq!(rt; gate.calls() as u128, book.takes());
+    Ok(())
+}
+
+// However many workers there are, the same transitions have the same weights.
+#[test]
+fn each_count_of_workers_finds_the_same(rt: HostRuntime) -> Result<(), Fail> {
+    let alloc = rt.alloc();
+    let system = grows(alloc, Cost::new(100)?)?;
+    let pattern = pattern_over(alloc, &system, 0, &[A, A, A])?;
+    for workers in [1, 2, 8, 64u32] {
+        assert!(rt; workers >= 1 && workers <= 64);
+        let opened = pre_opening(alloc, &system, &pattern)?;
+        let book = saturate(&rt, alloc, opened, workers, &OpenGate)?;
+        assert!(rt; book.is_closed(), "by {workers}");
+        assert!(rt; has_rows(&book, THREE_GROWN), "by {workers}");
+    }
+    Ok(())
+}
+
+// Control p, symbols a, b and c: p a -> p b, and p b -> p c. For `p: c` three transitions are taken, of which two give a job.
+fn short_steps(alloc: Global) -> Result<System<Short>, RuleFault> {
+    let mut system = System::new(alloc, Short::new(), 1, 3);
+    system.add_rule(alloc, 0, 0, 0, &[1], true, None)?;
+    system.add_rule(alloc, 0, 1, 0, &[2], true, None)?;
+    Ok(system)
+}
+
+// The first of these calls of `extend` and of `combine` that is refused: in the first hand or the second, while it is worked out
+// or while it is settled.
+const REFUSED: [(u64, u64); 4] = [(1, 0), (2, 0), (0, 1), (0, 2)];
+
+// The worker that finds no memory gives its hand back and ends, and the other one closes the book.
+#[test]
+fn one_of_two_finds_no_memory(rt: HostRuntime) -> Result<(), Fail> {
+    let alloc = rt.alloc();
+    for (extend, combine) in REFUSED {
+        let system = short_steps(alloc)?;
+        let pattern = pattern_over(alloc, &system, 0, &[C])?;
+        let opened = pre_opening(alloc, &system, &pattern)?;
+        system.semiring().refuse(extend, combine, 1);
+        let gate = CountingGate::new();
+        let book = saturate(&rt, alloc, opened, 2, &gate)?;
+        assert!(rt; book.is_closed(), "at {extend} and {combine}");
+        assert_eq!(rt; book.takes(), 4, "at {extend} and {combine}");
+        assert_eq!(rt; book.takes_of(0) + book.takes_of(1), 4);
+        assert_eq!(rt; gate.calls(), 4);
+        assert_eq!(rt; book.transitions().len(), 3);
+    }
+    Ok(())
+}
+
+// Where each worker has ended for want of memory, that is the answer: with two workers at the second refusal, and with one at
+// the first.
+#[test]
+fn no_worker_finds_memory(rt: HostRuntime) -> Result<(), Fail> {
+    let alloc = rt.alloc();
+    for (extend, combine) in REFUSED {
+        for workers in 1..3u32 {
+            assert!(rt; workers >= 1 && workers <= 2);
+            let system = short_steps(alloc)?;
+            let pattern = pattern_over(alloc, &system, 0, &[C])?;
+            let opened = pre_opening(alloc, &system, &pattern)?;
+            system.semiring().refuse(extend, combine, workers as u64);
+            let answer = saturate(&rt, alloc, opened, workers, &CountingGate::new());
+            assert!(rt; answer.is_err(), "by {workers} at {extend} and {combine}");
+        }
+    }
+    Ok(())
+}
