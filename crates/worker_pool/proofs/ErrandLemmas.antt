@@ -6,14 +6,13 @@ use Rattle.std.proofs.lemmas.List.{with_items_is}
 use Rattle.std.specs.Option.{IsSomeAnd}
 use Rattle.std.proofs.lemmas.List.{append-nil, get_or_push}
 use Rattle.std.proofs.lemmas.Option.{same_Some}
-use Rattle.pushdown_rules.specs.Pushdown.{Pushdown}
 use Rattle.saturation_laws.specs.declared.event.Event.{Event}
 use Rattle.saturation_laws.specs.Books.{BookValue}
 use Rattle.seat_lock.specs.declared.view.View.{View}
 use Rattle.seat_lock.specs.declared.view.Journaled.{Ghosts}
 use Rattle.seat_lock.specs.declared.lock.Pass.{Pass}
 use Rattle.seat_lock.specs.declared.lock.SeatLock.{SeatLock}
-use Rattle.seat_lock.specs.Queue.{Each, Claim, Among, of_pass, FitsView}
+use Rattle.seat_lock.specs.Queue.{Each, Claim, Among, of_pass}
 use Rattle.seat_lock.specs.Passes.{own_number, own_entries}
 use Rattle.std.proofs.lemmas.Bool.{cases_eq}
 use Rattle.weighted_automata.specs.declared.place.Place.{Place}

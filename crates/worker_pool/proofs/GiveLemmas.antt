@@ -7,8 +7,8 @@ use Rattle.weighted_automata.specs.declared.place.Place.{Place}
 use Rattle.saturation_laws.specs.declared.event.Event.{Event}
 use Rattle.saturation_laws.specs.declared.event.Event.TheVariants.{Take, Settle, GiveBack}
 use Rattle.saturation_laws.specs.States.{seat_of}
-use Rattle.saturation_laws.specs.Bound.{takes, gives}
-use Rattle.saturation_laws.specs.Books.{BookValue, IsBook, opened_by}
+use Rattle.saturation_laws.specs.Bound.{gives}
+use Rattle.saturation_laws.specs.Books.{BookValue, IsBook}
 use Rattle.saturation_laws.specs.Ways.{Way, IsLawful}
 use Rattle.saturation_laws.proofs.CallerLemmas.{book_takes}
 use Rattle.seat_lock.specs.Queue.{Each, of_pass}

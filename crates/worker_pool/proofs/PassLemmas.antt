@@ -1,21 +1,20 @@
 -- What a pass knows after a turn at a shared book.
-use Rattle.std.proofs.Common.{◌≡◌, ℕ, ◌<◌, List, [], ◌∷◌, ◌++◌, length, refl, sym, ap, ap₂, ◌∙◌, subst}
-use Rattle.std.specs.Prelude.{Option, Some}
+use Rattle.std.proofs.Common.{◌≡◌, ℕ, ◌<◌, List, [], ◌++◌, length, sym, ap, ap₂, ◌∙◌, subst}
+use Rattle.std.specs.Prelude.{Some}
 use Rattle.std.proofs.lemmas.Option.{same_Some}
 use Rattle.std.proofs.lemmas.List.{append-nil, append_cancel_left}
 use Rattle.std.proofs.lemmas.List.Elements.{filter-append}
 use Rattle.std.specs.Prelude.{eqb}
-use mathlib.Core.List.{IsPrefix}
 use Rattle.semiring_laws.specs.Semiring.{Operations}
 use Rattle.pushdown_rules.specs.Pushdown.{Pushdown}
 use Rattle.saturation_laws.specs.declared.event.Event.{Event}
 use Rattle.saturation_laws.specs.declared.job.Job.{Job}
-use Rattle.saturation_laws.specs.States.{CoreState, seat_of}
+use Rattle.saturation_laws.specs.States.{seat_of}
 use Rattle.saturation_laws.specs.Books.{BookValue, IsClosed, replayed}
 use Rattle.saturation_core.specs.Settled.{jobs_out}
 use Rattle.seat_lock.specs.declared.view.View.{View}
 use Rattle.seat_lock.specs.declared.view.Stage.TheVariants.{Turn}
-use Rattle.seat_lock.specs.Queue.{Each, Claim, of_pass, FitsView, opened_by, at_stage}
+use Rattle.seat_lock.specs.Queue.{Each, of_pass, FitsView, opened_by, at_stage}
 use Rattle.seat_lock.specs.Passes.{own_number, own_entries, joined_in, Grown, Gave}
 use Rattle.seat_lock.proofs.CallerLemmas.{own-after, gave-new, each-own, grown-by, seen-grows}
 use Rattle.worker_pool.specs.declared.shared.Origin.{Origin}

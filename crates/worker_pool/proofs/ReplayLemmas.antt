@@ -1,18 +1,16 @@
 -- What events of other seats leave as it is, and what a seat's own events make of its hand.
-use Rattle.std.proofs.Common.{◌≡◌, ◌≢◌, ℕ, eqb, eq-eqb, ne_eqb, eqb-true, Bool, true, false, cond, inl, inr, List, [], ◌∷◌, ◌++◌, length, set, get_or, refl, sym, ap, ◌∙◌, subst}
-use Rattle.std.specs.Prelude.{◌&&◌, nat_lt, Option, Some, None, is_none, option_map, option_and_then}
+use Rattle.std.proofs.Common.{◌≡◌, ◌≢◌, ℕ, eq-eqb, ne_eqb, Bool, true, cond, inl, inr, List, [], ◌∷◌, ◌++◌, set, refl, sym, ap, ◌∙◌, subst}
+use Rattle.std.specs.Prelude.{Option, Some, None, is_none, option_map, option_and_then}
 use Rattle.std.specs.List.{AllByRecursion}
 use Rattle.std.proofs.lemmas.Bool.{cases_eq}
 use Rattle.std.proofs.lemmas.List.Elements.{All-from_recursion}
-use Rattle.std.proofs.lemmas.Option.{same_Some, option_and_then_some}
-use Rattle.std.proofs.lemmas.List.{get_or-set_same, get_or-set_other}
+use Rattle.std.proofs.lemmas.Option.{same_Some}
 use Rattle.semiring_laws.specs.Semiring.{Operations}
-use Rattle.weighted_automata.specs.declared.place.Place.{Place}
 use Rattle.saturation_laws.specs.declared.event.Event.{Event}
 use Rattle.saturation_laws.specs.declared.event.Event.TheVariants.{Take, Settle, GiveBack}
 use Rattle.saturation_laws.specs.declared.holding.Holding.{Holding}
 use Rattle.saturation_laws.specs.Jobs.{Tables}
-use Rattle.saturation_laws.specs.States.{CoreState, AreOfOthers, seat_of, hand_at, settle, give_back, step, replay}
+use Rattle.saturation_laws.specs.States.{CoreState, AreOfOthers, seat_of, hand_at, give_back, step, replay}
 use Rattle.seat_lock.specs.Queue.{of_pass}
 use Rattle.worker_pool.specs.Events.{free_after, is_ended}
 use Rattle.saturation_laws.proofs.CallerLemmas.{replay_append, step_leaves}

@@ -1,5 +1,5 @@
 -- What a worker may do at a book.
-use Rattle.std.proofs.Common.{◌≡◌, ℕ, List, [], ◌++◌, refl, sym, ap, ap₂, ◌∙◌, subst}
+use Rattle.std.proofs.Common.{◌≡◌, ℕ, List, refl, sym, ap, ap₂, ◌∙◌, subst}
 use Rattle.std.specs.Prelude.{Bool, true, false, MatchBool, Option, Some, None, option_map, IsSome, Result, Ok, IfOk}
 use Rattle.std.specs.List.{AllByRecursion}
 use Rattle.std.proofs.lemmas.Option.{same_Some}
@@ -22,7 +22,6 @@ use Rattle.saturation_core.specs.DoneValue.{DoneValue}
 use Rattle.saturation_core.specs.Settled.{jobs_of, jobs_out, CanSettle}
 use Rattle.seat_lock.specs.Queue.{of_pass}
 use Rattle.worker_pool.specs.Events.{is_ended}
-use Rattle.worker_pool.specs.Origins.{origin_of, state_after}
 use Rattle.worker_pool.specs.Steps.{HasOut, WorkFits, IsOverBook}
 use Rattle.worker_pool.proofs.TurnLemmas.{hand_taken, opening_free, agrees}
 use Rattle.saturation_laws.proofs.CallerLemmas.{others_leave}

@@ -1,9 +1,8 @@
 -- Turns of a worker, by what it does at the book.
-use Rattle.std.proofs.Common.{◌≡◌, ℕ, ◌<◌, Bool, true, false, List, [], ◌∷◌, ◌++◌, length, refl, sym, ap, ◌∙◌, subst}
+use Rattle.std.proofs.Common.{◌≡◌, ℕ, ◌<◌, Bool, true, false, [], ◌∷◌, ◌++◌, length, refl, sym, ap, ◌∙◌, subst}
 use Rattle.std.specs.Prelude.{Some, MatchBool}
 use Rattle.std.proofs.lemmas.List.{append-nil}
 use Rattle.semiring_laws.specs.Semiring.{Operations}
-use Rattle.pushdown_rules.specs.Pushdown.{Pushdown}
 use Rattle.saturation_laws.specs.declared.event.Event.{Event}
 use Rattle.saturation_laws.specs.declared.event.Event.TheVariants.{Take, Settle, GiveBack}
 use Rattle.saturation_laws.specs.Books.{BookValue, Makes, IsClosed, replayed}

@@ -6,8 +6,8 @@ use Rattle.saturation_laws.specs.declared.event.Event.{Event}
 use Rattle.seat_lock.specs.declared.view.Journaled.{Ghosts}
 use Rattle.seat_lock.specs.declared.lock.Pass.{Pass}
 use Rattle.seat_lock.specs.declared.lock.SeatLock.{SeatLock}
-use Rattle.seat_lock.specs.Queue.{Each, Claim, of_pass}
-use Rattle.seat_lock.specs.Passes.{own_number, own_entries}
+use Rattle.seat_lock.specs.Queue.{Each, of_pass}
+use Rattle.seat_lock.specs.Passes.{own_entries}
 use Rattle.seat_lock.specs.Words.{IsOf}
 use Rattle.worker_pool.specs.declared.driven.DriveEnd.{DriveEnd}
 use Rattle.saturation_laws.specs.States.{seat_of}

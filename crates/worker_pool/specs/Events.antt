@@ -1,5 +1,5 @@
 -- The events of one seat.
-use Rattle.std.specs.Prelude.{ℕ, Bool, true, false, List, [], ◌∷◌, ◌++◌, Option, Some, None}
+use Rattle.std.specs.Prelude.{ℕ, Bool, true, false, List, [], ◌∷◌, Option, Some, None}
 use Rattle.weighted_automata.specs.declared.place.Place.{Place}
 use Rattle.saturation_laws.specs.declared.event.Event.{Event}
 use Rattle.saturation_laws.specs.declared.event.Event.TheVariants.{Take, Settle, GiveBack}

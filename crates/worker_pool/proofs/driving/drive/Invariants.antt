@@ -1,4 +1,3 @@
-use Rattle.std.proofs.Common.{◌≡◌}
 use Rattle.worker_pool.specs.Passes.{IsSame}
 use Rattle.worker_pool.proofs.DrivingLemmas.{IsBetween}
 use Rattle.worker_pool.proofs.driving.drive.Given as goal

@@ -1,8 +1,8 @@
-use Rattle.std.proofs.Common.{◌≡◌, ◌-◌, ◌<◌, ◌++◌, [], ◌∷◌, refl, sym, ap, ◌∙◌, subst, length, arith}
-use Rattle.std.specs.Prelude.{Some, IfSome, option_to_list}
+use Rattle.std.proofs.Common.{◌-◌, refl, sym, ◌∙◌, subst, length}
+use Rattle.std.specs.Prelude.{Some}
 use Rattle.std.specs.Option.{IsSomeAnd}
 use Rattle.std.proofs.lemmas.List.Elements.{All-pop}
-use Rattle.worker_pool.specs.Errands.{IsDone, IsFirst}
+use Rattle.worker_pool.specs.Errands.{IsDone}
 use Rattle.worker_pool.proofs.ErrandLemmas.{all_done, first_done, last_first, one_claim, count_first, below}
 use Rattle.worker_pool.proofs.gathering.run_and_join.Goals as goal
 

@@ -1,6 +1,3 @@
-use Rattle.std.proofs.Common.{◌≡◌, ◌-◌, List, sym, subst, slice_index_or}
-use Rattle.std.specs.Option.{IsSomeAnd}
-use Rattle.worker_pool.specs.Errands.{IsFirst}
 use Rattle.worker_pool.proofs.ErrandLemmas.{first_in}
 use Rattle.worker_pool.proofs.gathering.work_all.Goals as goal
 

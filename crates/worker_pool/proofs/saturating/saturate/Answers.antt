@@ -1,6 +1,3 @@
-use Rattle.std.proofs.Common.{sym, subst}
-use Rattle.std.specs.Prelude.{IfOk, Result, Ok, Err}
-use Rattle.worker_pool.specs.Errands.{IsWorkedBySeats}
 use Rattle.worker_pool.proofs.ErrandLemmas.{ok_alone}
 use Rattle.worker_pool.proofs.saturating.saturate.Goals as goal
 

@@ -1,4 +1,4 @@
-use Rattle.std.proofs.Common.{◌≡◌, sym, ap, ◌∙◌, subst}
+use Rattle.std.proofs.Common.{◌≡◌, sym, subst}
 use Rattle.std.specs.Prelude.{OnErr, OnOk, IsSome}
 use Rattle.saturation_laws.specs.declared.event.Event.TheVariants.{Settle}
 use Rattle.saturation_laws.specs.States.{hand_at}

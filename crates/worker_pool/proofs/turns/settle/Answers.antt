@@ -1,4 +1,4 @@
-use Rattle.std.proofs.Common.{◌≡◌, ℕ, sym, ap, ◌∙◌, subst}
+use Rattle.std.proofs.Common.{ℕ, sym, ◌∙◌, subst}
 use Rattle.std.specs.Prelude.{MatchBool}
 use Rattle.saturation_laws.specs.declared.event.Event.TheVariants.{Settle, GiveBack}
 use Rattle.saturation_laws.specs.Books.{Makes}
