@@ -6,6 +6,7 @@ const MOST_LOOKS: u64 = 1_000_000_000;
 
 /// Counts the calls of the seats 0 and 1, holds its first caller until the other of the two has called it, and notes whether
 /// that happened.
+#[derive(Drop)]
 pub struct MeetingGate {
     zero: AtomicU64,
     one: AtomicU64,
@@ -56,6 +57,7 @@ impl Gate for MeetingGate {
 }
 
 /// Counts its calls.
+#[derive(Drop)]
 pub struct CountingGate {
     calls: AtomicU64,
 }
