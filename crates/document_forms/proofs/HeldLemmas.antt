@@ -1,6 +1,6 @@
 -- What an expression that is held in place says.
 use Rattle.std.proofs.Common.{◌≡◌, ℕ, Bool, false, Some, None, List, [], ◌∷◌}
-use Rattle.std.specs.Prelude.{Option, unwrap_or}
+use Rattle.std.specs.Prelude.{unwrap_or}
 use Rattle.truth_tables.specs.Formulas.{Formula, Constant, Variable, Opposite, Binary, Ternary}
 use Rattle.truth_tables.specs.Postfix.{first, newest_leaf}
 use Rattle.truth_tables.specs.declared.part.Part.TheVariants.{Const, Var}
