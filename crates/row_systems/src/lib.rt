@@ -11,5 +11,5 @@ pub use found::{Row, entry_at, has_rows};
 pub use gates::{CountingGate, MeetingGate};
 pub use patterns::{A, B, C, D, Items, SOME_A, pattern_over};
 pub use systems::{
-    calls, calls_again, calls_itself, grows, one_step, pops, ruleless, steps, two_calls,
+    calls, calls_again, calls_itself, grows, one_step, pops, ruleless, same_goals, steps, two_calls,
 };

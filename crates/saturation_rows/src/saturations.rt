@@ -2,7 +2,9 @@ use crate::seats::{close_alone, close_in_turn};
 use cost_weights::Cost;
 use prestar::pre_opening;
 use pushdown_rules::System;
-use row_systems::{A, C, Items, Row, calls, entry_at, grows, has_rows, pattern_over, steps};
+use row_systems::{
+    A, C, Items, Row, calls, entry_at, grows, has_rows, pattern_over, same_goals, steps,
+};
 use saturation_core::Book;
 use saturation_laws::Direction;
 use semiring_laws::{Reach, Semiring};
@@ -90,6 +92,17 @@ fn costs_are_cut(rt: HostRuntime) -> Result<(), Fail> {
         let rows: &[Row] = &[(0, 2, 1, 0), (0, 1, 1, 3), (0, 0, 1, cost)];
         assert!(rt; saturates(alloc, &system, (0, &[C], rows))?);
     }
+    Ok(())
+}
+
+// For `p: c` one transition has five jobs: 5, 3 and 4 from a, of which the second lowers again what the
+// first made and the third changes nothing, and 2 and 6 from b, between them.
+#[test]
+fn one_hand_lowers_a_place_again(rt: HostRuntime) -> Result<(), Fail> {
+    let alloc = rt.alloc();
+    let system = same_goals(alloc, Cost::new(100)?)?;
+    let rows: &[Row] = &[(0, 2, 1, 0), (0, 0, 1, 3), (0, 1, 1, 2)];
+    assert!(rt; saturates(alloc, &system, (0, &[C], rows))?);
     Ok(())
 }
 
