@@ -41,9 +41,11 @@ pub fn one_step(alloc: Global, cost: Cost) -> Result<System<Cost>, RuleFault> {
 /// Control p, symbols a, b and c: p a -> p c at 5, 3 and 4, and between them p b -> p c at 2 and 6.
 pub fn same_goals(alloc: Global, cost: Cost) -> Result<System<Cost>, RuleFault> {
     let mut system = System::new(alloc, cost, 1, 3);
-    for (symbol, number) in [(0, 5u64), (1, 2), (0, 3), (1, 6), (0, 4)] {
-        system.add_rule(alloc, 0, symbol, 0, &[2], cost.number(number), None)?;
-    }
+    system.add_rule(alloc, 0, 0, 0, &[2], cost.number(5), None)?;
+    system.add_rule(alloc, 0, 1, 0, &[2], cost.number(2), None)?;
+    system.add_rule(alloc, 0, 0, 0, &[2], cost.number(3), None)?;
+    system.add_rule(alloc, 0, 1, 0, &[2], cost.number(6), None)?;
+    system.add_rule(alloc, 0, 0, 0, &[2], cost.number(4), None)?;
     Ok(system)
 }
 
