@@ -14,21 +14,21 @@ abbrev ReportedOver : Options → Document → Result (List ℕ) OutOfMemory →
 ReportedOver options d result n = IfOk result (IsReported (genkill_kind n) options (record {}) d)
 
 pub returns-in-0-to-64-with_width : goal.returns-in-0-to-64-with_width
-returns-in-0-to-64-with_width c =
+returns-in-0-to-64-with_width g c =
     subst (ReportedOver c.args.options c.args.document.now c.report_over.result) (sym (width_1 (length c.args.document.now.items) (omega (arith, c.len.ensures)))) c.report_over.ensures
 
 pub returns-in-65-to-128-with_width : goal.returns-in-65-to-128-with_width
-returns-in-65-to-128-with_width c =
+returns-in-65-to-128-with_width g c =
     subst (ReportedOver c.args.options c.args.document.now c.report_over-2.result) (sym (width_2 (length c.args.document.now.items) (omega (arith, c.len.ensures)) (omega (arith, c.len.ensures)))) c.report_over-2.ensures
 
 pub returns-in-129-to-256-with_width : goal.returns-in-129-to-256-with_width
-returns-in-129-to-256-with_width c =
+returns-in-129-to-256-with_width g c =
     subst (ReportedOver c.args.options c.args.document.now c.report_over-3.result) (sym (width_4 (length c.args.document.now.items) (omega (arith, c.len.ensures)) (omega (arith, c.len.ensures)))) c.report_over-3.ensures
 
 pub returns-in-257-to-512-with_width : goal.returns-in-257-to-512-with_width
-returns-in-257-to-512-with_width c =
+returns-in-257-to-512-with_width g c =
     subst (ReportedOver c.args.options c.args.document.now c.report_over-4.result) (sym (width_8 (length c.args.document.now.items) (omega (arith, c.len.ensures)) (omega (arith, c.len.ensures)))) c.report_over-4.ensures
 
 pub returns-in_default : goal.returns-in_default
-returns-in_default c =
+returns-in_default g c =
     subst (ReportedOver c.args.options c.args.document.now c.report_over-5.result) (sym (width_16 (length c.args.document.now.items) (omega (arith, c.len.ensures)))) c.report_over-5.ensures
