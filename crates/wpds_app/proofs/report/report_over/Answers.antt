@@ -8,7 +8,7 @@ use Rattle.wpds_app.proofs.KeptLemmas.{nothing_kept, one_query_more}
 use Rattle.wpds_app.proofs.report.report_over.Goals as goal
 
 pub lines_at-requires-clause-kept : goal.lines_at-requires-clause-kept
-lines_at-requires-clause-kept g c =
+lines_at-requires-clause-kept g c κs within =
     let d = c.args.document.now in
     let kind = g.S.DocumentWeights.kind in
     let here = subst (λ (p : Pushdown _ _ _). AreKept kind c.args.options p.semiring d c.loop-place.kept.items) (sym c.in_ok-system.ensures) c.loop-place.invariant.1 in
