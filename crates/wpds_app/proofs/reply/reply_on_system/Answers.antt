@@ -7,7 +7,7 @@ use Rattle.wpds_app.proofs.ReportingLemmas.{is_built}
 use Rattle.wpds_app.proofs.reply.reply_on_system.Goals as goal
 
 pub report-requires-clause-document : goal.report-requires-clause-document
-report-requires-clause-document g c = c.documents_are_lawful.ensures c.args.input.now c.args.document.now c.requires.document
+report-requires-clause-document g c κs within = c.documents_are_lawful.ensures c.args.input.now c.args.document.now c.requires.document
 
 pub returns-in-Some : goal.returns-in-Some
 returns-in-Some g c =
