@@ -345,19 +345,10 @@ query 2: x0=x0 x1=x0{others} x{last}=x{last}
 #[test]
 fn first_and_last_variables(rt: HostRuntime) -> Result<(), OutOfMemory> {
     for count in [3, 4, 31, 32, 33, 63, 64] {
-        assert!(rt;
-            has_first_and_last(&rt, count)?,
-            "at {count} variables"
-        );
+        assert!(rt; has_first_and_last(&rt, count)?, "at {count} variables");
     }
     let document = with_variables(rt.alloc(), 65)?;
-    assert!(rt;
-        writes(
-            &rt,
-            document.as_bytes(),
-            "refused: line 5: 9 Count\n"
-        )?
-    );
+    assert!(rt; writes(&rt, document.as_bytes(), "refused: line 5: 9 Count\n")?);
     Ok(())
 }
 

@@ -59,7 +59,12 @@ fn failing_reads(rt: HostRuntime) -> Result<(), OutOfMemory> {
 }
 
 // Whether so many bytes of the line are written, and then a fault is told.
-fn stops_behind(rt: &HostRuntime, room: usize, call: u64, count: usize) -> Result<bool, OutOfMemory> {
+fn stops_behind(
+    rt: &HostRuntime,
+    room: usize,
+    call: u64,
+    count: usize,
+) -> Result<bool, OutOfMemory> {
     let (status, text) = outcome(rt, NEVER, room, call)?;
     Ok(status == Status::WriteFault && text.len() == count && LINE.as_bytes().starts_with(&text))
 }
@@ -94,10 +99,7 @@ fn begins(rt: &HostRuntime, length: usize, text: &str) -> Result<bool, OutOfMemo
 #[test]
 fn documents_that_are_cut_off(rt: HostRuntime) -> Result<(), OutOfMemory> {
     for length in 0..105usize {
-        assert!(rt;
-            begins(&rt, length, "refused: line ")?,
-            "at {length}"
-        );
+        assert!(rt; begins(&rt, length, "refused: line ")?, "at {length}");
     }
     assert!(rt; begins(&rt, 105, "query 1: unreachable\n")?);
     assert!(rt; begins(&rt, 106, "query 1: unreachable\n")?);

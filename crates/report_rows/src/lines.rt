@@ -170,10 +170,7 @@ const LATER_WEIGHTS: &str = "5 Twice | weights reach
 #[test]
 fn later_weights_lines(rt: HostRuntime) -> Result<(), OutOfMemory> {
     let second = "wpds 1\nweights reach\n";
-    assert_eq!(rt;
-        first_wrong_refusal(&rt, second, LATER_WEIGHTS)?,
-        None
-    );
+    assert_eq!(rt; first_wrong_refusal(&rt, second, LATER_WEIGHTS)?, None);
     let last = "wpds 1\nweights copy\ncontrols p\nsymbols a\nquery p: a => p:\n";
     assert_eq!(rt; first_wrong_refusal(&rt, last, LATER_WEIGHTS)?, None);
     Ok(())

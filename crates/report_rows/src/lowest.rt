@@ -180,9 +180,6 @@ refused: line 9: 6 Unknown
 
 #[test]
 fn the_first_refused_line(rt: HostRuntime) -> Result<(), OutOfMemory> {
-    assert_eq!(rt;
-        first_wrong(&rt, "wpds 1\nweights reach\n", FIRST)?,
-        None
-    );
+    assert_eq!(rt; first_wrong(&rt, "wpds 1\nweights reach\n", FIRST)?, None);
     Ok(())
 }

@@ -55,10 +55,7 @@ refused: line 4: 4 Form
 
 #[test]
 fn long_names(rt: HostRuntime) -> Result<(), OutOfMemory> {
-    assert_eq!(rt;
-        first_wrong(&rt, "wpds 1\nweights reach\n", LONG)?,
-        None
-    );
+    assert_eq!(rt; first_wrong(&rt, "wpds 1\nweights reach\n", LONG)?, None);
     Ok(())
 }
 
@@ -177,10 +174,7 @@ query 4: reachable
 
 #[test]
 fn words_that_are_not_reserved(rt: HostRuntime) -> Result<(), OutOfMemory> {
-    assert_eq!(rt;
-        first_wrong(&rt, "wpds 1\nweights reach\n", FREE)?,
-        None
-    );
+    assert_eq!(rt; first_wrong(&rt, "wpds 1\nweights reach\n", FREE)?, None);
     Ok(())
 }
 

@@ -110,7 +110,12 @@ pub(crate) fn first_wrong_refusal(
 }
 
 // Whether the document of a line behind the head and a query has the value that a row says.
-fn is_right_value(rt: &HostRuntime, head: &str, query: &str, row: &str) -> Result<bool, OutOfMemory> {
+fn is_right_value(
+    rt: &HostRuntime,
+    head: &str,
+    query: &str,
+    row: &str,
+) -> Result<bool, OutOfMemory> {
     match row.split_once(" | ") {
         Some((value, line)) => {
             let document = format!(in rt.alloc(); "{head}{line}\nquery {query}\n")?;

@@ -154,10 +154,7 @@ fn rules_with_facts_that_are_accepted(rt: HostRuntime) -> Result<(), OutOfMemory
     let pop = "p: a => p:";
     assert_eq!(rt; first_wrong_value(&rt, FACTS, pop, FACT_POPS)?, None);
     let call = "p: a => p: a b";
-    assert_eq!(rt;
-        first_wrong_value(&rt, FACTS, call, FACT_CALLS)?,
-        None
-    );
+    assert_eq!(rt; first_wrong_value(&rt, FACTS, call, FACT_CALLS)?, None);
     Ok(())
 }
 
@@ -236,15 +233,9 @@ unreachable | rule p a -> p a b : none return plain
 #[test]
 fn rules_with_copies_that_are_accepted(rt: HostRuntime) -> Result<(), OutOfMemory> {
     let pop = "p: a => p:";
-    assert_eq!(rt;
-        first_wrong_value(&rt, COPIES, pop, COPY_POPS)?,
-        None
-    );
+    assert_eq!(rt; first_wrong_value(&rt, COPIES, pop, COPY_POPS)?, None);
     let call = "p: a => p: a b";
-    assert_eq!(rt;
-        first_wrong_value(&rt, COPIES, call, COPY_CALLS)?,
-        None
-    );
+    assert_eq!(rt; first_wrong_value(&rt, COPIES, call, COPY_CALLS)?, None);
     Ok(())
 }
 
@@ -332,10 +323,7 @@ const EXPRESSIONS: &str = "7 WeightText | rule p a -> p : assume 2
 
 #[test]
 fn expressions(rt: HostRuntime) -> Result<(), OutOfMemory> {
-    assert_eq!(rt;
-        first_wrong_refusal(&rt, RELATIONS, EXPRESSIONS)?,
-        None
-    );
+    assert_eq!(rt; first_wrong_refusal(&rt, RELATIONS, EXPRESSIONS)?, None);
     Ok(())
 }
 
@@ -357,10 +345,7 @@ rule p a -> p : one";
 
 #[test]
 fn actions_that_are_accepted(rt: HostRuntime) -> Result<(), OutOfMemory> {
-    assert_eq!(rt;
-        first_not_accepted(&rt, RELATIONS, ACTIONS_ACCEPTED)?,
-        None
-    );
+    assert_eq!(rt; first_not_accepted(&rt, RELATIONS, ACTIONS_ACCEPTED)?, None);
     Ok(())
 }
 
@@ -450,9 +435,6 @@ rule p a->p a b:assume x return move x = y z = y";
 
 #[test]
 fn return_maps_that_are_accepted(rt: HostRuntime) -> Result<(), OutOfMemory> {
-    assert_eq!(rt;
-        first_not_accepted(&rt, RELATIONS, RETURNS_ACCEPTED)?,
-        None
-    );
+    assert_eq!(rt; first_not_accepted(&rt, RELATIONS, RETURNS_ACCEPTED)?, None);
     Ok(())
 }

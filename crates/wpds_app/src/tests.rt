@@ -415,14 +415,7 @@ fn listings(rt: HostRuntime) -> Result<(), Fail> {
         ),
     ] {
         let document = format!(in rt.alloc(); "{system}{query}")?;
-        let (ended, written) = outcome(
-            &rt,
-            &["check"],
-            document.as_bytes(),
-            &[],
-            1000,
-            &[],
-        )?;
+        let (ended, written) = outcome(&rt, &["check"], document.as_bytes(), &[], 1000, &[])?;
         assert_eq!(rt; ended, Status::Answered, "at {query}");
         assert_eq!(rt; written.as_slice(), text.as_bytes(), "at {query}");
     }
