@@ -4,7 +4,9 @@ use pushdown_rules::System;
 use query_answers::answer;
 use row_systems::{A, B, C, Items, SOME_A, calls, grows, one_step, pattern_over, ruleless, steps};
 use semiring_laws::{Reach, Semiring};
+use std::sync::Wait;
 use std::test::Fail;
+use std::thread::Threads;
 use witness_graph::{Listing, Node, Side};
 use wpds_port::OpenGate;
 
@@ -16,7 +18,7 @@ type Row = (Query, Option<u64>);
 
 // The answer to a query between controls of the system, by a direction.
 fn answer_to<S: Semiring<W: Send + Sync, Ret: Send + Sync> + Send + Sync>(
-    rt: &HostRuntime,
+    rt: &(impl Threads + Wait + Sync + AllocGlobal),
     system: &System<S>,
     side: Side,
     query: Query,
@@ -33,7 +35,7 @@ fn answer_to<S: Semiring<W: Send + Sync, Ret: Send + Sync> + Send + Sync>(
 
 // The value of the answer to a query, asked of any semiring.
 fn value_of<S: Semiring<W: Send + Sync, Ret: Send + Sync> + Send + Sync>(
-    rt: &HostRuntime,
+    rt: &(impl Threads + Wait + Sync + AllocGlobal),
     system: &System<S>,
     side: Side,
     query: Query,
@@ -43,7 +45,11 @@ fn value_of<S: Semiring<W: Send + Sync, Ret: Send + Sync> + Send + Sync>(
 }
 
 // The first row whose query has another cost, backwards or forwards.
-fn wrong_row(rt: &HostRuntime, system: &System<Cost>, rows: &[Row]) -> Result<Option<usize>, Fail> {
+fn wrong_row(
+    rt: &(impl Threads + Wait + Sync + AllocGlobal),
+    system: &System<Cost>,
+    rows: &[Row],
+) -> Result<Option<usize>, Fail> {
     for (k, (query, cost)) in rows.iter().enumerate() {
         for side in [Side::Pre, Side::Post] {
             if value_of(rt, system, side, *query)? != *cost {

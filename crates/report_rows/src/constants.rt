@@ -2,6 +2,8 @@
 
 use crate::rows::{first_wrong, numbered, writes};
 use std::alloc::Global;
+use std::sync::Wait;
+use std::thread::Threads;
 use wpds_base::OutOfMemory;
 
 const HEAD: &str = "wpds 1\nweights copy\n";
@@ -330,7 +332,10 @@ fn unchanged(alloc: Global, count: u32) -> Result<String, OutOfMemory> {
 }
 
 // Whether of so many variables the first and the last are told, and what is restored of them.
-fn has_first_and_last(rt: &HostRuntime, count: u32) -> Result<bool, OutOfMemory> {
+fn has_first_and_last(
+    rt: &(impl Threads + Wait + Sync + AllocGlobal),
+    count: u32,
+) -> Result<bool, OutOfMemory> {
     let document = with_variables(rt.alloc(), count)?;
     let last = count.saturating_sub(1);
     let others = unchanged(rt.alloc(), count)?;

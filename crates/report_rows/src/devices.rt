@@ -1,6 +1,8 @@
 //! Failing devices, and documents that are cut off.
 
 use crate::rows::written;
+use std::sync::Wait;
+use std::thread::Threads;
 use wpds_app::{Status, run};
 use wpds_base::OutOfMemory;
 use wpds_port::{MemSink, MemSource, OpenGate};
@@ -18,7 +20,7 @@ query p: a => q: a
 // How `check --brief` ends on the document, read 16 bytes at a time and written 4 at a time, and
 // what is written.
 fn outcome(
-    rt: &HostRuntime,
+    rt: &(impl Threads + Wait + Sync + AllocGlobal),
     failing_read: u64,
     room: usize,
     failing_write: u64,
@@ -41,7 +43,10 @@ const LINE: &str = "query 1: 3\n";
 const NEVER: u64 = 1_000_000;
 
 // Whether a read that fails gives status 3 and nothing written.
-fn stops_at_read(rt: &HostRuntime, call: u64) -> Result<bool, OutOfMemory> {
+fn stops_at_read(
+    rt: &(impl Threads + Wait + Sync + AllocGlobal),
+    call: u64,
+) -> Result<bool, OutOfMemory> {
     let (status, text) = outcome(rt, call, 100, NEVER)?;
     Ok(status == Status::ReadFault && text.is_empty())
 }
@@ -60,7 +65,7 @@ fn failing_reads(rt: HostRuntime) -> Result<(), OutOfMemory> {
 
 // Whether so many bytes of the line are written, and then a fault is told.
 fn stops_behind(
-    rt: &HostRuntime,
+    rt: &(impl Threads + Wait + Sync + AllocGlobal),
     room: usize,
     call: u64,
     count: usize,
@@ -89,7 +94,11 @@ fn room_for_the_line(rt: HostRuntime) -> Result<(), OutOfMemory> {
 }
 
 // What is written on the first so many bytes of the document begins so.
-fn begins(rt: &HostRuntime, length: usize, text: &str) -> Result<bool, OutOfMemory> {
+fn begins(
+    rt: &(impl Threads + Wait + Sync + AllocGlobal),
+    length: usize,
+    text: &str,
+) -> Result<bool, OutOfMemory> {
     match CALL.as_bytes().get(..length) {
         Some(document) => Ok(written(rt, document)?.starts_with(text.as_bytes())),
         None => Ok(false),

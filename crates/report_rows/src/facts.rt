@@ -2,6 +2,8 @@
 //! run kills it.
 
 use crate::rows::{first_wrong, numbered, writes};
+use std::sync::Wait;
+use std::thread::Threads;
 use wpds_base::OutOfMemory;
 
 const HEAD: &str = "wpds 1\nweights genkill\n";
@@ -248,7 +250,7 @@ fn names_of_facts(rt: HostRuntime) -> Result<(), OutOfMemory> {
 
 // Whether this is written on a document with the facts `f0`, `f1` and so on, so many, on line 5.
 fn is_right(
-    rt: &HostRuntime,
+    rt: &(impl Threads + Wait + Sync + AllocGlobal),
     symbols: &str,
     count: u32,
     lines: &str,
@@ -296,7 +298,10 @@ fn edges_of_widths(rt: HostRuntime) -> Result<(), OutOfMemory> {
 const COUNTS: [u32; 10] = [2, 64, 65, 128, 129, 256, 257, 512, 513, 1_024];
 
 // Whether the last of so many facts is generated and the first killed, and each of them is restored by a call.
-fn has_first_and_last(rt: &HostRuntime, count: u32) -> Result<bool, OutOfMemory> {
+fn has_first_and_last(
+    rt: &(impl Threads + Wait + Sync + AllocGlobal),
+    count: u32,
+) -> Result<bool, OutOfMemory> {
     let last = count.saturating_sub(1);
     let lines = format!(in rt.alloc();
         "rule p a -> p b : +f{last}
@@ -334,7 +339,10 @@ fn push_name(text: &mut String, sign: &str, name: &str) -> Result<(), OutOfMemor
 }
 
 // Whether of so many facts each second one is generated and each other one killed.
-fn has_each_in_turn(rt: &HostRuntime, count: u32) -> Result<bool, OutOfMemory> {
+fn has_each_in_turn(
+    rt: &(impl Threads + Wait + Sync + AllocGlobal),
+    count: u32,
+) -> Result<bool, OutOfMemory> {
     let mut weight = String::new(rt.alloc());
     let mut generated = String::new(rt.alloc());
     let mut killed = String::new(rt.alloc());

@@ -2,6 +2,8 @@
 
 use crate::rows::{numbered, writes, written};
 use std::alloc::Global;
+use std::sync::Wait;
+use std::thread::Threads;
 use wpds_base::OutOfMemory;
 
 // A text so many times, between a front and an end.
@@ -29,13 +31,19 @@ struct Repeats {
     written: &'static str,
 }
 
-fn is_right(rt: &HostRuntime, row: &Repeats) -> Result<bool, OutOfMemory> {
+fn is_right(
+    rt: &(impl Threads + Wait + Sync + AllocGlobal),
+    row: &Repeats,
+) -> Result<bool, OutOfMemory> {
     let document = repeated(rt.alloc(), row.front, row.text, row.count, row.end)?;
     writes(rt, document.as_bytes(), row.written)
 }
 
 // The number of the first of the rows that is not right.
-fn first_wrong(rt: &HostRuntime, rows: &[Repeats]) -> Result<Option<usize>, OutOfMemory> {
+fn first_wrong(
+    rt: &(impl Threads + Wait + Sync + AllocGlobal),
+    rows: &[Repeats],
+) -> Result<Option<usize>, OutOfMemory> {
     for (place, row) in rows.iter().enumerate() {
         if !is_right(rt, row)? {
             return Ok(Some(place));

@@ -1,6 +1,8 @@
 //! Documents whose weights are not built, which are relations: they are read whole, and then refused as a whole.
 
 use crate::rows::{first_wrong, numbered, writes};
+use std::sync::Wait;
+use std::thread::Threads;
 use wpds_base::OutOfMemory;
 
 const ACCEPTED: &str = "controls p
@@ -96,7 +98,11 @@ fn refused_documents(rt: HostRuntime) -> Result<(), OutOfMemory> {
 }
 
 // Whether this is written on a document with so many variables on its line 5.
-fn is_right(rt: &HostRuntime, count: u32, text: &str) -> Result<bool, OutOfMemory> {
+fn is_right(
+    rt: &(impl Threads + Wait + Sync + AllocGlobal),
+    count: u32,
+    text: &str,
+) -> Result<bool, OutOfMemory> {
     let front = "wpds 1\nweights relation\ncontrols p\nsymbols a b\nvariables";
     let document = numbered(rt.alloc(), front, "x", count, "\nquery p: a => p: b\n")?;
     writes(rt, document.as_bytes(), text)

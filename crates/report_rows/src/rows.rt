@@ -1,6 +1,8 @@
 //! What `check` writes on a document, and rows that say what it has to be.
 
 use std::alloc::Global;
+use std::sync::Wait;
+use std::thread::Threads;
 use wpds_app::run;
 use wpds_base::OutOfMemory;
 use wpds_port::{Gate, MemSink, MemSource, OpenGate};
@@ -12,13 +14,16 @@ const ROOM: usize = 100_000;
 const PIECE: usize = 4096;
 
 /// What `check --brief` writes on a document.
-pub(crate) fn written(rt: &HostRuntime, document: &[u8]) -> Result<Vec<u8>, OutOfMemory> {
+pub(crate) fn written(
+    rt: &(impl Threads + Wait + Sync + AllocGlobal),
+    document: &[u8],
+) -> Result<Vec<u8>, OutOfMemory> {
     written_by(rt, document, "pre", "1")
 }
 
 /// What `check --brief` writes on a document by a direction, `pre` or `post`, and so many workers.
 pub(crate) fn written_by(
-    rt: &HostRuntime,
+    rt: &(impl Threads + Wait + Sync + AllocGlobal),
     document: &[u8],
     by: &str,
     workers: &str,
@@ -28,7 +33,7 @@ pub(crate) fn written_by(
 
 /// The same, where the workers call this gate.
 pub(crate) fn written_at<G: Gate>(
-    rt: &HostRuntime,
+    rt: &(impl Threads + Wait + Sync + AllocGlobal),
     document: &[u8],
     by: &str,
     workers: &str,
@@ -45,14 +50,22 @@ pub(crate) fn written_at<G: Gate>(
 }
 
 /// Whether `check --brief` writes this text on a document, backwards and forwards.
-pub(crate) fn writes(rt: &HostRuntime, document: &[u8], text: &str) -> Result<bool, OutOfMemory> {
+pub(crate) fn writes(
+    rt: &(impl Threads + Wait + Sync + AllocGlobal),
+    document: &[u8],
+    text: &str,
+) -> Result<bool, OutOfMemory> {
     let backwards = written_by(rt, document, "pre", "1")?;
     let forwards = written_by(rt, document, "post", "1")?;
     Ok(backwards.as_slice() == text.as_bytes() && forwards.as_slice() == text.as_bytes())
 }
 
 // Whether a row says what is written.
-fn is_right(rt: &HostRuntime, head: &str, row: &str) -> Result<bool, OutOfMemory> {
+fn is_right(
+    rt: &(impl Threads + Wait + Sync + AllocGlobal),
+    head: &str,
+    row: &str,
+) -> Result<bool, OutOfMemory> {
     match row.split_once("----\n") {
         Some((lines, text)) => {
             let document = format!(in rt.alloc(); "{head}{lines}")?;
@@ -67,7 +80,7 @@ fn is_right(rt: &HostRuntime, head: &str, row: &str) -> Result<bool, OutOfMemory
 /// Lines `====` stand between the rows. Each row has the lines of a document behind the head, a
 /// line `----`, and what is written.
 pub(crate) fn first_wrong(
-    rt: &HostRuntime,
+    rt: &(impl Threads + Wait + Sync + AllocGlobal),
     head: &str,
     rows: &str,
 ) -> Result<Option<usize>, OutOfMemory> {
@@ -80,7 +93,11 @@ pub(crate) fn first_wrong(
 }
 
 // Whether a line behind the head, which is refused on it, is refused as it says.
-fn is_right_refusal(rt: &HostRuntime, head: &str, row: &str) -> Result<bool, OutOfMemory> {
+fn is_right_refusal(
+    rt: &(impl Threads + Wait + Sync + AllocGlobal),
+    head: &str,
+    row: &str,
+) -> Result<bool, OutOfMemory> {
     let number = head.split('\n').count();
     match row.split_once(" | ") {
         Some((kind, line)) => {
@@ -97,7 +114,7 @@ fn is_right_refusal(rt: &HostRuntime, head: &str, row: &str) -> Result<bool, Out
 /// Each row is a line: the kind by which the document's last line is refused, ` | `, and this line,
 /// which stands behind the head.
 pub(crate) fn first_wrong_refusal(
-    rt: &HostRuntime,
+    rt: &(impl Threads + Wait + Sync + AllocGlobal),
     head: &str,
     rows: &str,
 ) -> Result<Option<usize>, OutOfMemory> {
@@ -111,7 +128,7 @@ pub(crate) fn first_wrong_refusal(
 
 // Whether the document of a line behind the head and a query has the value that a row says.
 fn is_right_value(
-    rt: &HostRuntime,
+    rt: &(impl Threads + Wait + Sync + AllocGlobal),
     head: &str,
     query: &str,
     row: &str,
@@ -130,7 +147,7 @@ fn is_right_value(
 ///
 /// Each row is a line: a query's value, ` | `, and a line that stands between the head and this query.
 pub(crate) fn first_wrong_value(
-    rt: &HostRuntime,
+    rt: &(impl Threads + Wait + Sync + AllocGlobal),
     head: &str,
     query: &str,
     rows: &str,
@@ -160,7 +177,11 @@ pub(crate) fn numbered(
 }
 
 // Whether a document is accepted whose weights are not built.
-fn is_accepted(rt: &HostRuntime, head: &str, line: &str) -> Result<bool, OutOfMemory> {
+fn is_accepted(
+    rt: &(impl Threads + Wait + Sync + AllocGlobal),
+    head: &str,
+    line: &str,
+) -> Result<bool, OutOfMemory> {
     let document = format!(in rt.alloc(); "{head}{line}\nquery p: => p:\n")?;
     writes(rt, document.as_bytes(), "refused: line 0: 14 NotBuilt\n")
 }
@@ -168,7 +189,7 @@ fn is_accepted(rt: &HostRuntime, head: &str, line: &str) -> Result<bool, OutOfMe
 /// The number, from 1, of the first of the lines that is not accepted behind the head, whose
 /// weights are not built.
 pub(crate) fn first_not_accepted(
-    rt: &HostRuntime,
+    rt: &(impl Threads + Wait + Sync + AllocGlobal),
     head: &str,
     lines: &str,
 ) -> Result<Option<usize>, OutOfMemory> {

@@ -2,6 +2,8 @@
 
 use crate::rows::{written_at, written_by};
 use row_systems::MeetingGate;
+use std::sync::Wait;
+use std::thread::Threads;
 use wpds_base::OutOfMemory;
 
 // Documents with what `check --brief` writes on them.
@@ -53,7 +55,11 @@ query 2: 2
 ];
 
 // The place of the first row on which so many workers write something else, by a direction.
-fn first_wrong(rt: &HostRuntime, by: &str, workers: &str) -> Result<Option<usize>, OutOfMemory> {
+fn first_wrong(
+    rt: &(impl Threads + Wait + Sync + AllocGlobal),
+    by: &str,
+    workers: &str,
+) -> Result<Option<usize>, OutOfMemory> {
     for (place, (document, text)) in ROWS.iter().enumerate() {
         let found = written_by(rt, document.as_bytes(), by, workers)?;
         if found.as_slice() != text.as_bytes() {

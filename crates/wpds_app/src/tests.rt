@@ -1,6 +1,8 @@
 use crate::{Status, run};
 use std::alloc::Global;
+use std::sync::Wait;
 use std::test::Fail;
+use std::thread::Threads;
 use wpds_base::OutOfMemory;
 use wpds_port::{MemSink, MemSource, OpenGate};
 
@@ -14,7 +16,7 @@ const USAGE: &str =
 
 // How a run ends that reads 16 bytes at a time and writes 4, and what it writes.
 fn outcome(
-    rt: &HostRuntime,
+    rt: &(impl Threads + Wait + Sync + AllocGlobal),
     words: &[&str],
     document: &[u8],
     failing_reads: &[u64],
@@ -87,7 +89,10 @@ const REFUSED: [(&str, &str); 4] = [
 ];
 
 // How `check --brief` ends on these lines after those of the names, and what it writes.
-fn brief_outcome(rt: &HostRuntime, rest: &str) -> Result<(Status, Vec<u8>), OutOfMemory> {
+fn brief_outcome(
+    rt: &(impl Threads + Wait + Sync + AllocGlobal),
+    rest: &str,
+) -> Result<(Status, Vec<u8>), OutOfMemory> {
     let head = "wpds 1\nweights reach\ncontrols p q\nsymbols a b\n";
     let document = format!(in rt.alloc(); "{head}{rest}")?;
     outcome(rt, &BRIEF, document.as_bytes(), &[], 100, &[])
