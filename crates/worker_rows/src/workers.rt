@@ -122,7 +122,7 @@ fn one_of_two_finds_no_memory(rt: HostRuntime) -> Result<(), Fail> {
         let book = saturate(&rt, alloc, opened, 2, &gate)?;
         assert!(rt; book.is_closed(), "at {extend} and {combine}");
         assert_eq!(rt; book.takes(), 4, "at {extend} and {combine}");
-        assert_eq!(rt; book.takes_of(0) + book.takes_of(1), 4);
+        assert_eq!(rt; book.takes_of(0).saturating_add(book.takes_of(1)), 4);
         assert_eq!(rt; gate.calls(), 4);
         assert_eq!(rt; book.transitions().len(), 3);
     }
