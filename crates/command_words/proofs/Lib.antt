@@ -1,0 +1,3 @@
+mod OneFault
+mod NumberLemmas
+mod CommandLemmas

@@ -1,0 +1,12 @@
+//! The words of the command line: what they ask the program for.
+#![tactic(auto)]
+
+mod command;
+mod options;
+mod reading;
+
+pub use options::{Generation, Options, Request};
+pub use reading::read_words;
+
+#[cfg(test)]
+mod tests;

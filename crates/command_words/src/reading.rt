@@ -1,0 +1,148 @@
+ghost use Rattle.std.specs.Prelude.{◌≡◌, ◌<◌, ◌≤◌, IfOk, codes, map, option_map, option_and_then};
+ghost use Rattle.std.specs.Option.{option_map_or};
+ghost use Rattle.std.specs.Str.{bytes_eq};
+ghost use Rattle.std.specs.String.{string_bytes};
+ghost use Rattle.clap.specs.Words.{found_of, rows_of, first_of};
+ghost use Rattle.command_words.specs.Commands as meant;
+
+use crate::command::the_command;
+use crate::{Generation, Options, Request};
+use clap::ArgMatches;
+use clap::error::ErrorKind;
+use itoa::Buffer;
+use std::alloc::Global;
+use witness_graph::Side;
+use wpds_base::OutOfMemory;
+
+// The most workers that there may be.
+const MOST_WORKERS: u32 = 64;
+
+// The most rungs that a ladder may have.
+const MOST_RUNGS: u32 = 10_000;
+
+// The number from 1 to the most that a text writes, without a sign or a zero in front.
+fn number_up_to(most: u32, text: &str) -> Option<u32>
+    requires { most ≤ meant.most_rungs }
+    ensures { result ≡ meant.number_up_to most text.now }
+{
+    let Ok(number) = text.parse::<u32>() else {
+        return None;
+    };
+    if number == 0 || number > most {
+        return None;
+    }
+    if Buffer::new().format(number) != text {
+        return None;
+    }
+    Some(number)
+}
+
+fn side_named(text: &str) -> Option<Side>
+    ensures { result ≡ meant.side_named text.now }
+{
+    match text {
+        "pre" => Some(Side::Pre),
+        "post" => Some(Side::Post),
+        _ => None,
+    }
+}
+
+// The value of an argument, if it has one.
+fn given<'a>(matches: &ArgMatches<'a>, id: &str) -> Option<&'a str>
+    ensures { option_map (λ text. text.now) result
+        ≡ first_of id.now (rows_of (found_of matches.now)) }
+{
+    matches.get_str(id)
+}
+
+// How many workers are asked for.
+fn worker_count(matches: &ArgMatches<'_>) -> Option<u32>
+    ensures { result ≡ meant.worker_count (rows_of (found_of matches.now)) }
+{
+    number_up_to(MOST_WORKERS, given(matches, "workers")?)
+}
+
+// Which way the saturation is to go.
+fn direction(matches: &ArgMatches<'_>) -> Option<Side>
+    ensures { result ≡ meant.direction (rows_of (found_of matches.now)) }
+{
+    side_named(given(matches, "by")?)
+}
+
+// Whether the listings are left out.
+fn is_brief(matches: &ArgMatches<'_>) -> bool
+    ensures { result ≡ meant.is_brief (rows_of (found_of matches.now)) }
+{
+    match given(matches, "brief") {
+        Some(text) => text == "true",
+        None => false,
+    }
+}
+
+// What `check` asks for, which takes no size.
+fn checking(matches: &ArgMatches<'_>) -> Option<Request>
+    ensures { result ≡ meant.checking (rows_of (found_of matches.now)) }
+{
+    if given(matches, "size").is_some() {
+        return None;
+    }
+    let by = direction(matches)?;
+    let workers = worker_count(matches)?;
+    let brief = is_brief(matches);
+    Some(Request::Check(Options { brief, by, workers }))
+}
+
+// What `gen` asks for, which needs a size, and has no listing to leave out.
+fn generating(matches: &ArgMatches<'_>) -> Option<Request>
+    ensures { result ≡ meant.generating (rows_of (found_of matches.now)) }
+{
+    if is_brief(matches) {
+        return None;
+    }
+    let rungs = number_up_to(MOST_RUNGS, given(matches, "size")?)?;
+    let by = direction(matches)?;
+    let workers = worker_count(matches)?;
+    Some(Request::Generate(Generation { rungs, by, workers }))
+}
+
+// What is asked for where `clap` gives these matches.
+fn asked(matches: &ArgMatches<'_>) -> Option<Request>
+    ensures { result ≡ meant.asked (rows_of (found_of matches.now)) }
+{
+    match given(matches, "task")? {
+        "check" => checking(matches),
+        "gen" => generating(matches),
+        _ => None,
+    }
+}
+
+// What is asked for where it gives none.
+fn asked_instead(kind: ErrorKind) -> Option<Request>
+    ensures { result ≡ meant.asked_instead kind }
+{
+    match kind {
+        ErrorKind::DisplayHelp => Some(Request::Help),
+        ErrorKind::DisplayVersion => Some(Request::Version),
+        _ => None,
+    }
+}
+
+/// What the words behind the program's name ask for, if they are a command, as `clap` reads them. It
+/// is refused only when out of memory.
+///
+/// The command has a task, `check` or `gen`, and a size, which `gen` needs and `check` does not take. The
+/// options may stand anywhere: `--workers N`, from 1 to 64, `--by pre` or `--by post`, and `--brief`, which
+/// `gen` does not take. A number has no sign and no zero in front. `--help` or `--version` is asked for
+/// where `clap` meets it before a fault.
+pub fn read_words(alloc: Global, words: &[String]) -> Result<Option<Request>, OutOfMemory>
+    ensures { IfOk result (λ r. r ≡ meant.request_of (map string_bytes words.now)) }
+{
+    let command = the_command(alloc)?;
+    match command.try_get_matches_from(words) {
+        Ok(matches) => Ok(asked(&matches)),
+        Err(error) => match error.kind() {
+            ErrorKind::OutOfMemory => Err(OutOfMemory),
+            kind => Ok(asked_instead(kind)),
+        },
+    }
+}
