@@ -1,0 +1,3 @@
+mod NameLemmas
+mod RuleLemmas
+mod LengthLemmas
