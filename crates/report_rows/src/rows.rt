@@ -175,28 +175,3 @@ pub(crate) fn numbered(
     document.push_str(end)?;
     Ok(document)
 }
-
-// Whether a document is accepted whose weights are not built.
-fn is_accepted(
-    rt: &(impl Threads + Wait + Sync + AllocGlobal),
-    head: &str,
-    line: &str,
-) -> Result<bool, OutOfMemory> {
-    let document = format!(in rt.alloc(); "{head}{line}\nquery p: => p:\n")?;
-    writes(rt, document.as_bytes(), "refused: line 0: 14 NotBuilt\n")
-}
-
-/// The number, from 1, of the first of the lines that is not accepted behind the head, whose
-/// weights are not built.
-pub(crate) fn first_not_accepted(
-    rt: &(impl Threads + Wait + Sync + AllocGlobal),
-    head: &str,
-    lines: &str,
-) -> Result<Option<usize>, OutOfMemory> {
-    for (place, line) in lines.lines().enumerate() {
-        if !is_accepted(rt, head, line)? {
-            return Ok(Some(place.saturating_add(1)));
-        }
-    }
-    Ok(None)
-}
