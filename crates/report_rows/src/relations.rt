@@ -1,7 +1,7 @@
 //! Relations between variables: how runs relate old and new values. What stands here as values was worked out by
 //! tools/plain_check.py, from sets of pairs of states.
 
-use crate::rows::{first_wrong, numbered, writes};
+use crate::rows::{first_wrong, lists, numbered, writes};
 use std::sync::Wait;
 use std::thread::Threads;
 use wpds_base::OutOfMemory;
@@ -124,6 +124,80 @@ query 3: relation y' 1 0; y' 0 1; y 2 3; x' 4 0
 #[test]
 fn calls(rt: HostRuntime) -> Result<(), OutOfMemory> {
     assert_eq!(rt; first_wrong(&rt, HEAD, CALLS)?, None);
+    Ok(())
+}
+
+// Ways to free `x`, and what a later assumption leaves of it.
+const FREED: &str = "controls p
+symbols a b c
+variables x
+rule p a -> p b : x := *
+rule p b -> p c : assume !x
+query p: a => p: b
+----
+query 1: relation true
+====
+controls p
+symbols a b c
+variables x
+rule p a -> p b : choose x
+rule p b -> p c : assume !x
+query p: a => p: b
+----
+query 1: relation true
+====
+controls p
+symbols a b c
+variables x
+rule p a -> p b : choose x x
+rule p b -> p c : assume !x
+query p: a => p: c
+----
+query 1: relation x' 1 0
+";
+
+#[test]
+fn either_bit(rt: HostRuntime) -> Result<(), OutOfMemory> {
+    assert_eq!(rt; first_wrong(&rt, HEAD, FREED)?, None);
+    Ok(())
+}
+
+// A callee with two branches that meet where it returns: its `x` comes back, and the caller's `y`.
+const BRANCHES: &str = "wpds 1
+weights relation
+controls p
+symbols a f b
+variables x y
+rule p a -> p f b : choose y return restore y
+rule p f -> p : assume x; y := 0
+rule p f -> p : assume !x; x, y := y, 1
+query p: a => p: b
+query p: b => p: a
+";
+
+// The same by each direction, with the runs that it shows.
+#[test]
+fn listings(rt: HostRuntime) -> Result<(), OutOfMemory> {
+    let backwards = "query 1: relation y' 1 0; y' 0 1; y 2 3; x' 0 4; x 4 5
+  set 0 = rule 2
+  set 1 = set 0 or rule 3
+  set 2 = empty
+  set 3 = rule 1 then set 1 then set 2
+  answer set 3
+query 2: unreachable
+";
+    let forwards = "query 1: relation y' 1 0; y' 0 1; y 2 3; x' 0 4; x 4 5
+  set 0 = empty
+  set 1 = set 0
+  set 2 = rule 1
+  set 3 = set 2 then rule 2
+  set 4 = set 3 or set 2 then rule 3
+  set 5 = set 1 then set 4
+  answer set 5
+query 2: unreachable
+";
+    assert!(rt; lists(&rt, BRANCHES.as_bytes(), "pre", backwards)?);
+    assert!(rt; lists(&rt, BRANCHES.as_bytes(), "post", forwards)?);
     Ok(())
 }
 
