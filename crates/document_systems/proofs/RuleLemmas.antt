@@ -14,7 +14,7 @@ use Rattle.document_forms.specs.declared.document.RuleLine.{RuleLine}
 use Rattle.document_forms.specs.Documents.{Document}
 use Rattle.document_forms.specs.Lawful.{IsRuleLine, IsDocument}
 use Rattle.document_systems.specs.Kinds.{Kind}
-use Rattle.document_systems.specs.Systems.{rule_of, system_of}
+use Rattle.document_systems.specs.Systems.{rule_of, system_of, IsTaken, AreTaken}
 
 module _ {W Map : Type 0} (s : Operations W Map) (plain : FitsMap s s.plain) where
   or_plain : (m : Option Map) → IfSome m (FitsMap s) → FitsMap s (unwrap_or m s.plain)
@@ -35,33 +35,33 @@ module _ {W Map : Type 0} (s : Operations W Map) (plain : FitsMap s s.plain) whe
       go true is = (λ some. eqb-true (length right) 2 is, λ two. refl)
       go false is = (λ some. absurd (true≢false (sym some)), λ two. absurd (true≢false (sym (eq-eqb (length right) 2 two) ∙ is)))
 
-module _ {S W Map : Type 0} (kind : Kind S W Map) (s : S) (plain : FitsMap (kind.operations s) (kind.operations s).plain) (weights : (t : WeightText) → Fits (kind.operations s) (kind.weight s t)) (maps : (t : MapText) → FitsMap (kind.operations s) (kind.map s t)) where
-  written_fits : (m : Option MapText) → IfSome (option_map (kind.map s) m) (FitsMap (kind.operations s))
-  written_fits None = tt
-  written_fits (Some t) = maps t
+module _ {S W Map : Type 0} (kind : Kind S W Map) (s : S) (plain : FitsMap (kind.operations s) (kind.operations s).plain) (weights : (t : WeightText) → kind.takes s t → Fits (kind.operations s) (kind.weight s t)) (maps : (t : MapText) → kind.takes_map s t → FitsMap (kind.operations s) (kind.map s t)) where
+  written_fits : (m : Option MapText) → IfSome m (kind.takes_map s) → IfSome (option_map (kind.map s) m) (FitsMap (kind.operations s))
+  written_fits None taken = tt
+  written_fits (Some t) taken = maps t taken
 
   module _ (line : WeightsLine) (controls symbols items : ℕ) where
-    is_rule : (r : RuleLine) → IsRuleLine line controls symbols items r → IsRule (kind.operations s) controls symbols (rule_of kind s r)
-    is_rule r is = record {
+    is_rule : (r : RuleLine) → IsRuleLine line controls symbols items r → IsTaken kind s r → IsRule (kind.operations s) controls symbols (rule_of kind s r)
+    is_rule r is taken = record {
       control = is.control;
       symbol = is.symbol;
       to = is.to;
       right = is.right;
       fits = record {
-        weight = weights r.weight;
-        map = map_fits (kind.operations s) plain r.right (option_map (kind.map s) r.map) (written_fits r.map);
+        weight = weights r.weight taken.0;
+        map = map_fits (kind.operations s) plain r.right (option_map (kind.map s) r.map) (written_fits r.map taken.1);
         short = is.short;
         pushes = pushes_two (kind.operations s) plain r.right (option_map (kind.map s) r.map);
       };
     }
 
-    are_rules : (rs : List RuleLine) → AllByRecursion (IsRuleLine line controls symbols items) rs → AllByRecursion (IsRule (kind.operations s) controls symbols) (map (rule_of kind s) rs)
-    are_rules [] all = tt
-    are_rules (r ∷ rs) all = (is_rule r all.0, are_rules rs all.1)
+    are_rules : (rs : List RuleLine) → AllByRecursion (IsRuleLine line controls symbols items) rs → AllByRecursion (IsTaken kind s) rs → AllByRecursion (IsRule (kind.operations s) controls symbols) (map (rule_of kind s) rs)
+    are_rules [] all taken = tt
+    are_rules (r ∷ rs) all taken = (is_rule r all.0 taken.0, are_rules rs all.1 taken.1)
 
   -- what a document means is a system
-  pub is_system : (d : Document) → IsDocument d → IsSystem kind.operations (system_of kind s d)
-  is_system d is =
+  pub is_system : (d : Document) → IsDocument d → AreTaken kind s d → IsSystem kind.operations (system_of kind s d)
+  is_system d is taken =
       let controls = length d.controls in
       let symbols = length d.symbols in
       let items = length d.items in
@@ -72,5 +72,5 @@ module _ {S W Map : Type 0} (kind : Kind S W Map) (s : S) (plain : FitsMap (kind
         few = omega (arith, is.few_rules);
         rules =
             All-from_recursion (IsRule (kind.operations s) controls symbols) (map (rule_of kind s) d.rules)
-            (are_rules d.weights controls symbols items d.rules (recursion_from_All (IsRuleLine d.weights controls symbols items) d.rules is.rules));
+            (are_rules d.weights controls symbols items d.rules (recursion_from_All (IsRuleLine d.weights controls symbols items) d.rules is.rules) (recursion_from_All (IsTaken kind s) d.rules taken));
       }

@@ -75,6 +75,8 @@ abbrev pub copy_kind : Kind ℕ CopyW CopyMap
 copy_kind = record {
   operations = copy_operations;
   named = λ _. Unit {0};
+  takes = λ _ _. Unit {0};
+  takes_map = λ _ _. Unit {0};
   weight = copy_weight;
   map = copy_map;
   written = λ _. copy_text;

@@ -57,6 +57,8 @@ abbrev pub genkill_kind : (n : ℕ) → Kind (GenKill n) (GenKillW n) (MaskMap n
 genkill_kind n = record {
   operations = λ _. genkill_operations n;
   named = λ _. Unit {0};
+  takes = λ _ _. Unit {0};
+  takes_map = λ _ _. Unit {0};
   weight = λ _. genkill_weight n;
   map = λ _. genkill_map n;
   written = λ _. genkill_text n;

@@ -9,7 +9,10 @@ pub record Kind (S W Map : Type 0) : Type 1 where
   pub operations : S → Operations W Map
   -- which of them a document can name
   pub named : S → Type 0
-  -- what the weight and the return map of a rule are worth
+  -- which weights and return maps a rule of a document over it may have
+  pub takes : S → WeightText → Type 0
+  pub takes_map : S → MapText → Type 0
+  -- what these are worth
   pub weight : S → WeightText → W
   pub map : S → MapText → Map
   -- the text of a value, by the names of the document's facts or variables

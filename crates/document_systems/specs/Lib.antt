@@ -3,6 +3,8 @@ pub mod CopyWeights
 pub mod FactLaws
 pub mod FactWeights
 pub mod Kinds
+pub mod RelationLaws
+pub mod RelationWeights
 pub mod Systems
 pub mod ValueTexts
 pub mod WeightLaws

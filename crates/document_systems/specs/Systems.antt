@@ -1,10 +1,10 @@
 -- The pushdown system and the patterns that a document means.
-use Rattle.std.specs.Prelude.{ℕ, false, List, [], ◌∷◌, length, map, option_map}
+use Rattle.std.specs.Prelude.{ℕ, false, All, IfSome, List, [], ◌∷◌, length, map, option_map}
 use Rattle.std.specs.List.{range_with_len}
 use Rattle.document_forms.specs.Documents.{Document}
 use Rattle.document_forms.specs.declared.document.RuleLine.{RuleLine}
 use Rattle.document_forms.specs.declared.pattern.SetText.{SetText}
-use Rattle.document_forms.specs.declared.pattern.SetText.TheVariants.{All, Listed}
+use Rattle.document_forms.specs.declared.pattern.SetText.TheVariants.{All as AllSymbols, Listed}
 use Rattle.document_forms.specs.declared.pattern.ItemText.{ItemText}
 use Rattle.document_forms.specs.declared.pattern.PatternText.{PatternText}
 use Rattle.config_patterns.specs.declared.item.Item.{Item}
@@ -34,11 +34,18 @@ module _ {S W Map : Type 0} (kind : Kind S W Map) (semiring : S) where
     rules = map rule_of d.rules;
   }
 
+  -- the weight and the return map of a rule are such as this semiring takes
+  abbrev pub IsTaken : RuleLine → Type 0
+  IsTaken r = kind.takes semiring r.weight × IfSome r.map (kind.takes_map semiring)
+
+  abbrev pub AreTaken : Document → Type 0
+  AreTaken d = All IsTaken d.rules
+
 -- ---- the pattern that a side of a query is, over so many symbols
 
 -- `.` takes all of them
 abbrev pub set_of : ℕ → SetText → List ℕ
-set_of symbols All = range_with_len 0 symbols
+set_of symbols AllSymbols = range_with_len 0 symbols
 set_of symbols (Listed gs) = gs
 
 abbrev pub item_of : ℕ → ItemText → Item

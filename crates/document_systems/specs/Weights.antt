@@ -24,6 +24,8 @@ abbrev pub reach_kind : Kind Reach Bool NoMap
 reach_kind = record {
   operations = λ _. reach_operations;
   named = λ _. Unit {0};
+  takes = λ _ _. Unit {0};
+  takes_map = λ _ _. Unit {0};
   weight = λ _. reach_weight;
   map = λ _ _. Plain;
   written = λ _ _. reach_text;
@@ -48,6 +50,8 @@ abbrev pub cost_kind : Kind ℕ (Option ℕ) NoMap
 cost_kind = record {
   operations = cost_operations;
   named = IsCap;
+  takes = λ _ _. Unit {0};
+  takes_map = λ _ _. Unit {0};
   weight = cost_weight;
   map = λ _ _. Plain;
   written = λ cap _. cost_text cap;

@@ -130,9 +130,9 @@ impl DocumentWeights for CopyConst {
 
     ghost computes = { refl };
 
-    ghost weights_fit = { copy_weights_fit };
+    ghost weights_fit = { λ s t named taken. copy_weights_fit s t named };
 
-    ghost maps_fit = { copy_maps_fit };
+    ghost maps_fit = { λ s t named taken. copy_maps_fit s t named };
 
     ghost tells = { copy_tells };
 

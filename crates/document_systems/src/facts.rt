@@ -93,9 +93,9 @@ impl<const N: usize> DocumentWeights for GenKill<N> {
 
     ghost computes = { refl };
 
-    ghost weights_fit = { λ s. genkill_weights_fit N };
+    ghost weights_fit = { λ s t named taken. genkill_weights_fit N t named };
 
-    ghost maps_fit = { λ s. genkill_maps_fit N };
+    ghost maps_fit = { λ s t named taken. genkill_maps_fit N t named };
 
     ghost tells = { λ s. genkill_tells N };
 

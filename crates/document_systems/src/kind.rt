@@ -23,11 +23,13 @@ pub trait DocumentWeights: Semiring {
 
     /// What the weight of a rule is worth.
     fn weight_of(&self, alloc: Global, text: &WeightText) -> Result<Self::W, OutOfMemory>
+        requires { kind.takes self.now text.now }
         ensures value { IfOk result (λ w. w ≡ kind.weight self.now text.now) }
         ensures fits { IfOk result (λ w. Fits (Self.operations self.now) w) };
 
     /// What the return map of a rule is worth.
     fn map_of(&self, alloc: Global, text: &MapText) -> Result<Self::Ret, OutOfMemory>
+        requires { kind.takes_map self.now text.now }
         ensures value { IfOk result (λ m. m ≡ kind.map self.now text.now) }
         ensures fits { IfOk result (λ m. FitsMap (Self.operations self.now) m) };
 
@@ -40,11 +42,11 @@ pub trait DocumentWeights: Semiring {
 
     /// The weight of a rule fits.
     ghost weights_fit: { (s : Self) (t : WeightTextValue)
-        → kind.named s → Fits (kind.operations s) (kind.weight s t) };
+        → kind.named s → kind.takes s t → Fits (kind.operations s) (kind.weight s t) };
 
     /// The return map of a rule fits.
     ghost maps_fit: { (s : Self) (t : MapTextValue)
-        → kind.named s → FitsMap (kind.operations s) (kind.map s t) };
+        → kind.named s → kind.takes_map s t → FitsMap (kind.operations s) (kind.map s t) };
 
     /// The text of a value tells the value.
     ghost tells: { (s : Self) (items : List (List ℕ)) (v w : Self.W)
@@ -62,9 +64,9 @@ impl DocumentWeights for Reach {
 
     ghost computes = { refl };
 
-    ghost weights_fit = { λ s. reach_weights_fit };
+    ghost weights_fit = { λ s t named taken. reach_weights_fit t named };
 
-    ghost maps_fit = { λ s t named. refl };
+    ghost maps_fit = { λ s t named taken. refl };
 
     ghost tells = { λ s items. reach_tells };
 
@@ -92,9 +94,9 @@ impl DocumentWeights for Cost {
 
     ghost computes = { refl };
 
-    ghost weights_fit = { cost_weights_fit };
+    ghost weights_fit = { λ s t named taken. cost_weights_fit s t named };
 
-    ghost maps_fit = { λ s t named. refl };
+    ghost maps_fit = { λ s t named taken. refl };
 
     ghost tells = { λ s items. cost_tells s };
 

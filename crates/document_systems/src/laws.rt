@@ -5,7 +5,7 @@ ghost use Rattle.pushdown_rules.specs.Pushdown.{IsSystem};
 ghost use Rattle.config_patterns.specs.Membership.{has_member};
 ghost use Rattle.document_forms.specs.Documents.{Document};
 ghost use Rattle.document_forms.specs.Lawful.{IsDocument};
-ghost use Rattle.document_systems.specs.Systems.{as_pattern, pattern_of, system_of};
+ghost use Rattle.document_systems.specs.Systems.{as_pattern, pattern_of, system_of, AreTaken};
 
 use crate::DocumentWeights;
 
@@ -21,8 +21,8 @@ pub fn unreachable_is_zero<S: DocumentWeights>()
         → (S.kind.written s items v ≡ codes "unreachable") ↔ (v ≡ (S.operations s).zero) }
 {}
 
-/// What a document means is a system, over each semiring that a document can name.
+/// What a document means is a system, over each semiring that a document can name and that takes its rules.
 pub fn documents_are_systems<S: DocumentWeights>()
-    ensures { (s : S) (d : Document) → S.kind.named s → IsDocument d
+    ensures { (s : S) (d : Document) → S.kind.named s → IsDocument d → AreTaken S.kind s d
         → IsSystem S.operations (system_of S.kind s d) }
 {}

@@ -6,6 +6,7 @@ mod facts;
 mod kind;
 mod laws;
 mod pattern;
+mod relations;
 mod row;
 mod system;
 

@@ -2,7 +2,7 @@ ghost use Rattle.std.specs.Prelude.{◌≡◌, ◌++◌, ◌∷◌, [], IfOk, On
 ghost use Rattle.semiring_laws.specs.Semiring.{FitsMap};
 ghost use Rattle.pushdown_rules.specs.Fault.{rule_fault};
 ghost use Rattle.document_forms.specs.Lawful.{IsDocument};
-ghost use Rattle.document_systems.specs.Systems.{rule_of, system_of};
+ghost use Rattle.document_systems.specs.Systems.{rule_of, system_of, IsTaken, AreTaken};
 
 use crate::{DocumentWeights, Names};
 use document_forms::{Document, MapText, RuleLine};
@@ -16,6 +16,7 @@ fn map_from<S: DocumentWeights>(
     semiring: &S,
     text: &Option<MapText>,
 ) -> Result<Option<S::Ret>, OutOfMemory>
+    requires { IfSome text.now (S.kind.takes_map semiring.now) }
     ensures value { IfOk result (λ m. m ≡ option_map (S.kind.map semiring.now) text.now) }
     ensures fits { IfOk result (λ m. IfSome m (FitsMap (S.operations semiring.now))) }
 {
@@ -31,7 +32,8 @@ fn add_line<S: DocumentWeights>(
     system: &mut System<S>,
     line: &RuleLine,
 ) -> Result<(), OutOfMemory>
-    requires { let r = line.now in
+    requires taken { IsTaken S.kind system.old.semiring line.now }
+    requires accepted { let r = line.now in
         rule_fault system.old r.control r.symbol r.to r.right (is_some r.map) ≡ None }
     ensures { let rule = rule_of S.kind system.old.semiring line.now in
         OnOk result (system.new ≡ record system.old { rules = system.old.rules ++ rule ∷ [] }) }
@@ -54,13 +56,14 @@ fn add_line<S: DocumentWeights>(
     }
 }
 
-/// The system of a document's rules, over a semiring.
+/// The system of a document's rules, over a semiring that takes them.
 pub fn system_from<S: DocumentWeights>(
     alloc: Global,
     semiring: S,
     document: &Document<Names>,
 ) -> Result<System<S>, OutOfMemory>
-    requires { IsDocument document.now }
+    requires document { IsDocument document.now }
+    requires taken { AreTaken S.kind semiring document.now }
     ensures { IfOk result (λ s. s ≡ system_of S.kind semiring document.now) }
 {
     let controls = document.controls.len() as u32;

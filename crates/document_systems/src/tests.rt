@@ -5,6 +5,7 @@ use document_forms::{
     FactSign, FactSigns, FormText, FormTexts, MapText, Moves, Numbers, VariableForm, WeightText,
 };
 use genkill_weights::GenKill;
+use relation_weights::Relations;
 use semiring_laws::{NoMap, Reach};
 use std::alloc::Global;
 use std::test::Fail;
@@ -37,7 +38,9 @@ fn worth<S: DocumentWeights>(
     semiring: &S,
     alloc: Global,
     text: &WeightText,
-) -> Result<S::W, OutOfMemory> {
+) -> Result<S::W, OutOfMemory>
+    requires { S.kind.takes semiring.now text.now }
+{
     semiring.weight_of(alloc, text)
 }
 
@@ -65,7 +68,9 @@ fn map_worth<S: DocumentWeights>(
     semiring: &S,
     alloc: Global,
     text: &MapText,
-) -> Result<S::Ret, OutOfMemory> {
+) -> Result<S::Ret, OutOfMemory>
+    requires { S.kind.takes_map semiring.now text.now }
+{
     semiring.map_of(alloc, text)
 }
 
@@ -179,5 +184,30 @@ fn weights_over_variables(rt: HostRuntime) -> Result<(), Fail> {
         moves: Moves::from_vec(Vec::new(alloc)),
     };
     assert_eq!(rt; map_worth(&semiring, alloc, &map)?, semiring.restore(&[2]));
+    Ok(())
+}
+
+// What is written of the weight of a rule without one.
+fn neutral_text(
+    semiring: &Relations,
+    alloc: Global,
+    variables: &[&str],
+) -> Result<Text, OutOfMemory> {
+    let weight = worth(semiring, alloc, &WeightText::One)?;
+    semiring.text_of(alloc, &names(alloc, variables)?, &weight)
+}
+
+#[test]
+fn relations_between_variables(rt: HostRuntime) -> Result<(), Fail> {
+    let alloc = rt.alloc();
+    let two = Relations::new(2);
+    let text = neutral_text(&two, alloc, &["y", "x"])?;
+    let identity = b"relation x' 1 0; x' 0 1; x 2 3; y' 4 0; y' 0 4; y 5 6";
+    assert_eq!(rt; text.as_bytes(), identity.as_slice());
+    let text = neutral_text(&Relations::new(0), alloc, &[])?;
+    assert_eq!(rt; text.as_bytes(), b"relation true".as_slice());
+    let none = worth(&two, alloc, &WeightText::Zero)?;
+    let text = two.text_of(alloc, &names(alloc, &["y", "x"])?, &none)?;
+    assert_eq!(rt; text.as_bytes(), b"unreachable".as_slice());
     Ok(())
 }

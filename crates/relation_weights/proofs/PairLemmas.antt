@@ -1,16 +1,14 @@
 -- Weights as sets of pairs, and the bits that actions read.
 use Rattle.std.proofs.Common.{◌≡◌, ℕ, ◌<◌, ◌↔◌, Bool, not, ◌&&◌, ◌||◌, List, [], ◌∷◌, refl, sym, ap, ap₂, ◌∙◌, subst}
-use Rattle.std.specs.Prelude.{IsTrue, nat_eq, nat_lt, cond}
+use Rattle.std.specs.Prelude.{IsTrue, nat_eq, nat_lt, cond, Option, None, Some}
 use Rattle.std.proofs.lemmas.Bool.{and_parts, ltb-true}
 use Rattle.truth_tables.specs.Tables.{value2_of, value3_of}
-use Rattle.truth_tables.specs.Formulas.{Formula, Constant, Variable, Opposite, Binary, Ternary, formula, is_over}
+use Rattle.truth_tables.specs.Formulas.{Formula, Constant, Variable, Opposite, Binary, Ternary, is_over}
 use Rattle.diagram_ops.specs.Quantifying.{is_listed}
 use Rattle.relation_laws.specs.Building.{Parts}
 use Rattle.relation_laws.specs.States.{AgreeBelow, same_bit, each_below}
 use Rattle.relation_laws.specs.Relations.{ReadsPairs, leads, relation_of, returned}
 use Rattle.relation_laws.proofs.CallerLemmas.{same_bit_is, same_bit_itself, each_same, each_gives, each_from, identity_reads, FitsIn, ReadsSource, stay, extended, leads_stay, extended_gives, extended_from, back_gives, back_from}
-use Rattle.relation_weights.specs.declared.actions.Value.{Value}
-use Rattle.relation_weights.specs.declared.actions.Value.TheVariants.{Free, Is}
 use Rattle.relation_weights.specs.Actions.{value_in, assumed, allows, becomes, assigned, frame_pairs, IsValueOver, AreTargets}
 
 -- ---- equal bits
@@ -61,15 +59,15 @@ pub frame_reads : (n : ℕ) (freed : List ℕ) → ReadsPairs n (frame_pairs n f
 frame_reads n freed x y x' y' a b = each_same n (λ k. is_listed freed k || same_bit (x k) (y k)) (λ k. is_listed freed k || same_bit (x' k) (y' k)) (λ k below.
     ap₂ (λ s t. is_listed freed k || same_bit s t) (a k below) (b k below))
 
-allows_reads : (n : ℕ) (v : Value) → IsValueOver n v → (x x' : ℕ → Bool) → AgreeBelow n x x' → (b : Bool) → allows v x b ≡ allows v x' b
-allows_reads n Free over x x' same b = refl
-allows_reads n (Is e) over x x' same b = ap (same_bit b) (value_reads n (formula e) over x x' same)
+allows_reads : (n : ℕ) (v : Option (Formula ℕ)) → IsValueOver n v → (x x' : ℕ → Bool) → AgreeBelow n x x' → (b : Bool) → allows v x b ≡ allows v x' b
+allows_reads n None over x x' same b = refl
+allows_reads n (Some f) over x x' same b = ap (same_bit b) (value_reads n f over x x' same)
 
-becomes_reads : (n : ℕ) (ts : List (ℕ × Value)) → AreTargets n ts → (x x' : ℕ → Bool) → AgreeBelow n x x' → (k : ℕ) → k < n → (b : Bool) → becomes ts k x b ≡ becomes ts k x' b
+becomes_reads : (n : ℕ) (ts : List (ℕ × Option (Formula ℕ))) → AreTargets n ts → (x x' : ℕ → Bool) → AgreeBelow n x x' → (k : ℕ) → k < n → (b : Bool) → becomes ts k x b ≡ becomes ts k x' b
 becomes_reads n [] all x x' same k below b = ap (λ s. same_bit s b) (same k below)
 becomes_reads n (t ∷ ts) all x x' same k below b =
     ap₂ (cond (nat_eq t.0 k)) (allows_reads n t.1 all.1 x x' same b) (becomes_reads n ts all.3 x x' same k below b)
 
-pub assigned_reads : (n : ℕ) (ts : List (ℕ × Value)) → AreTargets n ts → ReadsPairs n (assigned n ts)
+pub assigned_reads : (n : ℕ) (ts : List (ℕ × Option (Formula ℕ))) → AreTargets n ts → ReadsPairs n (assigned n ts)
 assigned_reads n ts all x y x' y' a b = each_same n (λ k. becomes ts k x (y k)) (λ k. becomes ts k x' (y' k)) (λ k below.
     becomes_reads n ts all x x' a k below (y k) ∙ ap (becomes ts k x') (b k below))

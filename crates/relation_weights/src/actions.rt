@@ -1,4 +1,4 @@
-ghost use Rattle.std.specs.Prelude.{◌≡◌, ◌≤◌, ◌<◌, ◌*◌, ◌&&◌, IsTrue, IfOk};
+ghost use Rattle.std.specs.Prelude.{◌≡◌, ◌≤◌, ◌<◌, ◌*◌, ◌&&◌, IsTrue, IfOk, None, Some};
 ghost use Rattle.diagram_store.specs.Diagrams.{IsOver};
 ghost use Rattle.diagram_ops.specs.Relations.{relates};
 ghost use Rattle.truth_tables.specs.Formulas.{formula, is_over};
@@ -13,16 +13,46 @@ use crate::frames::frame;
 use diagram_ops::{apply_table2, apply_table3};
 use diagram_store::Diagram;
 use std::alloc::Global;
+use std::marker::Model;
 use truth_tables::Expr;
 use wpds_base::OutOfMemory;
 
-/// What a target of an assignment becomes.
+/// What a target of an assignment becomes. Contracts see the formula of an expression, and nothing where it may be either
+/// bit.
 #[derive(Debug, Drop)]
-pub enum Value {
+pub struct Value {
+    expression: Option<Expr>,
+}
+
+impl Model for Value {
+    ghost use Rattle.std.specs.Prelude.{ℕ, Option, option_map};
+    ghost use Rattle.std.specs.Coded.{coded_option};
+    ghost use Rattle.truth_tables.specs.Formulas.{Formula, formula};
+    ghost use Rattle.truth_tables.specs.FormulaCodes.{coded_formula};
+
+    ghost Value = { Option (Formula ℕ) };
+
+    ghost coded = { coded_option coded_formula };
+
+    ghost view = { λ v. option_map formula v.expression };
+}
+
+impl Value {
     /// Either bit.
-    Free,
+    pub fn free() -> Value
+        ensures { result ≡ None }
+    {
+        Value { expression: None }
+    }
+
     /// The value of an expression in the old state.
-    Is(Expr),
+    pub fn of(e: Expr) -> Value
+        ensures { result ≡ Some (formula e) }
+    {
+        Value {
+            expression: Some(e),
+        }
+    }
 }
 
 // The tables of conjunction, and of a first place where the two others are equal.
@@ -86,9 +116,9 @@ fn with_target(
         relates made x y && allows target.now.1 x (y target.now.0))) }
     ensures variables { IfOk result (λ d. IsOver (2 * n) d) }
 {
-    match &target.1 {
-        Value::Free => Ok(made),
-        Value::Is(e) => {
+    match &target.1.expression {
+        None => Ok(made),
+        Some(e) => {
             let old = of_expression(alloc, n, e)?;
             let new = new_bit(alloc, n, target.0)?;
             apply_table3(alloc, AND_SAME, &made, &new, &old)

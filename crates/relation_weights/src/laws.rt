@@ -1,10 +1,9 @@
-ghost use Rattle.std.specs.Prelude.{◌≡◌, ◌↔◌, ◌<◌, ◌||◌, ℕ, Bool, false, List, IsTrue};
+ghost use Rattle.std.specs.Prelude.{◌≡◌, ◌↔◌, ◌<◌, ◌||◌, ℕ, Bool, false, List, Option, IsTrue};
 ghost use Rattle.semiring_laws.specs.Semiring.{Fits, FitsMap};
 ghost use Rattle.truth_tables.specs.Formulas.{Formula, is_over};
 ghost use Rattle.relation_laws.specs.Building.{Parts};
 ghost use Rattle.relation_laws.specs.States.{AgreeBelow};
 ghost use Rattle.relation_laws.specs.Relations.{leads, relation_of};
-ghost use Rattle.relation_weights.specs.declared.actions.Value.{Value};
 ghost use Rattle.relation_weights.specs.declared.rel_map.Slot.{Slot};
 ghost use Rattle.relation_weights.specs.declared.rel_map.RelMap.TheVariants.{Slots};
 ghost use Rattle.relation_weights.specs.Actions.{assigned, assumed, frame_pairs, AreTargets};
@@ -34,7 +33,7 @@ pub fn weights_are_sets_of_pairs()
 
 /// The relations that actions are lead where the actions allow it.
 pub fn actions_are_sets_of_pairs()
-    ensures assign { (n : ℕ) (targets : List (ℕ × Value)) → AreTargets n targets →
+    ensures assign { (n : ℕ) (targets : List (ℕ × Option (Formula ℕ))) → AreTargets n targets →
         (x y : ℕ → Bool) → let pairs = assigned n targets in
         leads (relation_of n pairs) x y ≡ pairs x y }
     ensures assume { (n : ℕ) (f : Formula ℕ) → IsTrue (is_over n f) →

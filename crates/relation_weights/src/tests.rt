@@ -150,12 +150,12 @@ fn three(alloc: Global, table: u8) -> Result<Expr, OutOfMemory>
 #[test]
 fn one_target(rt: HostRuntime) -> Result<(), Fail> {
     let alloc = rt.alloc();
-    let copied = [(0, Value::Is(variable(1)))];
+    let copied = [(0, Value::of(variable(1)))];
     check_assigned(&rt, alloc, &copied, " 0 0 3 3 4 4 7 7")?;
     let inverted = not(alloc, variable(0))?;
-    let inverse = [(0, Value::Is(inverted))];
+    let inverse = [(0, Value::of(inverted))];
     check_assigned(&rt, alloc, &inverse, " 1 0 3 2 5 4 7 6")?;
-    let free = [(0, Value::Free)];
+    let free = [(0, Value::free())];
     check_assigned(&rt, alloc, &free, " 01 01 23 23 45 45 67 67")?;
     check_assigned(&rt, alloc, &[], IDENTITY)
 }
@@ -164,12 +164,12 @@ fn one_target(rt: HostRuntime) -> Result<(), Fail> {
 #[test]
 fn targets_that_exchange(rt: HostRuntime) -> Result<(), Fail> {
     let alloc = rt.alloc();
-    let two = [(0, Value::Is(variable(1))), (1, Value::Is(variable(0)))];
+    let two = [(0, Value::of(variable(1))), (1, Value::of(variable(0)))];
     check_assigned(&rt, alloc, &two, " 0 2 1 3 4 6 5 7")?;
     let three = [
-        (0, Value::Is(variable(1))),
-        (1, Value::Is(variable(2))),
-        (2, Value::Is(variable(0))),
+        (0, Value::of(variable(1))),
+        (1, Value::of(variable(2))),
+        (2, Value::of(variable(0))),
     ];
     check_assigned(&rt, alloc, &three, " 0 4 1 5 2 6 3 7")
 }
@@ -179,10 +179,10 @@ fn targets_that_exchange(rt: HostRuntime) -> Result<(), Fail> {
 fn targets_by_operators(rt: HostRuntime) -> Result<(), Fail> {
     let alloc = rt.alloc();
     let conjunction = two(alloc, 8, 0, 1)?;
-    let both = [(0, Value::Is(conjunction)), (1, Value::Free)];
+    let both = [(0, Value::of(conjunction)), (1, Value::free())];
     check_assigned(&rt, alloc, &both, " 02 02 02 13 46 46 46 57")?;
     let choice = three(alloc, 202)?;
-    let chosen = [(2, Value::Is(choice))];
+    let chosen = [(2, Value::of(choice))];
     check_assigned(&rt, alloc, &chosen, " 0 1 2 7 4 1 6 7")
 }
 
@@ -242,7 +242,7 @@ fn answers_for<S: Semiring>(
 fn operations(rt: HostRuntime) -> Result<(), Fail> {
     let alloc = rt.alloc();
     let relations = Relations::new(3);
-    let first = relations.assign(alloc, &[(0, Value::Is(variable(1)))])?;
+    let first = relations.assign(alloc, &[(0, Value::of(variable(1)))])?;
     let second = relations.choose(alloc, &[1])?;
     let answers = answers_for(&relations, alloc, &RelMap::Plain, &first, &second)?;
     check_pairs(
@@ -261,7 +261,7 @@ fn operations_in_the_other_order(rt: HostRuntime) -> Result<(), Fail> {
     let alloc = rt.alloc();
     let relations = Relations::new(3);
     let first = relations.choose(alloc, &[1])?;
-    let second = relations.assign(alloc, &[(0, Value::Is(variable(1)))])?;
+    let second = relations.assign(alloc, &[(0, Value::of(variable(1)))])?;
     let answers = answers_for(&relations, alloc, &RelMap::Plain, &first, &second)?;
     check_pairs(&rt, alloc, &answers.extended, " 03 03 03 03 47 47 47 47")
 }
@@ -274,7 +274,7 @@ fn inverted_and_set(alloc: Global, relations: &Relations) -> Result<Relation, Ou
     let inverted = not(alloc, variable(0))?;
     relations.assign(
         alloc,
-        &[(0, Value::Is(inverted)), (2, Value::Is(Expr::Const(true)))],
+        &[(0, Value::of(inverted)), (2, Value::of(Expr::Const(true)))],
     )
 }
 
@@ -348,9 +348,9 @@ fn thirty_actions(rt: HostRuntime) -> Result<(), Fail> {
     let second = two(alloc, 6, 0, 1)?;
     let third = three(alloc, 106)?;
     let counted = [
-        (0, Value::Is(first)),
-        (1, Value::Is(second)),
-        (2, Value::Is(third)),
+        (0, Value::of(first)),
+        (1, Value::of(second)),
+        (2, Value::of(third)),
     ];
     let once = relations.assign(alloc, &counted)?;
     check_pairs(&rt, alloc, &once, " 1 2 3 4 5 6 7 0")?;

@@ -18,9 +18,9 @@ mod lowest;
 #[cfg(test)]
 mod names;
 #[cfg(test)]
-mod other_weights;
-#[cfg(test)]
 mod patterns;
+#[cfg(test)]
+mod relations;
 #[cfg(test)]
 mod rows;
 #[cfg(test)]

@@ -39,8 +39,19 @@ pub(crate) fn written_at<G: Gate>(
     workers: &str,
     gate: &G,
 ) -> Result<Vec<u8>, OutOfMemory> {
+    let words = ["check", "--brief", "--by", by, "--workers", workers];
+    written_on(rt, &words, document, gate)
+}
+
+// What a run on these words writes on a document.
+fn written_on<G: Gate>(
+    rt: &(impl Threads + Wait + Sync + AllocGlobal),
+    line: &[&str],
+    document: &[u8],
+    gate: &G,
+) -> Result<Vec<u8>, OutOfMemory> {
     let mut words = Vec::new(rt.alloc());
-    for word in ["check", "--brief", "--by", by, "--workers", workers] {
+    for word in line {
         words.push(String::from_str(rt.alloc(), word)?)?;
     }
     let mut source = MemSource::new(document.to_vec(rt.alloc())?, PIECE, Vec::new(rt.alloc()));
@@ -58,6 +69,17 @@ pub(crate) fn writes(
     let backwards = written_by(rt, document, "pre", "1")?;
     let forwards = written_by(rt, document, "post", "1")?;
     Ok(backwards.as_slice() == text.as_bytes() && forwards.as_slice() == text.as_bytes())
+}
+
+/// Whether `check` writes this text on a document by a direction, `pre` or `post`: values and listings.
+pub(crate) fn lists(
+    rt: &(impl Threads + Wait + Sync + AllocGlobal),
+    document: &[u8],
+    by: &str,
+    text: &str,
+) -> Result<bool, OutOfMemory> {
+    let written = written_on(rt, &["check", "--by", by], document, &OpenGate)?;
+    Ok(written.as_slice() == text.as_bytes())
 }
 
 // Whether a row says what is written.
@@ -174,29 +196,4 @@ pub(crate) fn numbered(
     }
     document.push_str(end)?;
     Ok(document)
-}
-
-// Whether a document is accepted whose weights are not built.
-fn is_accepted(
-    rt: &(impl Threads + Wait + Sync + AllocGlobal),
-    head: &str,
-    line: &str,
-) -> Result<bool, OutOfMemory> {
-    let document = format!(in rt.alloc(); "{head}{line}\nquery p: => p:\n")?;
-    writes(rt, document.as_bytes(), "refused: line 0: 14 NotBuilt\n")
-}
-
-/// The number, from 1, of the first of the lines that is not accepted behind the head, whose
-/// weights are not built.
-pub(crate) fn first_not_accepted(
-    rt: &(impl Threads + Wait + Sync + AllocGlobal),
-    head: &str,
-    lines: &str,
-) -> Result<Option<usize>, OutOfMemory> {
-    for (place, line) in lines.lines().enumerate() {
-        if !is_accepted(rt, head, line)? {
-            return Ok(Some(place.saturating_add(1)));
-        }
-    }
-    Ok(None)
 }

@@ -1,6 +1,6 @@
 //! Lines of rules: their form, weights, expressions and return maps.
 
-use crate::rows::{first_not_accepted, first_wrong_refusal, first_wrong_value};
+use crate::rows::{first_wrong_refusal, first_wrong_value};
 use wpds_base::OutOfMemory;
 
 const REACH: &str = "wpds 1\nweights reach\ncontrols p\nsymbols a b\n";
@@ -327,25 +327,28 @@ fn expressions(rt: HostRuntime) -> Result<(), OutOfMemory> {
     Ok(())
 }
 
-const ACTIONS_ACCEPTED: &str = "rule p a -> p : assume x
-rule p a -> p : assume 0
-rule p a -> p:assume!x=y!=z=>x|y^z&1
-rule p a -> p : assume x => y => z = x != y = z
-rule p a -> p : assume !!(!x)
-rule p a -> p : assume tab2 0 (x, y) & tab2 15 (x, y) | tab3 0 (x, y, z) ^ tab3 255 (x, y, z)
-rule p a -> p : assume tab2 8 ( x , tab3 202 ( 0 , 1 , ( z ) ) )
-rule p a -> p : choose x y z
-rule p a -> p : choose x x
-rule p a -> p : x := *
-rule p a -> p : x, y, z := *, y => z, tab3 7 (x, y, z)
-rule p a -> p : x := y; y := z; choose x; assume x = y; z := *
-rule p a -> p : x, y := y, x
-rule p a -> p : none
-rule p a -> p : one";
+// Values were worked out by tools/plain_check.py, from sets of pairs of states.
+const ACTION_VALUES: &str = "relation z' 1 0; z' 0 1; z 2 3; y' 4 0; y' 0 4; y 5 6; x' 0 7; x 0 8 | rule p a -> p : assume x
+unreachable | rule p a -> p : assume 0
+relation z' 1 0; z' 0 1; z 2 3; y' 4 0; y' 0 4; y 5 6; x' 7 0; x' 0 7; x 8 9 | rule p a -> p:assume!x=y!=z=>x|y^z&1
+relation z' 1 0; z' 0 1; z 2 3; y' 4 0; y' 0 4; y 5 6; x' 7 0; y 5 0; x' 0 9; x 8 10 | rule p a -> p : assume x => y => z = x != y = z
+relation z' 1 0; z' 0 1; z 2 3; y' 4 0; y' 0 4; y 5 6; x' 7 0; x 8 0 | rule p a -> p : assume !!(!x)
+relation z' 1 0; z' 0 1; z 2 3; y' 4 0; y' 0 4; y 5 6; x' 7 0; x' 0 7; x 8 9 | rule p a -> p : assume tab2 0 (x, y) & tab2 15 (x, y) | tab3 0 (x, y, z) ^ tab3 255 (x, y, z)
+relation z' 0 1; z 0 2; y' 3 0; y' 0 3; y 4 5; x' 0 6; x 0 7 | rule p a -> p : assume tab2 8 ( x , tab3 202 ( 0 , 1 , ( z ) ) )
+relation true | rule p a -> p : choose x y z
+relation z' 1 0; z' 0 1; z 2 3; y' 4 0; y' 0 4; y 5 6 | rule p a -> p : choose x x
+relation z' 1 0; z' 0 1; z 2 3; y' 4 0; y' 0 4; y 5 6 | rule p a -> p : x := *
+relation z' 0 1; y' 0 2; z 2 0; z' 1 0; z 0 5; y' 4 6; y 3 7; y' 0 5; z 5 0; y' 10 6; y 9 11; x 8 12 | rule p a -> p : x, y, z := *, y => z, tab3 7 (x, y, z)
+relation z 1 0; y' 2 0; z 0 1; y' 0 4; x' 3 5 | rule p a -> p : x := y; y := z; choose x; assume x = y; z := *
+relation z' 1 0; z' 0 1; z 2 3; y' 4 0; y 5 0; y 0 5; x' 6 7; y' 0 4; y 9 0; y 0 9; x' 10 11; x 8 12 | rule p a -> p : x, y := y, x
+unreachable | rule p a -> p : none
+relation z' 1 0; z' 0 1; z 2 3; y' 4 0; y' 0 4; y 5 6; x' 7 0; x' 0 7; x 8 9 | rule p a -> p : one
+";
 
 #[test]
 fn actions_that_are_accepted(rt: HostRuntime) -> Result<(), OutOfMemory> {
-    assert_eq!(rt; first_not_accepted(&rt, RELATIONS, ACTIONS_ACCEPTED)?, None);
+    let wrong = first_wrong_value(&rt, RELATIONS, "p: a => p:", ACTION_VALUES)?;
+    assert_eq!(rt; wrong, None);
     Ok(())
 }
 
@@ -371,17 +374,19 @@ fn deep_expressions(rt: HostRuntime) -> Result<(), OutOfMemory> {
 }
 
 const DEEPEST: &str =
-    "rule p a -> p : assume (((((((((((((((((((((((((((((((((((((((((((((((((((((((((((((((x)))))))))))))))))))))))))))))))))))))))))))))))))))))))))))))))
-rule p a -> p : assume !!!!!!!!!!!!!!!!!!!!!!!!!!!!!!!!!!!!!!!!!!!!!!!!!!!!!!!!!!!!!!!x
-rule p a -> p : x := tab2 8 (tab2 8 (tab2 8 (tab2 8 (tab2 8 (tab2 8 (tab2 8 (tab2 8 (tab2 8 (tab2 8 (tab2 8 (tab2 8 (tab2 8 (tab2 8 (tab2 8 (tab2 8 (tab2 8 (tab2 8 (tab2 8 (tab2 8 (tab2 8 (tab2 8 (tab2 8 (tab2 8 (tab2 8 (tab2 8 (tab2 8 (tab2 8 (tab2 8 (tab2 8 (tab2 8 (tab2 8 (tab2 8 (tab2 8 (tab2 8 (tab2 8 (tab2 8 (tab2 8 (tab2 8 (tab2 8 (tab2 8 (tab2 8 (tab2 8 (tab2 8 (tab2 8 (tab2 8 (tab2 8 (tab2 8 (tab2 8 (tab2 8 (tab2 8 (tab2 8 (tab2 8 (tab2 8 (tab2 8 (tab2 8 (tab2 8 (tab2 8 (tab2 8 (tab2 8 (tab2 8 (tab2 8 (tab2 8 (x, y), y), y), y), y), y), y), y), y), y), y), y), y), y), y), y), y), y), y), y), y), y), y), y), y), y), y), y), y), y), y), y), y), y), y), y), y), y), y), y), y), y), y), y), y), y), y), y), y), y), y), y), y), y), y), y), y), y), y), y), y), y), y)
-rule p a -> p : assume tab3 202 (y, tab3 202 (y, tab3 202 (y, tab3 202 (y, tab3 202 (y, tab3 202 (y, tab3 202 (y, tab3 202 (y, tab3 202 (y, tab3 202 (y, tab3 202 (y, tab3 202 (y, tab3 202 (y, tab3 202 (y, tab3 202 (y, tab3 202 (y, tab3 202 (y, tab3 202 (y, tab3 202 (y, tab3 202 (y, tab3 202 (y, tab3 202 (y, tab3 202 (y, tab3 202 (y, tab3 202 (y, tab3 202 (y, tab3 202 (y, tab3 202 (y, tab3 202 (y, tab3 202 (y, tab3 202 (y, tab3 202 (y, tab3 202 (y, tab3 202 (y, tab3 202 (y, tab3 202 (y, tab3 202 (y, tab3 202 (y, tab3 202 (y, tab3 202 (y, tab3 202 (y, tab3 202 (y, tab3 202 (y, tab3 202 (y, tab3 202 (y, tab3 202 (y, tab3 202 (y, tab3 202 (y, tab3 202 (y, tab3 202 (y, tab3 202 (y, tab3 202 (y, tab3 202 (y, tab3 202 (y, tab3 202 (y, tab3 202 (y, tab3 202 (y, tab3 202 (y, tab3 202 (y, tab3 202 (y, tab3 202 (y, tab3 202 (y, tab3 202 (y, x, z), z), z), z), z), z), z), z), z), z), z), z), z), z), z), z), z), z), z), z), z), z), z), z), z), z), z), z), z), z), z), z), z), z), z), z), z), z), z), z), z), z), z), z), z), z), z), z), z), z), z), z), z), z), z), z), z), z), z), z), z), z), z)
-rule p a -> p : assume x & x & x & x & x & x & x & x & x & x & x & x & x & x & x & x & x & x & x & x & x & x & x & x & x & x & x & x & x & x & x & x & x & x & x & x & x & x & x & x & x & x & x & x & x & x & x & x & x & x & x & x & x & x & x & x & x & x & x & x & x & x & x & x
-rule p a -> p : assume x => x => x => x => x => x => x => x => x => x => x => x => x => x => x => x => x => x => x => x => x => x => x => x => x => x => x => x => x => x => x => x => x => x => x => x => x => x => x => x => x => x => x => x => x => x => x => x => x => x => x => x => x => x => x => x => x => x => x => x => x => x => x => x
-rule p a -> p : choose x; x, y := *, x = y != y = y != y = y != y = y != y = y != y = y != y = y != y = y != y = y != y = y != y = y != y = y != y = y != y = y != y = y != y = y != y = y != y = y != y = y != y = y != y = y != y = y != y = y != y = y != y = y != y = y != y = y != y = y != y = y != y = y != y = y != y = y";
+    "relation z' 1 0; z' 0 1; z 2 3; y' 4 0; y' 0 4; y 5 6; x' 0 7; x 0 8 | rule p a -> p : assume (((((((((((((((((((((((((((((((((((((((((((((((((((((((((((((((x)))))))))))))))))))))))))))))))))))))))))))))))))))))))))))))))
+relation z' 1 0; z' 0 1; z 2 3; y' 4 0; y' 0 4; y 5 6; x' 7 0; x 8 0 | rule p a -> p : assume !!!!!!!!!!!!!!!!!!!!!!!!!!!!!!!!!!!!!!!!!!!!!!!!!!!!!!!!!!!!!!!x
+relation z' 1 0; z' 0 1; z 2 3; y' 4 0; y' 0 4; y 5 6; x' 7 0; y 5 0; y 0 6; x' 9 10; x 8 11 | rule p a -> p : x := tab2 8 (tab2 8 (tab2 8 (tab2 8 (tab2 8 (tab2 8 (tab2 8 (tab2 8 (tab2 8 (tab2 8 (tab2 8 (tab2 8 (tab2 8 (tab2 8 (tab2 8 (tab2 8 (tab2 8 (tab2 8 (tab2 8 (tab2 8 (tab2 8 (tab2 8 (tab2 8 (tab2 8 (tab2 8 (tab2 8 (tab2 8 (tab2 8 (tab2 8 (tab2 8 (tab2 8 (tab2 8 (tab2 8 (tab2 8 (tab2 8 (tab2 8 (tab2 8 (tab2 8 (tab2 8 (tab2 8 (tab2 8 (tab2 8 (tab2 8 (tab2 8 (tab2 8 (tab2 8 (tab2 8 (tab2 8 (tab2 8 (tab2 8 (tab2 8 (tab2 8 (tab2 8 (tab2 8 (tab2 8 (tab2 8 (tab2 8 (tab2 8 (tab2 8 (tab2 8 (tab2 8 (tab2 8 (tab2 8 (x, y), y), y), y), y), y), y), y), y), y), y), y), y), y), y), y), y), y), y), y), y), y), y), y), y), y), y), y), y), y), y), y), y), y), y), y), y), y), y), y), y), y), y), y), y), y), y), y), y), y), y), y), y), y), y), y), y), y), y), y), y), y), y)
+relation z' 0 1; z 0 2; y' 3 0; y 4 0; x' 5 0; z' 1 0; z 7 2; y' 0 8; y 4 9; x' 0 10; x 6 11 | rule p a -> p : assume tab3 202 (y, tab3 202 (y, tab3 202 (y, tab3 202 (y, tab3 202 (y, tab3 202 (y, tab3 202 (y, tab3 202 (y, tab3 202 (y, tab3 202 (y, tab3 202 (y, tab3 202 (y, tab3 202 (y, tab3 202 (y, tab3 202 (y, tab3 202 (y, tab3 202 (y, tab3 202 (y, tab3 202 (y, tab3 202 (y, tab3 202 (y, tab3 202 (y, tab3 202 (y, tab3 202 (y, tab3 202 (y, tab3 202 (y, tab3 202 (y, tab3 202 (y, tab3 202 (y, tab3 202 (y, tab3 202 (y, tab3 202 (y, tab3 202 (y, tab3 202 (y, tab3 202 (y, tab3 202 (y, tab3 202 (y, tab3 202 (y, tab3 202 (y, tab3 202 (y, tab3 202 (y, tab3 202 (y, tab3 202 (y, tab3 202 (y, tab3 202 (y, tab3 202 (y, tab3 202 (y, tab3 202 (y, tab3 202 (y, tab3 202 (y, tab3 202 (y, tab3 202 (y, tab3 202 (y, tab3 202 (y, tab3 202 (y, tab3 202 (y, tab3 202 (y, tab3 202 (y, tab3 202 (y, tab3 202 (y, tab3 202 (y, tab3 202 (y, tab3 202 (y, x, z), z), z), z), z), z), z), z), z), z), z), z), z), z), z), z), z), z), z), z), z), z), z), z), z), z), z), z), z), z), z), z), z), z), z), z), z), z), z), z), z), z), z), z), z), z), z), z), z), z), z), z), z), z), z), z), z), z), z), z), z), z), z)
+relation z' 1 0; z' 0 1; z 2 3; y' 4 0; y' 0 4; y 5 6; x' 0 7; x 0 8 | rule p a -> p : assume x & x & x & x & x & x & x & x & x & x & x & x & x & x & x & x & x & x & x & x & x & x & x & x & x & x & x & x & x & x & x & x & x & x & x & x & x & x & x & x & x & x & x & x & x & x & x & x & x & x & x & x & x & x & x & x & x & x & x & x & x & x & x & x
+relation z' 1 0; z' 0 1; z 2 3; y' 4 0; y' 0 4; y 5 6; x' 7 0; x' 0 7; x 8 9 | rule p a -> p : assume x => x => x => x => x => x => x => x => x => x => x => x => x => x => x => x => x => x => x => x => x => x => x => x => x => x => x => x => x => x => x => x => x => x => x => x => x => x => x => x => x => x => x => x => x => x => x => x => x => x => x => x => x => x => x => x => x => x => x => x => x => x => x => x
+relation z' 1 0; z' 0 1; z 2 3 | rule p a -> p : choose x; x, y := *, x = y != y = y != y = y != y = y != y = y != y = y != y = y != y = y != y = y != y = y != y = y != y = y != y = y != y = y != y = y != y = y != y = y != y = y != y = y != y = y != y = y != y = y != y = y != y = y != y = y != y = y != y = y != y = y != y = y != y = y != y = y != y = y
+";
 
 #[test]
 fn deepest_expressions(rt: HostRuntime) -> Result<(), OutOfMemory> {
-    assert_eq!(rt; first_not_accepted(&rt, RELATIONS, DEEPEST)?, None);
+    let wrong = first_wrong_value(&rt, RELATIONS, "p: a => p:", DEEPEST)?;
+    assert_eq!(rt; wrong, None);
     Ok(())
 }
 
@@ -421,20 +426,31 @@ fn return_maps(rt: HostRuntime) -> Result<(), OutOfMemory> {
     Ok(())
 }
 
-const RETURNS_ACCEPTED: &str = "rule p a -> p a b return plain
-rule p a -> p a b return restore x
-rule p a -> p a b return restore z y x
-rule p a -> p a b return move x=y
-rule p a -> p a b return move x=z y=z
-rule p a -> p a b return move x=x
-rule p a -> p a b return move x=y y=x
-rule p a -> p a b return restore x move y=x
-rule p a -> p a b return restore x y move z=x
-rule p a -> p a b : x := 1 return restore x
-rule p a->p a b:assume x return move x = y z = y";
+// The callee of these rules is `a` itself, which returns by the rule of the head.
+const RETURNING: &str = "wpds 1
+weights relation
+controls p
+symbols a b
+variables x y z
+rule p a -> p : x, y, z := !y, x, x & z
+";
+
+const RETURN_VALUES: &str = "relation z' 1 0; y' 2 0; y 0 3; y 3 0; x' 4 5; z' 0 1; z 2 7; y' 0 8; y 0 9; y 9 0; x' 10 11; x 6 12 | rule p a -> p a b return plain
+relation z' 1 0; y' 2 0; x' 3 0; z' 0 1; z 2 5; y' 0 6; x' 0 7; x 4 8 | rule p a -> p a b return restore x
+relation z' 1 0; z' 0 1; z 2 3; y' 4 0; y' 0 4; y 5 6; x' 7 0; x' 0 7; x 8 9 | rule p a -> p a b return restore z y x
+relation z' 1 0; y' 2 0; x' 3 0; z' 0 1; z 2 5; y' 0 6; x' 0 7; x 4 8 | rule p a -> p a b return move x=y
+relation z' 1 0; y' 2 0; x' 3 0; z 2 0; y' 5 0; z' 0 1; z 0 7; y' 0 8; x' 6 9; x 4 10 | rule p a -> p a b return move x=z y=z
+relation z' 1 0; y' 2 0; y 0 3; y 3 0; x' 4 5; z' 0 1; z 2 7; y' 0 8; y 0 9; y 9 0; x' 10 11; x 6 12 | rule p a -> p a b return move x=x
+relation z' 1 0; y' 0 2; y' 2 0; y 3 4; x' 5 0; z' 0 1; z 2 7; y' 0 8; y' 8 0; y 9 10; x' 0 11; x 6 12 | rule p a -> p a b return move x=y y=x
+relation z' 1 0; y' 0 2; y' 2 0; y 3 4; x' 5 0; z' 0 1; z 2 7; y' 0 8; y' 8 0; y 9 10; x' 0 11; x 6 12 | rule p a -> p a b return restore x move y=x
+relation z' 0 1; y' 2 0; z' 1 0; y' 0 4; y 3 5; x' 6 0; x' 0 6; x 7 8 | rule p a -> p a b return restore x y move z=x
+relation z' 1 0; z' 0 1; z 2 3; y' 0 4; x' 5 0; x' 0 5; x 6 7 | rule p a -> p a b : x := 1 return restore x
+relation z' 0 1; y' 0 2; x' 0 3; x 0 4 | rule p a->p a b:assume x return move x = y z = y
+";
 
 #[test]
 fn return_maps_that_are_accepted(rt: HostRuntime) -> Result<(), OutOfMemory> {
-    assert_eq!(rt; first_not_accepted(&rt, RELATIONS, RETURNS_ACCEPTED)?, None);
+    let wrong = first_wrong_value(&rt, RETURNING, "p: a => p: b", RETURN_VALUES)?;
+    assert_eq!(rt; wrong, None);
     Ok(())
 }

@@ -1,5 +1,5 @@
 -- An input is accepted or refused, and not both.
-use Rattle.std.proofs.Common.{◌≡◌, inl, inr, ℕ, Bool, true, false, List, [], ◌∷◌, refl, sym, subst, ◌∙◌}
+use Rattle.std.proofs.Common.{◌≡◌, inl, inr, ℕ, Bool, true, false, List, [], ◌∷◌, refl, sym, ◌∙◌}
 use Rattle.std.specs.Prelude.{Option, None, Some, option_map, option_and_then, unwrap_or}
 use Rattle.wpds_port.specs.declared.Word.{Word}
 use Rattle.wpds_port.specs.declared.refusal.Refusal.{Refusal}
@@ -13,14 +13,11 @@ use Rattle.document_forms.specs.Languages.{language_named, language_on}
 use Rattle.document_forms.specs.declared.language.Language.TheVariants.{System as SystemLanguage, Program}
 use Rattle.wpds_app.specs.declared.input.Input.{Input}
 use Rattle.wpds_app.specs.declared.input.Input.TheVariants.{System}
-use Rattle.wpds_app.specs.Running.{IsAnswerable, IsAccepted, IsProgram, IsRefused, IsUnread}
+use Rattle.wpds_app.specs.Running.{Means, IsProgram, IsRefused, IsUnread}
 
 -- what the law on documents says
 abbrev pub NeverBoth : Type 0
 NeverBoth = (bytes : List ℕ) (d : Document) (r : Refusal) → reads_as bytes d → FirstRefusal bytes r → ⊥
-
-abbrev pub OneDocument : Type 0
-OneDocument = (bytes : List ℕ) (d e : Document) → reads_as bytes d → reads_as bytes e → d ≡ e
 
 -- ---- a document that is read begins with the header of a system
 
@@ -42,15 +39,12 @@ no_program input d is program =
     let both : Some SystemLanguage ≡ Some Program = sym system ∙ program.1 in
     cc
 
-pub accepted_not_refused : NeverBoth → OneDocument → (input : List ℕ) (meaning : Input) (r : Refusal) → IsAccepted input meaning → IsRefused input r → ⊥
-accepted_not_refused both one input (System d) r accepted (inl program) = no_program input d accepted.means program.0
-accepted_not_refused both one input (System d) r accepted (inr (inl system)) = both input d r accepted.means system.1
-accepted_not_refused both one input (System d) r accepted (inr (inr (System e, means, unanswerable, is))) =
-    let same = one input d e accepted.means means in
-    unanswerable (subst (λ (x : Document). IsAnswerable (System x)) same accepted.answerable)
+pub accepted_not_refused : NeverBoth → (input : List ℕ) (meaning : Input) (r : Refusal) → Means input meaning → IsRefused input r → ⊥
+accepted_not_refused both input (System d) r means (inl program) = no_program input d means program.0
+accepted_not_refused both input (System d) r means (inr system) = both input d r means system.1
 
 -- ---- why an input is not read
 
 pub unread : (input : List ℕ) (fault : ReadFaultValue) → (IsProgram input → ⊥) → ((r : Refusal) → fault ≡ Refused r → FirstRefusal input r) → IsUnread input fault
-unread input (Refused r) system refused = inr (inl (system, refused r refl))
+unread input (Refused r) system refused = inr (system, refused r refl)
 unread input Memory system refused = tt

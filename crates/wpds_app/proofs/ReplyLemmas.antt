@@ -14,7 +14,7 @@ use Rattle.wpds_app.specs.declared.reply.Reply.{Reply}
 use Rattle.wpds_port.specs.declared.refusal.ReadFault.{ReadFault as ReadFaultValue}
 use Rattle.wpds_port.specs.declared.refusal.ReadFault.TheVariants.{Refused}
 use Rattle.wpds_app.specs.Running.{IsInput, Means, IsRefused, IsUnread, IsReply, HasReply, IsDecided, IsDecidedBy}
-use Rattle.wpds_app.proofs.InputLemmas.{NeverBoth, OneDocument, accepted_not_refused}
+use Rattle.wpds_app.proofs.InputLemmas.{NeverBoth, accepted_not_refused}
 
 -- a refusal's line is the answer to an input that it refuses
 pub refused_replies : {E : Type 0} (input : List ℕ) (options : Options) (refusal : Refusal) (r : Result Reply E) → IfOk r (λ x. x.status ≡ DocumentRefused)
@@ -22,19 +22,19 @@ pub refused_replies : {E : Type 0} (input : List ℕ) (options : Options) (refus
 refused_replies input options refusal (Ok x) status text refused = subst (λ s. IsReply input options s x.text) (sym status) (refusal, refused, text)
 refused_replies input options refusal (Err e) status text refused = tt
 
-decided : NeverBoth → OneDocument → (input : List ℕ) (options : Options) (text : List ℕ) (status : Status) → IsReply input options status text → IsDecidedBy input status
-decided both one input options text Answered reply = record {
+decided : NeverBoth → (input : List ℕ) (options : Options) (text : List ℕ) (status : Status) → IsReply input options status text → IsDecidedBy input status
+decided both input options text Answered reply = record {
   answered = (λ _. (reply.0, reply.1), λ _. refl);
-  refused = (λ e. cc, λ r. absurd (accepted_not_refused both one input reply.0 r.0 reply.1 r.1));
+  refused = (λ e. cc, λ r. absurd (accepted_not_refused both input reply.0 r.0 reply.1 r.1));
 }
-decided both one input options text DocumentRefused reply = record {
-  answered = (λ e. cc, λ d. absurd (accepted_not_refused both one input d.0 reply.0 d.1 reply.1));
+decided both input options text DocumentRefused reply = record {
+  answered = (λ e. cc, λ d. absurd (accepted_not_refused both input d.0 reply.0 d.1 reply.1));
   refused = (λ _. (reply.0, reply.1), λ _. refl);
 }
-decided both one input options text WordsRefused reply = absurd reply
-decided both one input options text ReadFault reply = absurd reply
-decided both one input options text WriteFault reply = absurd reply
-decided both one input options text OutOfMemory reply = absurd reply
+decided both input options text WordsRefused reply = absurd reply
+decided both input options text ReadFault reply = absurd reply
+decided both input options text WriteFault reply = absurd reply
+decided both input options text OutOfMemory reply = absurd reply
 
 beginning_by : (b : Bool) (n : ℕ) (bytes input rest : List ℕ) → nat_lt (length input) n ≡ b → bytes ≡ input ++ rest → length input ≤ n → (length input < n → rest ≡ []) → input ≡ take n bytes
 beginning_by true n bytes input rest test joined within whole =
@@ -54,16 +54,16 @@ decided_unfaulted status (inl e) fault = cc
 decided_unfaulted status (inr e) fault = cc
 
 -- where the source tells its bytes, they decide
-decided_by : NeverBoth → OneDocument → (bytes : List ℕ) (options : Options) (text : List ℕ) (left_before left_now : Option (List ℕ)) (status : Status) → left_before ≡ Some bytes → HasReply left_before left_now options status text → IsDecidedBy (take 4194305 bytes) status
-decided_by both one bytes options text before now status told has =
+decided_by : NeverBoth → (bytes : List ℕ) (options : Options) (text : List ℕ) (left_before left_now : Option (List ℕ)) (status : Status) → left_before ≡ Some bytes → HasReply left_before left_now options status text → IsDecidedBy (take 4194305 bytes) status
+decided_by both bytes options text before now status told has =
     let read : IsInput (Some bytes) now has.input = subst (λ o. IsInput o now has.input) told has.read in
-    subst (λ i. IsDecidedBy i status) (input_is bytes has.input now read) (decided both one has.input options text status has.reply)
+    subst (λ i. IsDecidedBy i status) (input_is bytes has.input now read) (decided both has.input options text status has.reply)
 
 -- the answer that was sent, if no fault came
-pub sent_decided : NeverBoth → OneDocument → (bytes : List ℕ) (options : Options) (text : List ℕ) (left_before left_now : Option (List ℕ)) (status sent : Status) → left_before ≡ Some bytes → HasReply left_before left_now options status text
+pub sent_decided : NeverBoth → (bytes : List ℕ) (options : Options) (text : List ℕ) (left_before left_now : Option (List ℕ)) (status sent : Status) → left_before ≡ Some bytes → HasReply left_before left_now options status text
     → (sent ≢ WriteFault → sent ≡ status) → IsDecided sent → IsDecidedBy (take 4194305 bytes) sent
-sent_decided both one bytes options text before now status sent told has kept done =
-    subst (IsDecidedBy (take 4194305 bytes)) (sym (kept (decided_unfaulted sent done))) (decided_by both one bytes options text before now status told has)
+sent_decided both bytes options text before now status sent told has kept done =
+    subst (IsDecidedBy (take 4194305 bytes)) (sym (kept (decided_unfaulted sent done))) (decided_by both bytes options text before now status told has)
 
 reply_decides : (input : List ℕ) (options : Options) (text : List ℕ) (status : Status) → IsReply input options status text → IsDecided status
 reply_decides input options text Answered reply = inl refl

@@ -14,6 +14,7 @@ use Rattle.document_forms.specs.declared.weight.WeightsLine.TheVariants.{Reach, 
 use Rattle.document_systems.specs.Kinds.{Kind}
 use Rattle.document_systems.specs.CopyWeights.{copy_kind}
 use Rattle.document_systems.specs.FactWeights.{genkill_kind}
+use Rattle.document_systems.specs.RelationWeights.{relation_kind}
 use Rattle.document_systems.specs.Weights.{reach_kind, cost_kind}
 use Rattle.report_text.specs.Listings.{query_line}
 use Rattle.path_sum.specs.declared.answer.Answer.{Answer}
@@ -50,18 +51,6 @@ pub lines_told : {S W Map E : Type 0} (kind : Kind S W Map) (options : Options) 
 lines_told kind options p items i from to a (Ok t) kept is same text =
     record { answer = a; is_answer = is; told = text ∙ ap (λ s. query_text i options (kind.written s items a.value) a.listing) same }
 lines_told kind options p items i from to a (Err e) kept is same text = tt
-
--- ---- the semiring that weights name
-
--- a report is over a semiring that is built
-pub is_built : (weights : WeightsLine) (items : ℕ) (d : Document) (options : Options) (report : List ℕ)
-    → BySemiring (λ S W Map kind semiring. IsReported kind options semiring d report) weights items
-    → BySemiring (λ S W Map kind semiring. Unit {0}) weights items
-is_built Reach items d options report is = tt
-is_built (Cost cap) items d options report is = tt
-is_built GenKill facts d options report is = tt
-is_built Copy variables d options report is = tt
-is_built Relation items d options report is = absurd is
 
 -- ---- what a report says of feasibility
 
@@ -100,18 +89,19 @@ over_facts d options report tell facts =
     of_widths (λ n. TellsOver (genkill_kind n) (record {}) d options report) tell.one tell.two tell.four tell.eight tell.sixteen facts
 
 -- weights by weights
-pub by_weights : (d : Document) (options : Options) (report : List ℕ)
+pub by_weights : (d : Document) (options : Options) (report : List ℕ) (weights : WeightsLine) (items : ℕ)
     → TellsOver reach_kind (record {}) d options report
     → ((cap : ℕ) → IsWeightsLine (Cost cap) → TellsOver cost_kind cap d options report)
     → TellOverFacts d options report
     → ((variables : ℕ) → TellsOver copy_kind variables d options report)
-    → (weights : WeightsLine) (items : ℕ) → IsWeightsLine weights → BySemiring (λ S W Map kind semiring. IsReported kind options semiring d report) weights items
+    → (weights ≡ Relation → TellsOver relation_kind items d options report)
+    → IsWeightsLine weights → BySemiring (λ S W Map kind semiring. IsReported kind options semiring d report) weights items
     → ByQuery (TellsFeasibilityBy weights items d) 1 d.queries report
-by_weights d options report reach cost facts copy Reach items named reported = reach reported
-by_weights d options report reach cost facts copy (Cost cap) items named reported = cost cap named reported
-by_weights d options report reach cost facts copy GenKill items named reported = over_facts d options report facts items reported
-by_weights d options report reach cost facts copy Copy items named reported = copy items reported
-by_weights d options report reach cost facts copy Relation items named reported = absurd reported
+by_weights d options report Reach items reach cost facts copy relation named reported = reach reported
+by_weights d options report (Cost cap) items reach cost facts copy relation named reported = cost cap named reported
+by_weights d options report GenKill items reach cost facts copy relation named reported = over_facts d options report facts items reported
+by_weights d options report Copy items reach cost facts copy relation named reported = copy items reported
+by_weights d options report Relation items reach cost facts copy relation named reported = relation refl reported
 
 -- ---- reports without listings
 
@@ -134,14 +124,15 @@ module _ (d : Document) (one other : Options) (report text : List ℕ) where
   abbrev Reported : Options → List ℕ → WeightsLine → ℕ → Type 0
   Reported options written weights items = BySemiring (λ S W Map kind semiring. IsReported kind options semiring d written) weights items
 
-  pub agree_by_weights : AgreeOver reach_kind (record {}) d one other report text
+  pub agree_by_weights : (weights : WeightsLine) (items : ℕ) → AgreeOver reach_kind (record {}) d one other report text
       → ((cap : ℕ) → IsWeightsLine (Cost cap) → AgreeOver cost_kind cap d one other report text)
       → AgreeOverFacts d one other report text
       → ((variables : ℕ) → AgreeOver copy_kind variables d one other report text)
-      → (weights : WeightsLine) (items : ℕ) → IsWeightsLine weights → Reported one report weights items → Reported other text weights items → report ≡ text
-  agree_by_weights reach cost facts copy Reach items named r t = reach r t
-  agree_by_weights reach cost facts copy (Cost cap) items named r t = cost cap named r t
-  agree_by_weights reach cost facts copy GenKill items named r t =
+      → (weights ≡ Relation → AgreeOver relation_kind items d one other report text)
+      → IsWeightsLine weights → Reported one report weights items → Reported other text weights items → report ≡ text
+  agree_by_weights Reach items reach cost facts copy relation named r t = reach r t
+  agree_by_weights (Cost cap) items reach cost facts copy relation named r t = cost cap named r t
+  agree_by_weights GenKill items reach cost facts copy relation named r t =
       of_widths (λ n. AgreeOver (genkill_kind n) (record {}) d one other report text) facts.one_word facts.two facts.four facts.eight facts.sixteen items r t
-  agree_by_weights reach cost facts copy Copy items named r t = copy items r t
-  agree_by_weights reach cost facts copy Relation items named r t = absurd r
+  agree_by_weights Copy items reach cost facts copy relation named r t = copy items r t
+  agree_by_weights Relation items reach cost facts copy relation named r t = relation refl r t

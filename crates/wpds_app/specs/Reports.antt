@@ -11,6 +11,8 @@ use Rattle.genkill_weights.specs.declared.weight.MaskMap.{MaskMap}
 use Rattle.genkill_weights.specs.Widths.{width_for}
 use Rattle.copy_weights.specs.declared.form.CopyW.{CopyW}
 use Rattle.copy_weights.specs.declared.form.CopyMap.{CopyMap}
+use Rattle.relation_laws.specs.Building.{Parts}
+use Rattle.relation_weights.specs.declared.rel_map.RelMap.{RelMap}
 use Rattle.pushdown_rules.specs.Pushdown.{Pushdown}
 use Rattle.pushdown_rules.specs.Values.{value_of}
 use Rattle.pushdown_rules.specs.Answers.{Leads, HasNoFeasibleRun}
@@ -24,6 +26,7 @@ use Rattle.document_forms.specs.declared.weight.WeightsLine.TheVariants.{Reach, 
 use Rattle.document_systems.specs.Kinds.{Kind}
 use Rattle.document_systems.specs.CopyWeights.{copy_kind}
 use Rattle.document_systems.specs.FactWeights.{genkill_kind}
+use Rattle.document_systems.specs.RelationWeights.{relation_kind}
 use Rattle.document_systems.specs.Weights.{reach_kind, cost_kind}
 use Rattle.document_systems.specs.Systems.{system_of, side_of}
 use Rattle.report_text.specs.Listings.{query_line, listing_text}
@@ -60,22 +63,18 @@ module _ {S W Map : Type 0} (kind : Kind S W Map) (options : Options) where
   abbrev pub IsReported : S → Document → List ℕ → Type 0
   IsReported semiring d report = ByQuery (TellsQuery semiring d) 1 d.queries report
 
--- This holds of the semiring that these weights name over so many facts or variables, if it is built.
+-- This holds of the semiring that these weights name over so many facts or variables.
 abbrev pub BySemiring : ((S W Map : Type 0) → Kind S W Map → S → Type 0) → WeightsLine → ℕ → Type 0
 BySemiring holds Reach items = holds ReachValue Bool NoMap reach_kind (record {})
 BySemiring holds (Cost most) items = holds ℕ (Option ℕ) NoMap cost_kind most
 BySemiring holds GenKill facts =
     let n = width_for facts in holds (GenKillValue n) (GenKillW n) (MaskMap n) (genkill_kind n) (record {})
 BySemiring holds Copy variables = holds ℕ CopyW CopyMap copy_kind variables
-BySemiring holds Relation items = ⊥
+BySemiring holds Relation variables = holds ℕ Parts RelMap relation_kind variables
 
 -- and of the semiring that a document names
 abbrev pub ByDocument : ((S W Map : Type 0) → Kind S W Map → S → Type 0) → Document → Type 0
 ByDocument holds d = BySemiring holds d.weights (length d.items)
-
--- the semiring of a document's weights is built
-abbrev pub IsBuilt : Document → Type 0
-IsBuilt d = ByDocument (λ S W Map kind semiring. Unit {0}) d
 
 -- the report on a document, over the semiring that its weights name
 abbrev pub IsReport : Options → Document → List ℕ → Type 0

@@ -14,7 +14,7 @@ use Rattle.wpds_port.specs.declared.refusal.ReadFault.{ReadFault as ReadFaultVal
 use Rattle.wpds_port.specs.declared.refusal.ReadFault.TheVariants.{Refused, Memory}
 use Rattle.wpds_base.specs.Limits.{most_bytes}
 use Rattle.wpds_app.specs.Commands.{IsCheck, IsCommand, usage_text}
-use Rattle.wpds_app.specs.Reports.{IsBuilt, IsReport}
+use Rattle.wpds_app.specs.Reports.{IsReport}
 use Rattle.wpds_app.specs.declared.input.Input.{Input}
 use Rattle.wpds_app.specs.declared.input.Input.TheVariants.{System}
 use Rattle.wpds_app.specs.declared.words.Options.{Options}
@@ -31,15 +31,6 @@ pub record IsInput (left_before left_now : Option (List ℕ)) (input : List ℕ)
 abbrev pub Means : List ℕ → Input → Type 0
 Means input (System d) = reads_as input d
 
--- what is needed to answer it is built
-abbrev pub IsAnswerable : Input → Type 0
-IsAnswerable (System d) = IsBuilt d
-
--- the input is answered, and what it means
-pub record IsAccepted (input : List ℕ) (meaning : Input) : Type 0 where
-  pub means : Means input meaning
-  pub answerable : IsAnswerable meaning
-
 -- the input is a program, which is not read yet
 abbrev pub IsProgram : List ℕ → Type 0
 IsProgram input = IsTrue (is_short input) × (language_of input ≡ Some Program)
@@ -52,15 +43,9 @@ IsRefusedProgram input r = IsProgram input × (r ≡ refusal (first_line input) 
 abbrev pub IsRefusedSystem : List ℕ → Refusal → Type 0
 IsRefusedSystem input r = (IsProgram input → ⊥) × FirstRefusal input r
 
--- what means something that is not built, as a whole
-abbrev pub IsRefusedWhole : List ℕ → Refusal → Type 0
-IsRefusedWhole input r =
-    (meaning : Input) × Means input meaning × (IsAnswerable meaning → ⊥) × (r ≡ refusal 0 NotBuilt)
-
 -- the refusal of an input
 abbrev pub IsRefused : List ℕ → Refusal → Type 0
-IsRefused input r =
-    IsRefusedProgram input r ⊎ (IsRefusedSystem input r ⊎ IsRefusedWhole input r)
+IsRefused input r = IsRefusedProgram input r ⊎ IsRefusedSystem input r
 
 -- why an input is not read: it is refused, or memory was short
 abbrev pub IsUnread : List ℕ → ReadFaultValue → Type 0
@@ -73,7 +58,7 @@ IsReportOn options (System d) report = IsReport options d report
 
 -- the reply to an input
 abbrev pub IsReply : List ℕ → Options → Status → List ℕ → Type 0
-IsReply input options Answered text = (meaning : Input) × IsAccepted input meaning × IsReportOn options meaning text
+IsReply input options Answered text = (meaning : Input) × Means input meaning × IsReportOn options meaning text
 IsReply input options DocumentRefused text = (r : Refusal) × IsRefused input r × (text ≡ refusal_text r ++ 10 ∷ [])
 IsReply input options WordsRefused text = ⊥
 IsReply input options ReadFault text = ⊥
@@ -110,7 +95,7 @@ pub record IsCutShort (words : List (List ℕ)) (left_before left_now written_be
 abbrev pub IsDecided : Status → Type 0
 IsDecided status = (status ≡ Answered) ⊎ (status ≡ DocumentRefused)
 
--- the reply is that of this input: accepted ones are answered, and all others refused
+-- the reply is that of this input: those that mean something are answered, and all others refused
 pub record IsDecidedBy (input : List ℕ) (status : Status) : Type 0 where
-  pub answered : (status ≡ Answered) ↔ ((meaning : Input) × IsAccepted input meaning)
+  pub answered : (status ≡ Answered) ↔ ((meaning : Input) × Means input meaning)
   pub refused : (status ≡ DocumentRefused) ↔ ((r : Refusal) × IsRefused input r)

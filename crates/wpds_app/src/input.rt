@@ -24,8 +24,8 @@ fn is_program(input: &[u8]) -> bool
     input.len() <= MOST_BYTES && language(input) == Some(Language::Program)
 }
 
-/// The refusal of what is not built, on a line.
-pub(crate) fn not_built(line: u64) -> Refusal
+// The refusal of what is not built, on a line.
+fn not_built(line: u64) -> Refusal
     ensures { result ≡ refusal line Kind.NotBuilt }
 {
     Refusal {

@@ -3,6 +3,7 @@ ghost use Rattle.semiring_laws.specs.declared.reach.NoMap.{NoMap as NoMapValue};
 ghost use Rattle.pushdown_rules.specs.Pushdown.{Pushdown, IsSystem};
 ghost use Rattle.pushdown_rules.specs.Answers.{HasNoFeasibleRun};
 ghost use Rattle.config_patterns.specs.Membership.{PatternValue, has_member};
+ghost use Rattle.document_systems.specs.Systems.{AreTaken};
 ghost use Rattle.document_systems.specs.Weights.{cost_kind};
 ghost use Rattle.report_text.specs.Listings.{query_line};
 ghost use Rattle.document_forms.specs.Documents.{Document};
@@ -16,6 +17,7 @@ use cost_weights::{Cost, below_is_no_dearer};
 use document_systems::{DocumentWeights, documents_are_systems, unreachable_is_zero};
 use genkill_weights::GenKill;
 use pushdown_rules::{answers_agree, answers_are_greatest_below, zero_where_infeasible};
+use relation_weights::Relations;
 use semiring_laws::Reach;
 
 /// What is written for a query is `unreachable` exactly when no feasible run leads from its first pattern to its second,
@@ -54,10 +56,11 @@ pub fn reports_tell_reachability()
         → ByQuery (TellsReachability d) 1 d.queries report }
 {}
 
-// The same over a semiring that a document can name.
+// The same over a semiring that a document can name and that takes its rules.
 fn reports_over_tell_feasibility<S: DocumentWeights>()
     ensures { (s : S) (d : Document) (options : OptionsValue) (report : List ℕ)
-        → S.kind.named s → IsDocument d → IsReported S.kind options s d report
+        → S.kind.named s → IsDocument d → AreTaken S.kind s d
+        → IsReported S.kind options s d report
         → ByQuery (TellsFeasibilityOver S.kind s d) 1 d.queries report }
 {
     unreachable_where_infeasible::<S>();
@@ -79,12 +82,14 @@ pub fn reports_tell_feasibility()
     reports_over_tell_feasibility::<GenKill<8>>();
     reports_over_tell_feasibility::<GenKill<16>>();
     reports_over_tell_feasibility::<CopyConst>();
+    reports_over_tell_feasibility::<Relations>();
 }
 
 // Over one semiring two reports without listings are equal, whatever their directions.
 fn brief_reports_over_agree<S: DocumentWeights>()
     ensures { (s : S) (d : Document) (one other : OptionsValue) (report text : List ℕ)
-        → S.kind.named s → IsDocument d → IsTrue one.brief → IsTrue other.brief
+        → S.kind.named s → IsDocument d → AreTaken S.kind s d
+        → IsTrue one.brief → IsTrue other.brief
         → IsReported S.kind one s d report → IsReported S.kind other s d text → report ≡ text }
 {
     answers_agree::<S>();
@@ -105,6 +110,7 @@ pub fn brief_reports_agree()
     brief_reports_over_agree::<GenKill<8>>();
     brief_reports_over_agree::<GenKill<16>>();
     brief_reports_over_agree::<CopyConst>();
+    brief_reports_over_agree::<Relations>();
 }
 
 /// The report on a document with `weights cost CAP` says of each query that no run leads there, or the cost of a

@@ -8,7 +8,7 @@ ghost use Rattle.worker_pool.specs.Workers.{IsWorkerCount};
 ghost use Rattle.wpds_app.specs.Running.{HasReply, IsReply};
 
 use crate::crew::Crew;
-use crate::input::{MOST_BYTES, meaning_of, not_built};
+use crate::input::{MOST_BYTES, meaning_of};
 use crate::report::report;
 use crate::{Input, Options, Status};
 use document_forms::{Document, documents_are_lawful};
@@ -52,13 +52,11 @@ fn reply_on_system<H: Threads + Wait + Sync, G: Gate>(
     ensures { IfOk result (λ r. IsReply input.now options r.status r.text) }
 {
     documents_are_lawful();
-    match report(crew, alloc, document, options)? {
-        Some(text) => Ok(Reply {
-            status: Status::Answered,
-            text,
-        }),
-        None => refused(alloc, not_built(0)),
-    }
+    let text = report(crew, alloc, document, options)?;
+    Ok(Reply {
+        status: Status::Answered,
+        text,
+    })
 }
 
 // What is answered to an input.

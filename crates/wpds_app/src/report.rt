@@ -1,13 +1,15 @@
-ghost use Rattle.std.specs.Prelude.{◌≡◌, ◌<◌, ◌≤◌, All, IfOk, OnOk, MatchOption, None, Some, length, slice_set};
-ghost use Rattle.wpds_base.specs.Limits.{most_copied, most_cost};
+ghost use Rattle.std.specs.Prelude.{◌≡◌, ◌<◌, ◌≤◌, All, IfOk, OnOk, None, Some, length, slice_set};
+ghost use Rattle.wpds_base.specs.Limits.{most_copied, most_cost, most_related};
 ghost use Rattle.document_forms.specs.Lawful.{IsDocument, IsQueryOf};
+ghost use Rattle.document_forms.specs.declared.weight.WeightsLine.TheVariants.{Relation};
 ghost use Rattle.genkill_weights.specs.Widths.{width_for};
 ghost use Rattle.document_systems.specs.CopyWeights.{copy_kind};
 ghost use Rattle.document_systems.specs.FactWeights.{genkill_kind};
-ghost use Rattle.document_systems.specs.Systems.{system_of, side_of};
+ghost use Rattle.document_systems.specs.RelationWeights.{relation_kind};
+ghost use Rattle.document_systems.specs.Systems.{system_of, side_of, AreTaken};
 ghost use Rattle.worker_pool.specs.Workers.{IsWorkerCount};
 ghost use Rattle.query_answers.specs.Answering.{IsFinished, IsSaturated, saturated_system};
-ghost use Rattle.wpds_app.specs.Reports.{query_text, TellsQuery, IsReported, IsReport, IsBuilt};
+ghost use Rattle.wpds_app.specs.Reports.{query_text, TellsQuery, IsReported, IsReport};
 ghost use Rattle.wpds_app.specs.private.Kept.{AreKept, TellsAt, opened_text, summed_text};
 
 use crate::Options;
@@ -21,6 +23,7 @@ use genkill_weights::with_width;
 use path_sum::Answer;
 use pushdown_rules::System;
 use query_answers::{Saturation, answer_over, saturate};
+use relation_weights::Relations;
 use report_text::{listing_text, query_line};
 use semiring_laws::Reach;
 use std::alloc::Global;
@@ -219,7 +222,7 @@ fn nothing_kept(alloc: Global, count: usize) -> Result<Vec<Option<Text>>, OutOfM
     Ok(kept)
 }
 
-// The report on a document over a semiring.
+// The report on a document over a semiring that takes its rules.
 fn report_over<
     H: Threads + Wait + Sync,
     S: DocumentWeights<W: Send + Sync, Ret: Send + Sync> + Send + Sync,
@@ -232,6 +235,7 @@ fn report_over<
     options: Options,
 ) -> Result<Text, OutOfMemory>
     requires document { IsDocument document.now }
+    requires taken { AreTaken S.kind semiring document.now }
     requires workers { IsWorkerCount options.workers }
     ensures { IfOk result (IsReported S.kind options semiring document.now) }
 {
@@ -290,25 +294,40 @@ fn copies_report<H: Threads + Wait + Sync, G: Gate>(
     report_over(crew, alloc, CopyConst::new(variables), document, options)
 }
 
-/// The report on a document, if the semiring of its weights is built.
+// The report on a document over relations between variables.
+fn relations_report<H: Threads + Wait + Sync, G: Gate>(
+    crew: &Crew<'_, H, G>,
+    alloc: Global,
+    document: &Document<Names>,
+    options: Options,
+) -> Result<Text, OutOfMemory>
+    requires document { IsDocument document.now }
+    requires workers { IsWorkerCount options.workers }
+    requires weights { document.now.weights ≡ Relation }
+    requires few { length document.now.items ≤ most_related }
+    ensures { let variables = length document.now.items in
+        IfOk result (IsReported relation_kind options variables document.now) }
+{
+    let variables = document.items.len() as u32;
+    report_over(crew, alloc, Relations::new(variables), document, options)
+}
+
+/// The report on a document, over the semiring that its weights name.
 pub(crate) fn report<H: Threads + Wait + Sync, G: Gate>(
     crew: &Crew<'_, H, G>,
     alloc: Global,
     document: &Document<Names>,
     options: Options,
-) -> Result<Option<Text>, OutOfMemory>
+) -> Result<Text, OutOfMemory>
     requires document { IsDocument document.now }
     requires workers { IsWorkerCount options.workers }
-    ensures { IfOk result (λ found. MatchOption found
-        (IsBuilt document.now → ⊥)
-        (IsReport options document.now)) }
+    ensures { IfOk result (IsReport options document.now) }
 {
-    let text = match document.weights {
-        WeightsLine::Reach => report_over(crew, alloc, Reach, document, options)?,
-        WeightsLine::Cost { cap } => report_over(crew, alloc, costs(cap), document, options)?,
-        WeightsLine::GenKill => facts_report(crew, alloc, document, options)?,
-        WeightsLine::Copy => copies_report(crew, alloc, document, options)?,
-        WeightsLine::Relation => return Ok(None),
-    };
-    Ok(Some(text))
+    match document.weights {
+        WeightsLine::Reach => report_over(crew, alloc, Reach, document, options),
+        WeightsLine::Cost { cap } => report_over(crew, alloc, costs(cap), document, options),
+        WeightsLine::GenKill => facts_report(crew, alloc, document, options),
+        WeightsLine::Copy => copies_report(crew, alloc, document, options),
+        WeightsLine::Relation => relations_report(crew, alloc, document, options),
+    }
 }

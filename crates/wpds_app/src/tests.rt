@@ -118,17 +118,10 @@ fn refuses_other_documents(rt: HostRuntime) -> Result<(), Fail> {
     Ok(())
 }
 
-// What is not built: a program, and relations as weights. A refusal on a line is told before those.
-const NOT_BUILT: [(&str, &str); 3] = [
+// What is not built: a program.
+const NOT_BUILT: [(&str, &str); 2] = [
+    ("bool 1", "refused: line 1: 14 NotBuilt\n"),
     ("# a program\n\nbool 1\n", "refused: line 3: 14 NotBuilt\n"),
-    (
-        "wpds 1\nweights relation\ncontrols p\nquery p: => p:\n",
-        "refused: line 0: 14 NotBuilt\n",
-    ),
-    (
-        "wpds 1\nweights relation\ncontrols p\nquery p: => q:\n",
-        "refused: line 4: 6 Unknown\n",
-    ),
 ];
 
 #[test]
@@ -142,7 +135,7 @@ fn refuses_what_is_not_built(rt: HostRuntime) -> Result<(), Fail> {
 }
 
 // Documents over facts and over variables.
-const OTHER_WEIGHTS: [(&str, &str); 2] = [
+const OTHER_WEIGHTS: [(&str, &str); 3] = [
     (
         "wpds 1\nweights genkill\ncontrols p\nsymbols a b\nfacts f g\nrule p a -> p b : +f -g\nquery p: a => p: b\n",
         "query 1: gen f kill g\n",
@@ -150,6 +143,10 @@ const OTHER_WEIGHTS: [(&str, &str); 2] = [
     (
         "wpds 1\nweights copy\ncontrols p\nsymbols a b\nvariables x y\nrule p a -> p b : x=7,y\nquery p: a => p: b\n",
         "query 1: x=7,y y=y\n",
+    ),
+    (
+        "wpds 1\nweights relation\ncontrols p\nsymbols a b\nvariables x\nrule p a -> p b : assume x; x := *\nquery p: a => p: b\n",
+        "query 1: relation x 0 1\n",
     ),
 ];
 

@@ -9,10 +9,10 @@ use Rattle.wpds_app.proofs.ReportingLemmas.{brief_text}
 use Rattle.wpds_app.proofs.laws.brief_reports_over_agree.Goals as goal
 
 pub returns : goal.returns
-returns g c = λ s d one other report text named is brief brief' reported told.
+returns g c = λ s d one other report text named is taken brief brief' reported told.
     let kind = g.S.DocumentWeights.kind in
     let p = system_of kind s d in
-    let system = c.documents_are_systems.ensures s d named is in
+    let system = c.documents_are_systems.ensures s d named is taken in
     same_parts (λ i q t u h k.
     let from = side_of d q.from in
     let to = side_of d q.to in

@@ -8,10 +8,10 @@ use Rattle.wpds_app.proofs.PartLemmas.{of_each}
 use Rattle.wpds_app.proofs.laws.reports_over_tell_feasibility.Goals as goal
 
 pub returns : goal.returns
-returns g c = λ s d options report named is reported.
+returns g c = λ s d options report named is taken reported.
     let kind = g.S.DocumentWeights.kind in
     let p = system_of kind s d in
-    let system = c.documents_are_systems.ensures s d named is in
+    let system = c.documents_are_systems.ensures s d named is taken in
     of_each (λ i q text h.
     let from = side_of d q.from in
     let to = side_of d q.to in

@@ -5,8 +5,7 @@ use Rattle.wpds_app.proofs.program.run.Goals as goal
 
 pub returns-in-Ok-clause-exactly : goal.returns-in-Ok-clause-exactly
 returns-in-Ok-clause-exactly g c = λ bytes told done.
-    let law = c.one_document_or_one_refusal.ensures in
-    sent_decided law.never_both law.one_document bytes _ _ _ _ c.in-Ok.reply.status c.finish-in-Ok.result told c.in-Ok.ensures.reply c.finish-in-Ok.ensures.status done
+    sent_decided c.one_document_or_one_refusal.ensures.never_both bytes _ _ _ _ c.in-Ok.reply.status c.finish-in-Ok.result told c.in-Ok.ensures.reply c.finish-in-Ok.ensures.status done
 
 pub returns-in-Ok-clause-complete : goal.returns-in-Ok-clause-complete
 returns-in-Ok-clause-complete g c = λ check readable writable memory.

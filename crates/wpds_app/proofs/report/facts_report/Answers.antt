@@ -5,6 +5,7 @@ use Rattle.genkill_weights.specs.Widths.{width_for}
 use Rattle.genkill_weights.proofs.CallerLemmas.{width_1, width_2, width_4, width_8, width_16}
 use Rattle.document_forms.specs.Documents.{Document}
 use Rattle.document_systems.specs.FactWeights.{genkill_kind}
+use Rattle.document_systems.proofs.CallerLemmas.{all_taken}
 use Rattle.wpds_app.specs.declared.words.Options.{Options}
 use Rattle.wpds_app.specs.Reports.{IsReported}
 use Rattle.wpds_app.proofs.report.facts_report.Goals as goal
@@ -32,3 +33,18 @@ returns-in-257-to-512-with_width g c =
 pub returns-in_default : goal.returns-in_default
 returns-in_default g c =
     subst (ReportedOver c.args.options c.args.document.now c.report_over-5.result) (sym (width_16 (length c.args.document.now.items) (omega (arith, c.len.ensures)))) c.report_over-5.ensures
+
+pub report_over-requires-clause-taken : goal.report_over-requires-clause-taken
+report_over-requires-clause-taken c = all_taken (genkill_kind 1) (record {}) (λ t. tt) (λ m. tt) c.args.document.now
+
+pub report_over-requires-2-clause-taken : goal.report_over-requires-2-clause-taken
+report_over-requires-2-clause-taken c = all_taken (genkill_kind 2) (record {}) (λ t. tt) (λ m. tt) c.args.document.now
+
+pub report_over-requires-3-clause-taken : goal.report_over-requires-3-clause-taken
+report_over-requires-3-clause-taken c = all_taken (genkill_kind 4) (record {}) (λ t. tt) (λ m. tt) c.args.document.now
+
+pub report_over-requires-4-clause-taken : goal.report_over-requires-4-clause-taken
+report_over-requires-4-clause-taken c = all_taken (genkill_kind 8) (record {}) (λ t. tt) (λ m. tt) c.args.document.now
+
+pub report_over-requires-5-clause-taken : goal.report_over-requires-5-clause-taken
+report_over-requires-5-clause-taken c = all_taken (genkill_kind 16) (record {}) (λ t. tt) (λ m. tt) c.args.document.now
