@@ -1,5 +1,5 @@
 -- What the words of the command line ask for.
-use Rattle.std.specs.Prelude.{ℕ, Bool, true, false, List, [], ◌∷◌, Option, Some, None, option_map, option_and_then, is_some, codes, bytes_eq, decimal, if◌then◌else◌}
+use Rattle.std.specs.Prelude.{ℕ, ◌<◌, ◌≤◌, Bool, true, false, List, [], ◌∷◌, Option, Some, None, option_map, option_and_then, is_some, codes, bytes_eq, decimal, if◌then◌else◌}
 use Rattle.std.specs.List.{find, range_with_len}
 use Rattle.std.specs.Option.{option_map_or}
 use Rattle.clap.specs.Words.{Rule, Row, App, Text, new_rule, new_app, with_rule, first_of, matches_of, fault_of, Kinds}
@@ -102,3 +102,11 @@ asked_by (k ∷ ks) rows = asked_instead k
 -- what the words behind the program's name ask for, if they are a command
 abbrev pub request_of : List Text → Option Request
 request_of words = asked_by (fault_of command words) (matches_of command words)
+
+-- the counts that a request names are within their limits
+abbrev pub IsWithin : Request → Type 0
+IsWithin Help = Unit {0}
+IsWithin Version = Unit {0}
+IsWithin (Check o) = (0 < o.workers) × (o.workers ≤ most_seats)
+IsWithin (Generate g) =
+    ((0 < g.rungs) × (g.rungs ≤ most_rungs)) × ((0 < g.workers) × (g.workers ≤ most_seats))

@@ -1,6 +1,7 @@
-ghost use Rattle.std.specs.Prelude.{◌≡◌, ◌≤◌, IfOk, map, option_map};
+ghost use Rattle.std.specs.Prelude.{◌≡◌, ◌<◌, ◌≤◌, IfOk, IfSome, map, option_map};
 ghost use Rattle.std.specs.String.{string_bytes};
 ghost use Rattle.clap.specs.Words.{first_of, found_of, rows_of};
+ghost use Rattle.wpds_base.specs.Limits.{most_seats};
 ghost use Rattle.command_words.specs.Commands as meant;
 
 use crate::command::the_command;
@@ -21,7 +22,8 @@ const MOST_RUNGS: u32 = 10_000;
 // The number from 1 to the most that a text writes, without a sign or a zero in front.
 fn number_up_to(most: u32, text: &str) -> Option<u32>
     requires { most ≤ meant.most_rungs }
-    ensures { result ≡ meant.number_up_to most text.now }
+    ensures value { result ≡ meant.number_up_to most text.now }
+    ensures within { IfSome result (λ n. (0 < n) × (n ≤ most)) }
 {
     let Ok(number) = text.parse::<u32>() else {
         return None;
@@ -55,7 +57,8 @@ fn given<'a>(matches: &ArgMatches<'a>, id: &str) -> Option<&'a str>
 
 // How many workers are asked for.
 fn worker_count(matches: &ArgMatches<'_>) -> Option<u32>
-    ensures { result ≡ meant.worker_count (rows_of (found_of matches.now)) }
+    ensures value { result ≡ meant.worker_count (rows_of (found_of matches.now)) }
+    ensures within { IfSome result (λ n. (0 < n) × (n ≤ most_seats)) }
 {
     number_up_to(MOST_WORKERS, given(matches, "workers")?)
 }
@@ -79,7 +82,8 @@ fn is_brief(matches: &ArgMatches<'_>) -> bool
 
 // What `check` asks for, which takes no size.
 fn checking(matches: &ArgMatches<'_>) -> Option<Request>
-    ensures { result ≡ meant.checking (rows_of (found_of matches.now)) }
+    ensures request { result ≡ meant.checking (rows_of (found_of matches.now)) }
+    ensures within { IfSome result meant.IsWithin }
 {
     if given(matches, "size").is_some() {
         return None;
@@ -92,7 +96,8 @@ fn checking(matches: &ArgMatches<'_>) -> Option<Request>
 
 // What `gen` asks for, which needs a size, and has no listing to leave out.
 fn generating(matches: &ArgMatches<'_>) -> Option<Request>
-    ensures { result ≡ meant.generating (rows_of (found_of matches.now)) }
+    ensures request { result ≡ meant.generating (rows_of (found_of matches.now)) }
+    ensures within { IfSome result meant.IsWithin }
 {
     if is_brief(matches) {
         return None;
@@ -105,7 +110,8 @@ fn generating(matches: &ArgMatches<'_>) -> Option<Request>
 
 // What is asked for where `clap` gives these matches.
 fn asked(matches: &ArgMatches<'_>) -> Option<Request>
-    ensures { result ≡ meant.asked (rows_of (found_of matches.now)) }
+    ensures request { result ≡ meant.asked (rows_of (found_of matches.now)) }
+    ensures within { IfSome result meant.IsWithin }
 {
     match given(matches, "task")? {
         "check" => checking(matches),
@@ -116,7 +122,8 @@ fn asked(matches: &ArgMatches<'_>) -> Option<Request>
 
 // What is asked for where it gives none.
 fn asked_instead(kind: ErrorKind) -> Option<Request>
-    ensures { result ≡ meant.asked_instead kind }
+    ensures request { result ≡ meant.asked_instead kind }
+    ensures within { IfSome result meant.IsWithin }
 {
     match kind {
         ErrorKind::DisplayHelp => Some(Request::Help),
@@ -133,7 +140,8 @@ fn asked_instead(kind: ErrorKind) -> Option<Request>
 /// `gen` does not take. A number has no sign and no zero in front. `--help` or `--version` is asked for
 /// where `clap` meets it before a fault.
 pub fn read_words(alloc: Global, words: &[String]) -> Result<Option<Request>, OutOfMemory>
-    ensures { IfOk result (λ r. r ≡ meant.request_of (map string_bytes words.now)) }
+    ensures request { IfOk result (λ r. r ≡ meant.request_of (map string_bytes words.now)) }
+    ensures within { IfOk result (λ r. IfSome r meant.IsWithin) }
 {
     let command = the_command(alloc)?;
     match command.try_get_matches_from(words) {

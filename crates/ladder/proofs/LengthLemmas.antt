@@ -50,7 +50,7 @@ bytes_of (l ∷ ls) =
     omega (arith, length-append (l ++ 10 ∷ []) rest, length-append l (10 ∷ []), bytes_of ls)
 
 total_append : (ls ms : List (List ℕ)) → total (ls ++ ms) ≡ total ls + total ms
-total_append [] ms = refl
+total_append [] ms = omega arith
 total_append (l ∷ ls) ms = omega (arith, total_append ls ms)
 
 names_total : (word : List ℕ) (xs : List (List ℕ)) → length word ≤ 10 → AreShort xs → total (names_lines word xs) ≤ 11 * length xs + 12
@@ -106,14 +106,23 @@ is_short n few =
     let d = ladder_document n in
     let controls : AreShort d.controls = (omega arith, tt) in
     let symbols = symbols_short 0 n (omega (arith, few)) in
+    let named = names_lines (codes "controls") d.controls in
+    let lines = names_lines (codes "symbols") d.symbols in
     let rules = map (rule_text d) d.rules in
     let queries = query_text d question ∷ [] in
-    let lines = names_lines (codes "symbols") d.symbols in
-    let named = names_lines (codes "controls") d.controls in
-    let behind = lines ++ [] ++ rules ++ queries in
-    omega (
-    arith, few, bytes_of (written_lines d), total_append named behind, total_append lines (rules ++ queries),
-    total_append rules queries, names_total (codes "controls") d.controls (omega arith) controls,
-    names_total (codes "symbols") d.symbols (omega arith) symbols, symbol_count 0 n, rules_total d controls symbols 0 n,
-    query_short d controls symbols, cap_short
-    )
+    let none : List (List ℕ) = [] in
+    let whole : total (written_lines d) ≡ length (codes "wpds 1") + 1 + (length (weights_text d.weights) + 1 + total (named ++ lines ++ none ++ rules ++ queries)) = refl in
+    let three = named ++ lines ++ none in
+    let parts : total (named ++ lines ++ none ++ rules ++ queries) ≡ total named + total lines + total none + total rules + total queries =
+    total_append (three ++ rules) queries
+    ∙ ap (λ k. k + total queries) (total_append three rules
+    ∙ ap (λ k. k + total rules) (total_append (named ++ lines) none
+    ∙ ap (λ k. k + total none) (total_append named lines))) in
+    let first : total named ≤ 23 = names_total (codes "controls") d.controls (omega arith) controls in
+    let second : total lines ≤ 11 * length d.symbols + 12 = names_total (codes "symbols") d.symbols (omega arith) symbols in
+    let third : total rules ≤ 100 * (3 * n + 1) = rules_total d controls symbols 0 n in
+    let fourth : total queries ≤ 100 = omega (arith, query_short d controls symbols) in
+    let count : length d.symbols ≡ 3 * n + 1 = symbol_count 0 n in
+    let cap : length (weights_text d.weights) ≤ 30 = cap_short in
+    let sum : total (written_lines d) ≤ most_bytes = omega (arith, few, whole, parts, first, second, third, fourth, count, cap) in
+    omega (arith, bytes_of (written_lines d), sum)

@@ -61,9 +61,9 @@ none_among x [] digit all = refl
 none_among x (y ∷ ys) digit all =
     let parts = and_parts (not (second_is_digit y)) (list_all (λ z. not (second_is_digit z)) ys) all in
     let other : bytes_eq x y ≡ false =
-        false_from_ne_true (bytes_eq x y) (λ e.
-        let same : second_is_digit y ≡ true = ap second_is_digit (sym ((bytes_eq-Decides x y).0 e)) ∙ digit in
-        absurd (let bad : false ≡ true = sym (ap not same) ∙ parts.0 in cc)) in
+    false_from_ne_true (bytes_eq x y) (λ e.
+    let same : second_is_digit y ≡ true = ap second_is_digit (sym ((bytes_eq-Decides x y).0 e)) ∙ digit in
+    absurd (let bad : false ≡ true = sym (ap not same) ∙ parts.0 in cc)) in
     or_from (bytes_eq x y) (is_among ys x) other (none_among x ys digit parts.1)
 
 free : (x : List ℕ) → second_is_digit x ≡ true → is_reserved x ≡ false
@@ -176,6 +176,7 @@ symbols_once i (suc n) few =
     entry_apart (inl other) = e_is_no_m i i (sym other)
     entry_apart (inr (inl other)) = e_is_no_x i i (sym other)
     entry_apart (inr (inr more)) = entry_new i n few more
+
     middle_apart : IsIn (middle i) (exit i ∷ symbols_from (i + 1) n) → ⊥
     middle_apart (inl other) = m_is_no_x i i (sym other)
     middle_apart (inr more) = middle_new i n few more

@@ -12,6 +12,10 @@ use Rattle.document_forms.specs.Documents.{Document}
 abbrev pub most_rungs : ℕ
 most_rungs = 10000
 
+-- costs are cut here
+abbrev pub ladder_cap : ℕ
+ladder_cap = 1000000000
+
 -- ---- symbols: where a rung is entered, between its two calls, and behind them
 
 abbrev pub entry : ℕ → List ℕ
@@ -68,7 +72,7 @@ question = record {
 
 abbrev pub ladder_document : ℕ → Document
 ladder_document n = record {
-  weights = Cost 1000000000;
+  weights = Cost ladder_cap;
   controls = codes "p" ∷ [];
   symbols = symbols_from 0 n;
   items = [];

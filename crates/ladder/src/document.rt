@@ -11,6 +11,9 @@ use std::alloc::Global;
 use wpds_base::{OutOfMemory, Sequence};
 use wpds_port::Text;
 
+/// Where costs are cut.
+pub const LADDER_CAP: u64 = 1_000_000_000;
+
 // The query: from the first entry to the empty stack.
 fn question(alloc: Global) -> Result<QueryLine, OutOfMemory>
     ensures { IfOk result (λ q. q ≡ question_of) }
@@ -36,17 +39,14 @@ fn question(alloc: Global) -> Result<QueryLine, OutOfMemory>
 ///
 /// Each rung calls the next one twice, and the last entry costs one: of n rungs the one run has 4 * 2^n - 3 rules
 /// and costs 2^n, cut at a cap of 1,000,000,000.
-pub fn ladder_document(
-    alloc: Global,
-    rungs: u32,
-) -> Result<Document<Sequence<Text>>, OutOfMemory>
+pub fn ladder_document(alloc: Global, rungs: u32) -> Result<Document<Sequence<Text>>, OutOfMemory>
     requires { rungs ≤ most_rungs }
     ensures { IfOk result (λ d. d ≡ document_of rungs) }
 {
     let mut queries = Vec::new(alloc);
     queries.push(question(alloc)?)?;
     Ok(Document {
-        weights: WeightsLine::Cost { cap: 1_000_000_000 },
+        weights: WeightsLine::Cost { cap: LADDER_CAP },
         controls: controls(alloc)?,
         symbols: symbols(alloc, rungs)?,
         items: Sequence::from_vec(Vec::new(alloc)),

@@ -5,7 +5,11 @@ mod document;
 mod laws;
 mod names;
 mod rules;
+mod text;
 
-pub use document::ladder_document;
+pub use document::{LADDER_CAP, ladder_document};
 pub use laws::ladders_are_documents;
+pub use text::ladder;
 
+#[cfg(test)]
+mod tests;

@@ -6,7 +6,7 @@ use Rattle.std.proofs.lemmas.Option.{slice_get_cases, slice_get_read, get_or_fro
 use Rattle.document_forms.specs.Documents.{Document}
 use Rattle.document_forms.specs.declared.document.QueryLine.{QueryLine}
 use Rattle.document_systems.specs.Kinds.{Kind}
-use Rattle.wpds_app.specs.declared.words.Options.{Options}
+use Rattle.command_words.specs.declared.options.Options.{Options}
 use Rattle.wpds_app.specs.Reports.{ByQuery, TellsQuery}
 use Rattle.wpds_app.specs.private.Kept.{TellsAt, AreKept}
 use Rattle.wpds_app.proofs.PartLemmas.{one_more}

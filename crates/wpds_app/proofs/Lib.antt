@@ -5,4 +5,3 @@ mod QueryLemmas
 mod ReplyLemmas
 mod ReportLemmas
 mod ReportingLemmas
-mod WordLemmas

@@ -16,7 +16,7 @@ use Rattle.config_patterns.specs.Membership.{PatternValue, has_member}
 use Rattle.witness_graph.specs.declared.listing.Listing.{Listing}
 use Rattle.document_systems.specs.Weights.{cost_text}
 use Rattle.report_text.specs.Listings.{query_line}
-use Rattle.wpds_app.specs.declared.words.Options.{Options}
+use Rattle.command_words.specs.declared.options.Options.{Options}
 use Rattle.wpds_app.specs.Reports.{shown, query_text, IsCheapest, TellsCost}
 
 -- ---- a line tells its value

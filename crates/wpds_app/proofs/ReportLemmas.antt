@@ -23,7 +23,7 @@ use Rattle.pushdown_rules.specs.Configuration.{Configuration}
 use Rattle.document_systems.specs.Weights.{reach_kind, reach_text, reach_weight}
 use Rattle.document_systems.specs.Systems.{rule_of, system_of, side_of}
 use Rattle.path_sum.specs.Answers.{listed_runs}
-use Rattle.wpds_app.specs.declared.words.Options.{Options}
+use Rattle.command_words.specs.declared.options.Options.{Options}
 use Rattle.wpds_app.specs.Reports.{ByQuery, shown, query_text, IsQueryText, BySemiring, IsReported, IsReport, LeadsOn, IsReachable, TellsReachability}
 use Rattle.wpds_app.proofs.QueryLemmas.{unlisted_line}
 use Rattle.wpds_app.proofs.PartLemmas.{of_each}

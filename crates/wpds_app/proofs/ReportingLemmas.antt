@@ -23,7 +23,7 @@ use Rattle.witness_graph.specs.declared.node.Side.{Side}
 use Rattle.witness_graph.specs.declared.node.Side.TheVariants.{Pre, Post}
 use Rattle.document_systems.specs.Systems.{side_of}
 use Rattle.wpds_app.specs.private.Kept.{opened_text, summed_text}
-use Rattle.wpds_app.specs.declared.words.Options.{Options}
+use Rattle.command_words.specs.declared.options.Options.{Options}
 use Rattle.wpds_app.specs.Reports.{ByQuery, shown, query_text, IsQueryText, IsReported, BySemiring, IsInfeasible, TellsFeasibilityOver}
 
 -- ---- the sides of a query, by direction

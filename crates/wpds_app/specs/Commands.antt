@@ -1,43 +1,37 @@
--- The words of the command line.
-use Rattle.std.specs.Prelude.{◌≡◌, ℕ, Bool, ◌⊎◌, List, [], ◌∷◌, ◌++◌, codes, decimal, if◌then◌else◌}
-use Rattle.worker_pool.specs.Workers.{IsWorkerCount}
-use Rattle.witness_graph.specs.declared.node.Side.{Side}
-use Rattle.witness_graph.specs.declared.node.Side.TheVariants.{Pre, Post}
-use Rattle.wpds_app.specs.declared.words.Options.{Options}
+-- What is written for words alone.
+use Rattle.std.specs.Prelude.{◌≡◌, ℕ, List, ◌++◌, Some, codes}
+use Rattle.command_words.specs.Commands.{request_of}
+use Rattle.command_words.specs.declared.options.Options.{Options}
+use Rattle.command_words.specs.declared.options.Request.{Request}
+use Rattle.command_words.specs.declared.options.Request.TheVariants.{Check}
 
-abbrev pub brief_words : Bool → List (List ℕ)
-brief_words brief = if brief then codes "--brief" ∷ [] else []
-
-abbrev pub side_word : Side → List ℕ
-side_word Pre = codes "pre"
-side_word Post = codes "post"
-
-abbrev pub by_words : Side → List (List ℕ)
-by_words side = codes "--by" ∷ side_word side ∷ []
-
--- `--by pre` or `--by post`; without these words it is by pre*
-abbrev pub IsBy : List (List ℕ) → Side → Type 0
-IsBy words Pre = (words ≡ []) ⊎ (words ≡ by_words Pre)
-IsBy words Post = words ≡ by_words Post
-
--- `--workers` and a number from 1 to 64; without these words there is one worker
-abbrev pub IsWorkers : List (List ℕ) → ℕ → Type 0
-IsWorkers words n =
-    ((words ≡ []) × (n ≡ 1)) ⊎ (IsWorkerCount n × (words ≡ codes "--workers" ∷ decimal n ∷ []))
-
--- `check`, then `--brief` if the listings are left out, then by which direction, and then by how many workers
-pub record IsCheck (words : List (List ℕ)) (options : Options) : Type 0 where
-  pub by : List (List ℕ)
-  pub workers : List (List ℕ)
-  pub is_by : IsBy by options.by
-  pub are_workers : IsWorkers workers options.workers
-  pub said : words ≡ codes "check" ∷ (brief_words options.brief ++ (by ++ workers))
-
--- the words are accepted
+-- the words ask for something that the program does
 abbrev pub IsCommand : List (List ℕ) → Type 0
-IsCommand words = (options : Options) × IsCheck words options
+IsCommand words = (request : Request) × (request_of words ≡ Some request)
+
+-- they ask for the answers to a document
+abbrev pub IsCheck : List (List ℕ) → Options → Type 0
+IsCheck words options = request_of words ≡ Some (Check options)
 
 abbrev pub usage_text : List ℕ
 usage_text =
     codes "usage: wpds check [--workers N] [--by pre|post] [--brief] [--traces]\n"
     ++ codes "usage: wpds gen N [--workers N] [--by pre|post]\n"
+
+abbrev pub version_text : List ℕ
+version_text = codes "wpds 0.1.0\n"
+
+abbrev pub help_text : List ℕ
+help_text =
+    codes "Says what the runs of a pushdown system are worth, with runs that show it.\n\n"
+    ++ codes "usage: wpds check [--workers N] [--by pre|post] [--brief]\n"
+    ++ codes "usage: wpds gen N [--workers N] [--by pre|post]\n\n"
+    ++ codes "check            answers the queries of the document on standard input\n"
+    ++ codes "gen N            answers a ladder of N rungs, from 1 to 10000, that it makes itself\n\n"
+    ++ codes "--workers N      how many workers saturate, from 1 to 64 (1 if it is not given)\n"
+    ++ codes "--by pre|post    backwards from where runs end, or forwards from where they begin\n"
+    ++ codes "                 (pre if it is not given)\n"
+    ++ codes "--brief          values alone, without the runs that they combine; not with gen\n"
+    ++ codes "-h, --help       writes this text\n"
+    ++ codes "-V, --version    writes the version\n\n"
+    ++ codes "example: wpds check --by post --brief < examples/cost.wpds\n"

@@ -1,4 +1,5 @@
 pub mod Commands
+pub mod Generating
 pub mod Reports
 pub mod Running
 pub mod Statuses

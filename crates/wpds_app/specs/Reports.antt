@@ -32,7 +32,7 @@ use Rattle.document_systems.specs.Systems.{system_of, side_of}
 use Rattle.report_text.specs.Listings.{query_line, listing_text}
 use Rattle.path_sum.specs.declared.answer.Answer.{Answer}
 use Rattle.query_answers.specs.Answering.{IsAnswer}
-use Rattle.wpds_app.specs.declared.words.Options.{Options}
+use Rattle.command_words.specs.declared.options.Options.{Options}
 
 -- The text is a part for each query, one after the other, numbered from here on, and this holds of each number, query and part.
 abbrev pub ByQuery : (ℕ → QueryLine → List ℕ → Type 0) → ℕ → List QueryLine → List ℕ → Type 0

@@ -1,5 +1,5 @@
 -- What a run of the program reads and writes.
-use Rattle.std.specs.Prelude.{◌≡◌, ℕ, ◌+◌, ◌<◌, ◌≤◌, ◌⊎◌, ◌↔◌, IsTrue, List, [], ◌∷◌, ◌++◌, Option, Some, length}
+use Rattle.std.specs.Prelude.{◌≡◌, ℕ, ◌+◌, ◌<◌, ◌≤◌, ◌⊎◌, ◌↔◌, IsTrue, List, [], ◌∷◌, ◌++◌, Option, None, Some, length}
 use Rattle.std.specs.Io.KnownBytes.{Appends, Consumes, IsAtEnd}
 use Rattle.wpds_port.specs.Writing.{AppendsPart}
 use Rattle.wpds_port.specs.Refusals.{refusal, refusal_text}
@@ -13,11 +13,15 @@ use Rattle.document_reader.specs.FirstLines.{first_line}
 use Rattle.wpds_port.specs.declared.refusal.ReadFault.{ReadFault as ReadFaultValue}
 use Rattle.wpds_port.specs.declared.refusal.ReadFault.TheVariants.{Refused, Memory}
 use Rattle.wpds_base.specs.Limits.{most_bytes}
-use Rattle.wpds_app.specs.Commands.{IsCheck, IsCommand, usage_text}
+use Rattle.command_words.specs.Commands.{request_of}
+use Rattle.command_words.specs.declared.options.Request.{Request}
+use Rattle.command_words.specs.declared.options.Request.TheVariants.{Help, Version, Check, Generate}
+use Rattle.wpds_app.specs.Commands.{usage_text, help_text, version_text}
+use Rattle.wpds_app.specs.Generating.{IsLadderAnswer}
 use Rattle.wpds_app.specs.Reports.{IsReport}
 use Rattle.wpds_app.specs.declared.input.Input.{Input}
 use Rattle.wpds_app.specs.declared.input.Input.TheVariants.{System}
-use Rattle.wpds_app.specs.declared.words.Options.{Options}
+use Rattle.command_words.specs.declared.options.Options.{Options}
 use Rattle.wpds_app.specs.declared.status.Status.{Status}
 use Rattle.wpds_app.specs.declared.status.Status.TheVariants.{Answered, WordsRefused, ReadFault, WriteFault, DocumentRefused, OutOfMemory}
 
@@ -71,27 +75,28 @@ pub record HasReply (left_before left_now : Option (List ℕ)) (options : Option
   pub read : IsInput left_before left_now input
   pub reply : IsReply input options status text
 
--- The words are a command, an input was read, and the reply to it was written.
+-- How the program ends and what is written, if no fault of the sink comes.
+abbrev pub IsOutcome : Option Request → (left_before left_now : Option (List ℕ)) → Status → List ℕ → Type 0
+IsOutcome None left_before left_now status text = (status ≡ WordsRefused) × (text ≡ usage_text)
+IsOutcome (Some Help) left_before left_now status text = (status ≡ Answered) × (text ≡ help_text)
+IsOutcome (Some Version) left_before left_now status text = (status ≡ Answered) × (text ≡ version_text)
+IsOutcome (Some (Check options)) left_before left_now status text = HasReply left_before left_now options status text
+IsOutcome (Some (Generate g)) left_before left_now status text = (status ≡ Answered) × IsLadderAnswer g text
+
+-- What the words ask for was done, and all of it is written.
 pub record Replies (words : List (List ℕ)) (left_before left_now written_before written_now : Option (List ℕ)) (status : Status) : Type 0 where
-  pub options : Options
-  pub command : IsCheck words options
   pub text : List ℕ
-  pub reply : HasReply left_before left_now options status text
+  pub outcome : IsOutcome (request_of words) left_before left_now status text
   pub written : Appends written_before written_now text
 
--- what is written if no fault of the sink comes: the usage lines, or the reply to the input
-abbrev pub IsText : List (List ℕ) → Option (List ℕ) → Option (List ℕ) → List ℕ → Type 0
-IsText words left_before left_now text =
-    ((IsCommand words → ⊥) × (text ≡ usage_text))
-    ⊎ ((options : Options) × IsCheck words options × (status : Status) × HasReply left_before left_now options status text)
-
--- A beginning of that was written.
+-- A beginning of it was written.
 pub record IsCutShort (words : List (List ℕ)) (left_before left_now written_before written_now : Option (List ℕ)) : Type 0 where
+  pub status : Status
   pub text : List ℕ
-  pub whole : IsText words left_before left_now text
+  pub outcome : IsOutcome (request_of words) left_before left_now status text
   pub written : AppendsPart written_before written_now text
 
--- the reply is one to an input
+-- the program did what the words ask for
 abbrev pub IsDecided : Status → Type 0
 IsDecided status = (status ≡ Answered) ⊎ (status ≡ DocumentRefused)
 

@@ -1,2 +1,1 @@
-pub mod CommandReading
 pub mod Kept

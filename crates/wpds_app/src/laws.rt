@@ -9,7 +9,7 @@ ghost use Rattle.report_text.specs.Listings.{query_line};
 ghost use Rattle.document_forms.specs.Documents.{Document};
 ghost use Rattle.document_forms.specs.Lawful.{IsDocument};
 ghost use Rattle.document_forms.specs.declared.weight.WeightsLine.TheVariants.{Reach as ReachLine, Cost as CostLine};
-ghost use Rattle.wpds_app.specs.declared.words.Options.{Options as OptionsValue};
+ghost use Rattle.command_words.specs.declared.options.Options.{Options as OptionsValue};
 ghost use Rattle.wpds_app.specs.Reports.{ByQuery, IsReport, IsReported, IsQueryText, TellsFeasibility, TellsFeasibilityOver, TellsReachability, TellsCost, TellsCosts};
 
 use copy_weights::CopyConst;

@@ -3,13 +3,14 @@
 
 mod alike;
 mod crew;
+mod generate;
 mod input;
 mod laws;
 mod program;
 mod reply;
 mod report;
+mod request;
 mod status;
-mod words;
 
 pub use input::Input;
 pub use laws::{
@@ -18,7 +19,6 @@ pub use laws::{
 };
 pub use program::run;
 pub use status::Status;
-pub use words::Options;
 
 #[cfg(test)]
 mod tests;

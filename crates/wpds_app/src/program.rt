@@ -6,20 +6,19 @@ ghost use Rattle.wpds_port.specs.Causes.{Rose};
 ghost use Rattle.wpds_port.specs.Reading.{ConsumesPart};
 ghost use Rattle.wpds_port.specs.Writing.{AppendsPart};
 ghost use Rattle.wpds_app.specs.Running.{Replies, IsCutShort, IsDecided, IsDecidedBy};
-ghost use Rattle.wpds_app.specs.Commands.{IsCommand, usage_text};
+ghost use Rattle.command_words.specs.declared.options.Options.{Options};
+ghost use Rattle.wpds_app.specs.Commands.{IsCheck, IsCommand};
 
 use crate::Status;
 use crate::crew::Crew;
-use crate::reply::read_and_reply;
-use crate::words::command_of;
+use crate::request::reply_to_request;
+use command_words::read_words;
 use document_forms::one_document_or_one_refusal;
 use std::alloc::Global;
 use std::sync::Wait;
 use std::thread::Threads;
+use wpds_base::OutOfMemory;
 use wpds_port::{Failed, Gate, InputFault, Sink, Source, write_all};
-
-const USAGE: &str =
-    "usage: wpds check [--workers N] [--by pre|post] [--brief] [--traces]\nusage: wpds gen N [--workers N] [--by pre|post]\n";
 
 // Writes a text and flushes it.
 fn send<W: Sink>(sink: &mut W, text: &[u8]) -> Result<(), Failed>
@@ -47,11 +46,11 @@ fn finish<W: Sink>(sink: &mut W, status: Status, text: &[u8]) -> Status
     }
 }
 
-/// Does all that the program does: takes the words after its name, reads a document, and writes the answer to it.
+/// Does all that the program does: takes the words after its name, does what they ask for, and writes the outcome.
 ///
-/// The words so far are `check`, then `--brief`, which leaves out the listings, `--by pre` or `--by post`, and `--workers N`
-/// with 1 to 64 workers. The document is read to its end, or to one byte more than a document has, and refused by its first
-/// refusal (docs/FORMATS.md). The report stands in memory before its first byte is written.
+/// The words are `check` or `gen N`, with the options `--workers N`, `--by pre` or `--by post`, and `--brief`, or `--help` or
+/// `--version` (docs/FORMATS.md). `check` reads a document to its end, or to one byte more than a document has; no other command reads.
+/// A document is refused by its first refusal. What is written stands in memory before its first byte is written.
 ///
 /// Two workers or more have a thread each, and take turns at one automaton. Each worker calls the gate between taking a
 /// transition and settling it; what the gate does changes no answer, and [`OpenGate`](wpds_port::OpenGate) does nothing.
@@ -63,14 +62,13 @@ pub fn run<H: Threads + Wait + Sync, R: Source, W: Sink, G: Gate>(
     sink: &mut W,
     gate: &G,
 ) -> Status
-    // Words are refused exactly if they are no command and no write fault came. Nothing is read then.
+    // Words are refused exactly if they are no command, no write fault came, and there was memory to read them.
     ensures words_refused { (result ≡ Status.WordsRefused)
-        ↔ ((IsCommand (map string_bytes words.now) → ⊥) × (result ≢ Status.WriteFault)) }
+        ↔ ((IsCommand (map string_bytes words.now) → ⊥)
+        × ((result ≢ Status.WriteFault) × (result ≢ Status.OutOfMemory))) }
     ensures words_accepted { result ≢ Status.WordsRefused → result ≢ Status.WriteFault
-        → IsCommand (map string_bytes words.now) }
-    ensures usage { result ≡ Status.WordsRefused
-        → Appends (W.written sink.old) (W.written sink.new) usage_text }
-    ensures unread { (IsCommand (map string_bytes words.now) → ⊥)
+        → result ≢ Status.OutOfMemory → IsCommand (map string_bytes words.now) }
+    ensures unread { ((o : Options) → IsCheck (map string_bytes words.now) o → ⊥)
         → R.left source.new ≡ R.left source.old }
 
     // Of what was left at most its first 4,194,305 bytes are read, whatever comes of it.
@@ -82,13 +80,11 @@ pub fn run<H: Threads + Wait + Sync, R: Source, W: Sink, G: Gate>(
     ensures write_fault { result ≡ Status.WriteFault
         → Rose (W.faults sink.old) (W.faults sink.new) }
 
-    // What is written: all of the answer, a beginning of it, or nothing.
-    ensures answered { result ≡ Status.Answered
+    // What is written: all of the outcome, a beginning of it, or nothing.
+    ensures replied { result ≢ Status.ReadFault → result ≢ Status.WriteFault
+        → result ≢ Status.OutOfMemory
         → Replies (map string_bytes words.now) (R.left source.old) (R.left source.new)
-        (W.written sink.old) (W.written sink.new) Status.Answered }
-    ensures document_refused { result ≡ Status.DocumentRefused
-        → Replies (map string_bytes words.now) (R.left source.old) (R.left source.new)
-        (W.written sink.old) (W.written sink.new) Status.DocumentRefused }
+        (W.written sink.old) (W.written sink.new) result }
     ensures cut_short { result ≡ Status.WriteFault
         → IsCutShort (map string_bytes words.now) (R.left source.old) (R.left source.new)
         (W.written sink.old) (W.written sink.new) }
@@ -97,20 +93,23 @@ pub fn run<H: Threads + Wait + Sync, R: Source, W: Sink, G: Gate>(
     ensures memory_unwritten { result ≡ Status.OutOfMemory
         → W.written sink.new ≡ W.written sink.old }
 
-    // Accepted words, no fault and memory enough give an answer to the input. If the source tells
-    // its bytes, it is exactly the answer to them.
+    // Accepted words, no fault and memory enough give what they ask for. If the source tells
+    // its bytes, the answer to a document is exactly the answer to them.
     ensures complete { IsCommand (map string_bytes words.now)
         → result ≢ Status.ReadFault → result ≢ Status.WriteFault → result ≢ Status.OutOfMemory
         → IsDecided result }
-    ensures exactly { (bytes : List ℕ) → R.left source.old ≡ Some bytes → IsDecided result
+    ensures exactly { (options : Options) (bytes : List ℕ)
+        → IsCheck (map string_bytes words.now) options
+        → R.left source.old ≡ Some bytes → IsDecided result
         → IsDecidedBy (take (most_bytes + 1) bytes) result }
 {
     one_document_or_one_refusal();
-    let Some(options) = command_of(words) else {
-        return finish(sink, Status::WordsRefused, USAGE.as_bytes());
+    let request = match read_words(alloc, words) {
+        Ok(request) => request,
+        Err(OutOfMemory) => return Status::OutOfMemory,
     };
     let crew = Crew { rt, gate };
-    match read_and_reply(&crew, alloc, source, options) {
+    match reply_to_request(&crew, alloc, source, request) {
         Ok(reply) => finish(sink, reply.status, reply.text.as_bytes()),
         Err(InputFault::Read) => Status::ReadFault,
         Err(InputFault::Memory) => Status::OutOfMemory,

@@ -12,9 +12,9 @@ ghost use Rattle.query_answers.specs.Answering.{IsFinished, IsSaturated, saturat
 ghost use Rattle.wpds_app.specs.Reports.{query_text, TellsQuery, IsReported, IsReport};
 ghost use Rattle.wpds_app.specs.private.Kept.{AreKept, TellsAt, opened_text, summed_text};
 
-use crate::Options;
 use crate::alike::same_pattern;
 use crate::crew::Crew;
+use command_words::Options;
 use copy_weights::CopyConst;
 use cost_weights::Cost;
 use document_forms::{Document, PatternText, QueryLine, WeightsLine};
@@ -250,8 +250,8 @@ fn report_over<
     Ok(Text::from_vec(text))
 }
 
-// The costs up to a cap that a document names.
-fn costs(cap: u64) -> Cost
+/// The costs up to a cap that a document names.
+pub(crate) fn costs(cap: u64) -> Cost
     requires some { 0 < cap }
     requires few { cap ≤ most_cost }
     ensures { result ≡ cap }
