@@ -1,14 +1,14 @@
 -- The symbols of a ladder are names, each once.
-use Rattle.std.proofs.Common.{◌≡◌, ◌⊎◌, inl, inr, ℕ, zero, suc, ◌+◌, ◌*◌, ◌/◌, ◌%◌, ◌^◌, ◌<◌, ◌≤◌, Bool, true, false, not, cond, List, [], ◌∷◌, ◌++◌, length, refl, sym, ap, ◌∙◌, subst, arith, decimal, codes, append_assoc, ◌-◌}
-use Rattle.std.specs.Prelude.{All, ◌&&◌, ◌||◌, bytes_eq, nat_le}
+use Rattle.std.proofs.Common.{◌≡◌, ◌⊎◌, inl, inr, ℕ, zero, suc, ◌+◌, ◌*◌, ◌%◌, ◌^◌, ◌<◌, ◌≤◌, Bool, true, false, not, List, [], ◌∷◌, ◌++◌, length, refl, sym, ap, ◌∙◌, arith, decimal, append_assoc, ◌-◌}
+use Rattle.std.specs.Prelude.{All, bytes_eq, nat_le}
 use Rattle.std.specs.List.{list_all}
 use Rattle.std.proofs.lemmas.Bool.{and_parts, and_from, or_from, or_left, or_right, le-leb, false_from_ne_true}
 use Rattle.std.proofs.lemmas.List.Elements.{All-nil, All-cons}
 use Rattle.std.proofs.lemmas.Slice.Eq.{bytes_eq-Decides}
 use Rattle.std.proofs.lemmas.Fmt.{decimal_by_steps, decimal_injective, length-decimal-le}
-use Rattle.wpds_base.specs.Limits.{longest_name, most_symbols}
+use Rattle.wpds_base.specs.Limits.{most_symbols}
 use Rattle.wpds_base.specs.Lists.{IsIn, IsOnce}
-use Rattle.wpds_port.specs.Tokens.{is_digit, begins_name, goes_on_name, is_name_text}
+use Rattle.wpds_port.specs.Tokens.{is_digit, begins_name, goes_on_name}
 use Rattle.document_forms.specs.Names.{reserved, is_among, is_reserved}
 use Rattle.document_forms.specs.Lawful.{IsName, AreNames}
 use Rattle.ladder.specs.Ladders.{most_rungs, entry, middle, exit, rung_symbols, symbols_from}

@@ -1,15 +1,12 @@
 -- The rules and the query of a ladder are over its own symbols.
-use Rattle.std.proofs.Common.{◌≡◌, ◌≢◌, inl, inr, ℕ, zero, suc, ◌+◌, ◌*◌, ◌^◌, ◌<◌, ◌≤◌, List, [], ◌∷◌, ◌++◌, map, length, refl, ap, ◌∙◌, arith, codes, append_assoc, ◌-◌}
+use Rattle.std.proofs.Common.{◌≡◌, inr, ℕ, zero, suc, ◌+◌, ◌*◌, ◌^◌, ◌<◌, ◌≤◌, List, [], ◌∷◌, ◌++◌, map, length, refl, ap, ◌∙◌, arith, codes, append_assoc, ◌-◌}
 use Rattle.std.specs.Prelude.{All, None, false}
 use Rattle.std.proofs.lemmas.List.Elements.{All-nil, All-cons}
-use Rattle.wpds_base.specs.Limits.{most_rules}
 use Rattle.document_forms.specs.declared.weight.WeightsLine.TheVariants.{Cost}
-use Rattle.document_forms.specs.declared.document.MapText.{MapText}
 use Rattle.document_forms.specs.declared.document.RuleLine.{RuleLine}
-use Rattle.document_forms.specs.declared.document.QueryLine.{QueryLine}
 use Rattle.document_forms.specs.declared.pattern.ItemText.{ItemText}
 use Rattle.document_forms.specs.declared.pattern.SetText.TheVariants.{Listed}
-use Rattle.document_forms.specs.Lawful.{AreBelow, IsRuleLine, IsSetText, IsPatternText, IsQueryLine, HasMap, HasSets, HasSymbol, IsName, IsDocument, IsRuleOf, IsQueryOf}
+use Rattle.document_forms.specs.Lawful.{AreBelow, IsRuleLine, IsSetText, IsQueryLine, HasMap, HasSets, HasSymbol, IsName, IsDocument, IsQueryOf}
 use Rattle.ladder.specs.Ladders.{most_rungs, rule, rung_rules, rules_from, question, ladder_document}
 use Rattle.ladder.proofs.NameLemmas.{symbol_count, symbols_are_names}
 

@@ -3,7 +3,6 @@ use Rattle.std.specs.Prelude.{ℕ, zero, suc, ◌+◌, ◌*◌, List, [], ◌∷
 use Rattle.document_forms.specs.declared.weight.WeightsLine.TheVariants.{Cost}
 use Rattle.document_forms.specs.declared.weight.WeightText.TheVariants.{Number}
 use Rattle.document_forms.specs.declared.pattern.SetText.TheVariants.{Listed}
-use Rattle.document_forms.specs.declared.pattern.ItemText.{ItemText}
 use Rattle.document_forms.specs.declared.document.RuleLine.{RuleLine}
 use Rattle.document_forms.specs.declared.document.QueryLine.{QueryLine}
 use Rattle.document_forms.specs.Documents.{Document}

@@ -10,6 +10,8 @@ mod devices;
 #[cfg(test)]
 mod facts;
 #[cfg(test)]
+mod ladders;
+#[cfg(test)]
 mod large;
 #[cfg(test)]
 mod lines;

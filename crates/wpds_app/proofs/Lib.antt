@@ -5,3 +5,4 @@ mod QueryLemmas
 mod ReplyLemmas
 mod ReportLemmas
 mod ReportingLemmas
+mod RequestLemmas

@@ -65,18 +65,13 @@ pub sent_decided : NeverBoth → (bytes : List ℕ) (options : Options) (text : 
 sent_decided both bytes options text before now status sent told has kept done =
     subst (IsDecidedBy (take 4194305 bytes)) (sym (kept (decided_unfaulted sent done))) (decided_by both bytes options text before now status told has)
 
-reply_decides : (input : List ℕ) (options : Options) (text : List ℕ) (status : Status) → IsReply input options status text → IsDecided status
+pub reply_decides : (input : List ℕ) (options : Options) (text : List ℕ) (status : Status) → IsReply input options status text → IsDecided status
 reply_decides input options text Answered reply = inl refl
 reply_decides input options text DocumentRefused reply = inr refl
 reply_decides input options text WordsRefused reply = absurd reply
 reply_decides input options text ReadFault reply = absurd reply
 reply_decides input options text WriteFault reply = absurd reply
 reply_decides input options text OutOfMemory reply = absurd reply
-
--- an answer that was sent without a fault is one to the input
-pub sent_decides : (options : Options) (text : List ℕ) (left_before left_now : Option (List ℕ)) (status sent : Status) → HasReply left_before left_now options status text
-    → (sent ≢ WriteFault → sent ≡ status) → sent ≢ WriteFault → IsDecided sent
-sent_decides options text before now status sent has kept unfaulted = subst IsDecided (sym (kept unfaulted)) (reply_decides has.input options text status has.reply)
 
 -- what an input means, and why it is refused, if that is its meaning's call's result
 module _ (input : List ℕ) (r : Result Input ReadFaultValue) (told : MatchResult r (Means input) (IsUnread input)) where

@@ -63,6 +63,8 @@ pub(crate) fn reply_to_request<H: Threads + Wait + Sync, R: Source, G: Gate>(
         IsOutcome request (R.left source.old) (R.left source.new) r.status r.text) }
     ensures fault { IsErrOf result InputFault.Read
         → Rose (R.faults source.old) (R.faults source.new) }
+    ensures reading { IsErrOf result InputFault.Read
+        → (o : Options) × (request ≡ Some (CheckOf o)) }
     ensures read_at_most { ConsumesPart (R.left source.old) (R.left source.new) (most_bytes + 1) }
     ensures unread { ((o : Options) → request ≡ Some (CheckOf o) → ⊥)
         → R.left source.new ≡ R.left source.old }

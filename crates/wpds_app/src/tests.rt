@@ -198,12 +198,10 @@ fn refuses_words(rt: HostRuntime) -> Result<(), Fail> {
         &["Check"],
         &["check", "check"],
         &["check", "brief"],
-        &["--brief", "check"],
         &["check", "--brief", "--brief"],
         &["check", "--by"],
         &["check", "--by", "both"],
         &["check", "--by", "pre", "post"],
-        &["check", "--by", "pre", "--brief"],
         &["check", "--brief", "--by"],
         &["check", "--workers"],
         &["check", "--workers", "0"],
@@ -212,11 +210,13 @@ fn refuses_words(rt: HostRuntime) -> Result<(), Fail> {
         &["check", "--workers", "+3"],
         &["check", "--workers", "two"],
         &["check", "--workers", ""],
-        &["check", "--workers", "2", "--by", "pre"],
         &["check", "--workers", "2", "--workers", "2"],
         &["check", "post"],
+        &["check", "5"],
+        &["check", "--traces"],
+        &["gen", "10001"],
+        &["gen", "5", "--brief"],
         &["--by", "post"],
-        &["--help"],
         &[""],
     ] {
         let (ended, written) = outcome(&rt, words, CALL.as_bytes(), &[0], 1000, &[])?;
@@ -386,6 +386,28 @@ fn forward_listings(rt: HostRuntime) -> Result<(), Fail> {
     Ok(())
 }
 
+// Nothing is read: the first read would fail.
+#[test]
+fn answers_without_a_document(rt: HostRuntime) -> Result<(), Fail> {
+    for (words, text) in [
+        (["--version"].as_slice(), "wpds 0.1.0\n"),
+        (&["check", "-V"], "wpds 0.1.0\n"),
+        (&["gen", "1"], "gen 1: 4 rules, value 2\n"),
+        (
+            &["gen", "3", "--by", "post", "--workers", "2"],
+            "gen 3: 10 rules, value 8\n",
+        ),
+    ] {
+        let (ended, written) = outcome(&rt, words, &[], &[0], 100, &[])?;
+        assert_eq!(rt; ended, Status::Answered);
+        assert_eq!(rt; written.as_slice(), text.as_bytes());
+    }
+    let (ended, written) = outcome(&rt, &["--help"], &[], &[0], 2000, &[])?;
+    assert_eq!(rt; ended, Status::Answered);
+    assert!(rt; written.starts_with(b"Says what the runs of a pushdown system are worth"));
+    Ok(())
+}
+
 #[test]
 fn takes_workers(rt: HostRuntime) -> Result<(), Fail> {
     for words in [
@@ -393,6 +415,7 @@ fn takes_workers(rt: HostRuntime) -> Result<(), Fail> {
         &["check", "--brief", "--workers", "10"],
         &["check", "--brief", "--workers", "64"],
         &["check", "--brief", "--by", "post", "--workers", "2"],
+        &["--workers=2", "--by", "pre", "check", "--brief"],
     ] {
         let (ended, written) = outcome(&rt, words, CALL.as_bytes(), &[], 100, &[])?;
         assert_eq!(rt; ended, Status::Answered);
