@@ -1,6 +1,7 @@
 -- Small relations in documents, computed.
 use Rattle.std.proofs.Common.{◌≡◌, ℕ, true, false, List, [], ◌∷◌, refl}
 use Rattle.std.specs.Prelude.{codes}
+use Rattle.std.specs.Fmt.{digits}
 use Rattle.truth_tables.specs.Formulas.{Variable, Opposite, Constant}
 use Rattle.diagram_store.specs.declared.branch.Branch.{Branch}
 use Rattle.diagram_store.specs.Meaning.{walk}
@@ -25,6 +26,7 @@ unfolding relation_of built walk
 assumed = refl
 
 assumed_text : relation_text (codes "x" ∷ []) (parts 3 (n 1 0 1 ∷ n 0 0 2 ∷ [])) ≡ codes "relation x' 0 1; x 0 2"
+unfolding digits
 assumed_text = refl
 
 -- `assume x` and then `x := !x`, in this order

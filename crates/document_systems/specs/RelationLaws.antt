@@ -1,5 +1,5 @@
 -- The texts of relations tell the relations.
-use Rattle.std.proofs.Common.{◌≡◌, ◌≢◌, ℕ, zero, suc, ◌+◌, ◌*◌, ◌^◌, ◌<◌, ◌≤◌, Bool, true, false, cond, List, [], ◌∷◌, ◌++◌, fold, length, map, refl, sym, ap, ap₂, subst, ◌∙◌, inl, inr, append-nil, arith}
+use Rattle.std.proofs.Common.{◌≡◌, ◌≢◌, ℕ, zero, suc, ◌+◌, ◌*◌, ◌^◌, ◌<◌, ◌≤◌, Bool, true, false, cond, List, [], ◌∷◌, ◌++◌, fold, length, map, refl, sym, ap, ap₂, subst, ◌∙◌, inl, inr, append-nil, append_assoc, arith}
 use Rattle.std.specs.Prelude.{◌↔◌, ◌⊎◌, ◌/◌, ◌%◌, All, IsTrue, nat_eq, drop, codes, decimal, Some, slice_get, slice_index_or}
 use Rattle.std.specs.List.{AllByRecursion, join_with_byte, range_with_len}
 use Rattle.std.specs.Str.Parse.{AllDigits}
@@ -63,11 +63,11 @@ relation_weights_fit n (Forms ps) = (relation_laws n).fits-one
 
 moved_below : (n : ℕ) (ms : List Move) → AllByRecursion (λ k. k < n) (map (λ m. m.from) ms) → (v : ℕ) → v < n → moved_from ms v < n
 moved_below n [] all v low = low
-moved_below n (m ∷ ms) all v low = go (nat_eq m.to v)
+moved_below n (m ∷ ms) all v low = go (nat_eq m.to v) (moved_below n ms all.1 v low)
   where
-    go : (b : Bool) → cond b m.from (moved_from ms v) < n
-    go true = all.0
-    go false = moved_below n ms all.1 v low
+    go : (b : Bool) → moved_from ms v < n → cond b m.from (moved_from ms v) < n
+    go true rest = all.0
+    go false rest = rest
 
 slot_below : (n : ℕ) (m : MapText) → AllByRecursion (λ k. k < n) (map (λ v. v.from) m.moves) → (v : ℕ) → v < n → slot_fits n (slot_of m v) ≡ true
 slot_below n m all v low = go (is_listed m.restore v)
@@ -248,26 +248,38 @@ module _ (names : List (List ℕ)) (are : AreNames most_related names) where
   abbrev behind : Branch → List ℕ
   behind b = decimal b.low ++ 32 ∷ decimal b.high
 
+  node_is : (b : Branch) → node_text names b ≡ 32 ∷ (label names b.var ++ 32 ∷ behind b)
+  node_is b =
+      let x = label names b.var in
+      let low = decimal b.low in
+      let high = decimal b.high in
+      ap (λ t. 32 ∷ t)
+      (append_assoc ((x ++ 32 ∷ []) ++ low) (32 ∷ []) high ∙ append_assoc (x ++ 32 ∷ []) low (32 ∷ high) ∙ append_assoc x (32 ∷ []) (low ++ 32 ∷ high))
+
   label_blank : (b : Branch) → IsOwn b → IsFree 32 (label names b.var)
   label_blank b is = label_free 32 refl (λ e. omega (arith, e)) b.var is.0
 
   node_tells : (a b : Branch) → IsOwn a → IsOwn b → node_text names a ≡ node_text names b → a ≡ b
   node_tells a b is is' e =
       let first =
-      fronts_tell 32 (label names a.var) (label names b.var) (behind a) (behind b) (each_apart 32 (label names a.var) (label_blank a is)) (each_apart 32 (label names b.var) (label_blank b is')) (ap (drop 1) e) in
+      fronts_tell 32 (label names a.var) (label names b.var) (behind a) (behind b) (each_apart 32 (label names a.var) (label_blank a is)) (each_apart 32 (label names b.var) (label_blank b is')) (ap (drop 1) (sym (node_is a) ∙ e ∙ node_is b)) in
       let second =
       fronts_tell 32 (decimal a.low) (decimal b.low) (decimal a.high) (decimal b.high) (each_apart 32 (decimal a.low) (number_free 32 blank_apart a.low is.1.0)) (each_apart 32 (decimal b.low) (number_free 32 blank_apart b.low is'.1.0)) first.1 in
       from_parts a b (label_tells a.var b.var is.0 is'.0 first.0) (decimal_injective a.low b.low is.1.0 is'.1.0 second.0) (decimal_injective a.high b.high is.1.1 is'.1.1 second.1)
+
+  prime_apart : ◌≢◌ {A = ℕ} 39 59
+  prime_apart = λ e. omega (arith, e)
 
   node_free : (b : Branch) → IsOwn b → IsFree 59 (node_text names b)
   node_free b is =
       let off : 32 ≢ 59 = λ e. omega (arith, e) in
       let numbers = free_append 59 (decimal b.low) (32 ∷ decimal b.high) (number_free 59 semicolon_apart b.low is.1.0) (off, number_free 59 semicolon_apart b.high is.1.1) in
-      (off, free_append 59 (label names b.var) (32 ∷ behind b) (label_free 59 refl (λ e. omega (arith, e)) b.var is.0) (off, numbers))
+      subst (IsFree 59) (sym (node_is b))
+      (off, free_append 59 (label names b.var) (32 ∷ behind b) (label_free 59 refl prime_apart b.var is.0) (off, numbers))
 
   not_true : (b : Branch) → IsOwn b → node_text names b ≢ codes " true"
   not_true b is e =
-      let word : label names b.var ++ 32 ∷ behind b ≡ codes "true" = ap (drop 1) e in
+      let word : label names b.var ++ 32 ∷ behind b ≡ codes "true" = ap (drop 1) (sym (node_is b) ∙ e) in
       marked 32 (label names b.var) (behind b) (subst (IsFree 32) (sym word) (free_test 32 (codes "true") refl))
 
   each_text : (P : List ℕ → Type 0) → ((b : Branch) → IsOwn b → P (node_text names b)) → (bs : List Branch) → AllByRecursion IsOwn bs → AllByRecursion P (map (node_text names) bs)

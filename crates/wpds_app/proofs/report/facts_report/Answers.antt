@@ -35,16 +35,16 @@ returns-in_default g c =
     subst (ReportedOver c.args.options c.args.document.now c.report_over-5.result) (sym (width_16 (length c.args.document.now.items) (omega (arith, c.len.ensures)))) c.report_over-5.ensures
 
 pub report_over-requires-clause-taken : goal.report_over-requires-clause-taken
-report_over-requires-clause-taken c = all_taken (genkill_kind 1) (record {}) (λ t. tt) (λ m. tt) c.args.document.now
+report_over-requires-clause-taken g c κs within = all_taken (genkill_kind 1) (record {}) (λ t. tt) (λ m. tt) c.args.document.now
 
 pub report_over-requires-2-clause-taken : goal.report_over-requires-2-clause-taken
-report_over-requires-2-clause-taken c = all_taken (genkill_kind 2) (record {}) (λ t. tt) (λ m. tt) c.args.document.now
+report_over-requires-2-clause-taken g c κs within = all_taken (genkill_kind 2) (record {}) (λ t. tt) (λ m. tt) c.args.document.now
 
 pub report_over-requires-3-clause-taken : goal.report_over-requires-3-clause-taken
-report_over-requires-3-clause-taken c = all_taken (genkill_kind 4) (record {}) (λ t. tt) (λ m. tt) c.args.document.now
+report_over-requires-3-clause-taken g c κs within = all_taken (genkill_kind 4) (record {}) (λ t. tt) (λ m. tt) c.args.document.now
 
 pub report_over-requires-4-clause-taken : goal.report_over-requires-4-clause-taken
-report_over-requires-4-clause-taken c = all_taken (genkill_kind 8) (record {}) (λ t. tt) (λ m. tt) c.args.document.now
+report_over-requires-4-clause-taken g c κs within = all_taken (genkill_kind 8) (record {}) (λ t. tt) (λ m. tt) c.args.document.now
 
 pub report_over-requires-5-clause-taken : goal.report_over-requires-5-clause-taken
-report_over-requires-5-clause-taken c = all_taken (genkill_kind 16) (record {}) (λ t. tt) (λ m. tt) c.args.document.now
+report_over-requires-5-clause-taken g c κs within = all_taken (genkill_kind 16) (record {}) (λ t. tt) (λ m. tt) c.args.document.now
