@@ -5,22 +5,20 @@ ghost use Rattle.seat_lock.specs.Queue.{Each, Among, first_view, at_stage, one_m
 ghost use Rattle.seat_lock.specs.Passes.{IsPass, Grown, Gave, is_idle, is_turn, is_out};
 
 use crate::bell::Bell;
+use crate::doors::Doors;
 use crate::plays::{Count, Cut, Draw, Glue, Look, Serve};
 use crate::view::{Journaled, Place, Queue, View};
 use atomic_table::{Refused, Table};
 use std::alloc::Global;
-use std::hint::spin_loop;
 use std::snapshot::Snapshot;
 use std::sync::Wait;
-
-// How often a turn looks again before it sleeps.
-const MOST_SPINS: u32 = 200;
 
 /// A lock round a value that keeps a journal.
 #[derive(Drop)]
 pub struct SeatLock<T: Journaled> {
     table: Table<Option<T>, View<T::Base, T::Entry>, Snapshot<T>, Queue<T>, Global>,
     bell: Bell,
+    doors: Doors,
     ghost sized: { (table.shared.table_id.words ≡ 2) × (table.shared.table_id.slots ≡ 1) },
 }
 
@@ -93,8 +91,8 @@ impl<T: Journaled> SeatLock<T> {
                     heard: 0,
                     seat,
                 };
-                let bell = Bell::new();
-                Ok((SeatLock { table, bell }, pass))
+                let (bell, doors) = (Bell::new(), Doors::new());
+                Ok((SeatLock { table, bell, doors }, pass))
             }
             Err(Refused { mut slots }) => {
                 let Some(Some(value)) = slots.pop() else {
@@ -126,7 +124,7 @@ impl<T: Journaled> SeatLock<T> {
         unreachable!()
     }
 
-    // Waits until the ticket is served.
+    // Waits until the ticket is served. The look before each sleep comes after the ticket's door is shut.
     fn reach<H: Wait>(&self, rt: &H, seat: &mut Place<T>, ticket: u64)
         requires lock { seat.old.table_id ≡ self.now.table.shared.table_id }
         requires waiting { seat.old.me.0.stage ≡ Waiting ticket }
@@ -134,19 +132,19 @@ impl<T: Journaled> SeatLock<T> {
         ensures lock { seat.new.table_id ≡ seat.old.table_id }
         ensures turn { Comes T.base T.journal T.number ticket seat.old.me seat.new.me }
     {
-        let shared = &self.table.shared;
-        let mut spins = 0;
+        let (shared, doors) = (&self.table.shared, &self.doors);
+        let mut is_shut = false;
         for _ in rt.forever() {
             let serving = shared.load::<Look>(seat, 1);
             if serving == ticket {
                 return;
             }
-            if spins < MOST_SPINS {
-                spins += 1;
-                spin_loop();
+            if is_shut {
+                doors.wait(rt, ticket);
             } else {
-                shared.park(rt, 1, (serving % (1 << 32)) as u32);
+                doors.shut(ticket);
             }
+            is_shut = !is_shut;
         }
         unreachable!()
     }
@@ -285,7 +283,11 @@ impl<T: Journaled> SeatLock<T> {
                 made,
             });
         }
-        let SeatLock { table, bell: _ } = self;
+        let SeatLock {
+            table,
+            bell: _,
+            doors: _,
+        } = self;
         let Pass {
             number: _,
             left: _,
@@ -350,17 +352,17 @@ impl<'a, T: Journaled> Held<'a, T> {
             left,
             joined,
             made,
-            ticket: _,
+            ticket,
             mut seat,
             value,
         } = self;
-        let (shared, bell) = (&lock.table.shared, &lock.bell);
+        let (shared, bell, doors) = (&lock.table.shared, &lock.bell, &lock.doors);
         let nothing = shared.exchange(&mut seat, 0, Some(value));
         let None = nothing else { unreachable!() };
         // Before the turn ends, so that whoever takes a later turn has heard it.
         let heard = bell.ring(most);
         shared.fetch_add::<Serve>(&mut seat, 1, 1);
-        shared.wake_all(1);
+        doors.open(ticket.wrapping_add(1));
         bell.wake(most);
         Pass {
             number,
