@@ -2,7 +2,7 @@
 #![tactic(auto)]
 
 mod bell;
-mod doors;
+mod door;
 mod lends;
 mod lock;
 mod plays;

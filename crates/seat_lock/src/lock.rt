@@ -5,7 +5,7 @@ ghost use Rattle.seat_lock.specs.Queue.{Each, Among, first_view, at_stage, one_m
 ghost use Rattle.seat_lock.specs.Passes.{IsPass, Grown, Gave, is_idle, is_turn, is_out};
 
 use crate::bell::Bell;
-use crate::doors::Doors;
+use crate::door::Door;
 use crate::plays::{Count, Cut, Draw, Glue, Look, Serve};
 use crate::view::{Journaled, Place, Queue, View};
 use atomic_table::{Refused, Table};
@@ -18,7 +18,7 @@ use std::sync::Wait;
 pub struct SeatLock<T: Journaled> {
     table: Table<Option<T>, View<T::Base, T::Entry>, Snapshot<T>, Queue<T>, Global>,
     bell: Bell,
-    doors: Doors,
+    door: Door,
     ghost sized: { (table.shared.table_id.words ≡ 2) × (table.shared.table_id.slots ≡ 1) },
 }
 
@@ -91,8 +91,8 @@ impl<T: Journaled> SeatLock<T> {
                     heard: 0,
                     seat,
                 };
-                let (bell, doors) = (Bell::new(), Doors::new());
-                Ok((SeatLock { table, bell, doors }, pass))
+                let (bell, door) = (Bell::new(), Door::new());
+                Ok((SeatLock { table, bell, door }, pass))
             }
             Err(Refused { mut slots }) => {
                 let Some(Some(value)) = slots.pop() else {
@@ -124,7 +124,7 @@ impl<T: Journaled> SeatLock<T> {
         unreachable!()
     }
 
-    // Waits until the ticket is served. The look before each sleep comes after the ticket's door is shut.
+    // Waits until the ticket is served, which it is at the first look: its holder went through the door alone.
     fn reach<H: Wait>(&self, rt: &H, seat: &mut Place<T>, ticket: u64)
         requires lock { seat.old.table_id ≡ self.now.table.shared.table_id }
         requires waiting { seat.old.me.0.stage ≡ Waiting ticket }
@@ -132,19 +132,12 @@ impl<T: Journaled> SeatLock<T> {
         ensures lock { seat.new.table_id ≡ seat.old.table_id }
         ensures turn { Comes T.base T.journal T.number ticket seat.old.me seat.new.me }
     {
-        let (shared, doors) = (&self.table.shared, &self.doors);
-        let mut is_shut = false;
+        let shared = &self.table.shared;
         for _ in rt.forever() {
             let serving = shared.load::<Look>(seat, 1);
             if serving == ticket {
                 return;
             }
-            if is_shut {
-                doors.wait(rt, ticket);
-            } else {
-                doors.shut(ticket);
-            }
-            is_shut = !is_shut;
         }
         unreachable!()
     }
@@ -165,6 +158,7 @@ impl<T: Journaled> SeatLock<T> {
             heard: _,
             mut seat,
         } = pass;
+        self.door.enter(rt);
         let ticket = self.draw(rt, &mut seat);
         self.reach(rt, &mut seat, ticket);
         let Some(value) = self.table.shared.exchange(&mut seat, 0, None) else {
@@ -286,7 +280,7 @@ impl<T: Journaled> SeatLock<T> {
         let SeatLock {
             table,
             bell: _,
-            doors: _,
+            door: _,
         } = self;
         let Pass {
             number: _,
@@ -352,17 +346,17 @@ impl<'a, T: Journaled> Held<'a, T> {
             left,
             joined,
             made,
-            ticket,
+            ticket: _,
             mut seat,
             value,
         } = self;
-        let (shared, bell, doors) = (&lock.table.shared, &lock.bell, &lock.doors);
+        let (shared, bell) = (&lock.table.shared, &lock.bell);
         let nothing = shared.exchange(&mut seat, 0, Some(value));
         let None = nothing else { unreachable!() };
         // Before the turn ends, so that whoever takes a later turn has heard it.
         let heard = bell.ring(most);
         shared.fetch_add::<Serve>(&mut seat, 1, 1);
-        doors.open(ticket.wrapping_add(1));
+        lock.door.leave();
         bell.wake(most);
         Pass {
             number,
