@@ -2,16 +2,22 @@
 use std::sync::Wait;
 use std::sync::atomic::{AtomicU64, Ordering};
 
+// How many a waiter lets leave at most before it is woken anew.
+const MOST_SPARED: u64 = 63;
+
 /// Lets one pass in at a time, so that a ticket is served as soon as it is drawn. A door that let in two would cost time alone:
 /// that one turn ends before the next begins is the tickets' part.
 ///
 /// Who comes while nobody is in goes in, also past those that sleep. So a pass that comes back soon waits for none of them to be
-/// awake, where handing each turn to the one that waited longest would cost a sleep and a waking for each turn.
+/// awake, where handing each turn to the one that waited longest would cost a sleep and a waking for each turn. And a waiter
+/// that was woken and found somebody in again lets more of those leave that will come back before it is woken anew: one, then
+/// three, then seven, up to a limit.
 ///
 /// No waking is lost. Before it sleeps a waiter is counted, reads the rings, says that nobody is on the way, and then looks
-/// whether the door is free, in this order. If it is not, whoever is in leaves later and sees it counted. Where the leaver finds
-/// nobody on the way, it rings, and the waiter does not sleep or is woken, or another waiter is, who goes in and leaves later still.
-/// Where the leaver finds somebody on the way, another said so after the waiter had read the rings, and rings after that.
+/// whether the door is free, in this order. If it is not, whoever is in leaves later and sees it counted. Who calls nobody then
+/// comes back, or calls later. Where a caller finds nobody on the way, it rings, and the waiter does not sleep or is woken, or
+/// another waiter is, who goes in and leaves later still. Where a caller finds somebody on the way, another said so after the
+/// waiter had read the rings, and rings after that.
 #[derive(Drop)]
 pub(crate) struct Door {
     // 1 while somebody is in.
@@ -20,6 +26,8 @@ pub(crate) struct Door {
     waiting: AtomicU64,
     // 1 where one of them was woken and has not come yet.
     is_coming: AtomicU64,
+    // How many of those that will come back may still leave and call nobody.
+    spared: AtomicU64,
     rings: AtomicU64,
 }
 
@@ -29,6 +37,7 @@ impl Door {
             is_in: AtomicU64::new(0),
             waiting: AtomicU64::new(0),
             is_coming: AtomicU64::new(0),
+            spared: AtomicU64::new(0),
             rings: AtomicU64::new(0),
         }
     }
@@ -50,20 +59,22 @@ impl Door {
 
     // Sleeps until it can go in, and goes in.
     fn wait<H: Wait>(&self, rt: &H) {
+        let mut spared = 0;
         for _ in rt.forever() {
             let rings = self.rings.load(Ordering::SeqCst);
             self.is_coming.store(0, Ordering::SeqCst);
+            self.spared.store(spared, Ordering::SeqCst);
             if self.goes_in() {
                 return;
             }
             self.rings.park(rt, (rings % (1 << 32)) as u32);
+            spared = 2 * spared.min(MOST_SPARED / 2) + 1;
         }
         unreachable!()
     }
 
-    /// Leaves. Wakes one of those that wait, unless one was woken and has not come yet.
-    pub(crate) fn leave(&self) {
-        self.is_in.store(0, Ordering::SeqCst);
+    /// Wakes one of those that wait, unless one was woken and has not come yet.
+    pub(crate) fn call(&self) {
         if self.waiting.load(Ordering::SeqCst) == 0 {
             return;
         }
@@ -71,5 +82,16 @@ impl Door {
             self.rings.fetch_add(1, Ordering::SeqCst);
             self.rings.wake_one();
         }
+    }
+
+    /// Leaves, and calls the next one. Who will come back, or call later, lets it sleep as long as those that wait ask for that.
+    pub(crate) fn leave(&self, comes_back: bool) {
+        self.is_in.store(0, Ordering::SeqCst);
+        let spared = self.spared.load(Ordering::SeqCst);
+        if comes_back && spared > 0 {
+            self.spared.store(spared - 1, Ordering::SeqCst);
+            return;
+        }
+        self.call();
     }
 }

@@ -181,6 +181,7 @@ impl<T: Journaled> SeatLock<T> {
         requires lock { IsOf pass self.now }
         ensures same { result ≡ pass }
     {
+        self.door.call();
         self.bell.wait(rt, pass.heard);
         pass
     }
@@ -333,7 +334,8 @@ impl<'a, T: Journaled> Held<'a, T> {
         self.give_to(u32::MAX)
     }
 
-    /// Ends the turn as `give` does. At most so many of those that wait are woken.
+    /// Ends the turn as `give` does. At most so many of those that wait are woken; where that is not all of them, the pass takes
+    /// another turn soon or waits, since who wants a turn may be left asleep until then.
     pub fn give_to(self, most: u32) -> Pass<T>
         requires base { self.seat.me.0.base ≡ Some (T.base self.value) }
         requires grown { Grown T.number self.seat.me.0 (T.journal self.value) }
@@ -356,7 +358,7 @@ impl<'a, T: Journaled> Held<'a, T> {
         // Before the turn ends, so that whoever takes a later turn has heard it.
         let heard = bell.ring(most);
         shared.fetch_add::<Serve>(&mut seat, 1, 1);
-        lock.door.leave();
+        lock.door.leave(most < u32::MAX);
         bell.wake(most);
         Pass {
             number,
