@@ -2,6 +2,7 @@
 #![tactic(auto)]
 
 mod bell;
+mod door;
 mod lends;
 mod lock;
 mod plays;

@@ -5,22 +5,20 @@ ghost use Rattle.seat_lock.specs.Queue.{Each, Among, first_view, at_stage, one_m
 ghost use Rattle.seat_lock.specs.Passes.{IsPass, Grown, Gave, is_idle, is_turn, is_out};
 
 use crate::bell::Bell;
+use crate::door::Door;
 use crate::plays::{Count, Cut, Draw, Glue, Look, Serve};
 use crate::view::{Journaled, Place, Queue, View};
 use atomic_table::{Refused, Table};
 use std::alloc::Global;
-use std::hint::spin_loop;
 use std::snapshot::Snapshot;
 use std::sync::Wait;
-
-// How often a turn looks again before it sleeps.
-const MOST_SPINS: u32 = 200;
 
 /// A lock round a value that keeps a journal.
 #[derive(Drop)]
 pub struct SeatLock<T: Journaled> {
     table: Table<Option<T>, View<T::Base, T::Entry>, Snapshot<T>, Queue<T>, Global>,
     bell: Bell,
+    door: Door,
     ghost sized: { (table.shared.table_id.words ≡ 2) × (table.shared.table_id.slots ≡ 1) },
 }
 
@@ -93,8 +91,8 @@ impl<T: Journaled> SeatLock<T> {
                     heard: 0,
                     seat,
                 };
-                let bell = Bell::new();
-                Ok((SeatLock { table, bell }, pass))
+                let (bell, door) = (Bell::new(), Door::new());
+                Ok((SeatLock { table, bell, door }, pass))
             }
             Err(Refused { mut slots }) => {
                 let Some(Some(value)) = slots.pop() else {
@@ -126,7 +124,7 @@ impl<T: Journaled> SeatLock<T> {
         unreachable!()
     }
 
-    // Waits until the ticket is served.
+    // Waits until the ticket is served, which it is at the first look: its holder went through the door alone.
     fn reach<H: Wait>(&self, rt: &H, seat: &mut Place<T>, ticket: u64)
         requires lock { seat.old.table_id ≡ self.now.table.shared.table_id }
         requires waiting { seat.old.me.0.stage ≡ Waiting ticket }
@@ -135,17 +133,10 @@ impl<T: Journaled> SeatLock<T> {
         ensures turn { Comes T.base T.journal T.number ticket seat.old.me seat.new.me }
     {
         let shared = &self.table.shared;
-        let mut spins = 0;
         for _ in rt.forever() {
             let serving = shared.load::<Look>(seat, 1);
             if serving == ticket {
                 return;
-            }
-            if spins < MOST_SPINS {
-                spins += 1;
-                spin_loop();
-            } else {
-                shared.park(rt, 1, (serving % (1 << 32)) as u32);
             }
         }
         unreachable!()
@@ -167,6 +158,7 @@ impl<T: Journaled> SeatLock<T> {
             heard: _,
             mut seat,
         } = pass;
+        self.door.enter(rt);
         let ticket = self.draw(rt, &mut seat);
         self.reach(rt, &mut seat, ticket);
         let Some(value) = self.table.shared.exchange(&mut seat, 0, None) else {
@@ -189,6 +181,7 @@ impl<T: Journaled> SeatLock<T> {
         requires lock { IsOf pass self.now }
         ensures same { result ≡ pass }
     {
+        self.door.call();
         self.bell.wait(rt, pass.heard);
         pass
     }
@@ -285,7 +278,11 @@ impl<T: Journaled> SeatLock<T> {
                 made,
             });
         }
-        let SeatLock { table, bell: _ } = self;
+        let SeatLock {
+            table,
+            bell: _,
+            door: _,
+        } = self;
         let Pass {
             number: _,
             left: _,
@@ -337,7 +334,8 @@ impl<'a, T: Journaled> Held<'a, T> {
         self.give_to(u32::MAX)
     }
 
-    /// Ends the turn as `give` does. At most so many of those that wait are woken.
+    /// Ends the turn as `give` does. At most so many of those that wait are woken; where that is not all of them, the pass takes
+    /// another turn soon or waits, since who wants a turn may be left asleep until then.
     pub fn give_to(self, most: u32) -> Pass<T>
         requires base { self.seat.me.0.base ≡ Some (T.base self.value) }
         requires grown { Grown T.number self.seat.me.0 (T.journal self.value) }
@@ -360,7 +358,7 @@ impl<'a, T: Journaled> Held<'a, T> {
         // Before the turn ends, so that whoever takes a later turn has heard it.
         let heard = bell.ring(most);
         shared.fetch_add::<Serve>(&mut seat, 1, 1);
-        shared.wake_all(1);
+        lock.door.leave(most < u32::MAX);
         bell.wake(most);
         Pass {
             number,

@@ -41,11 +41,11 @@ pub(crate) fn ask<'s, S: Semiring, D: Direction<S>>(
     asked
 }
 
-/// How many of those that wait are to be woken after this answer: all where the worker leaves without a hand.
+/// How many of those that wait are to be woken after this answer: all where the worker takes no further turn.
 pub(crate) fn woken_by<S: Semiring, D: Direction<S>>(asked: &Asked<'_, S, D>) -> u32 {
     match asked {
-        Asked::Memory => u32::MAX,
-        _ => 0,
+        Asked::Closed | Asked::Memory => u32::MAX,
+        Asked::Hand { .. } | Asked::Idle => 0,
     }
 }
 
