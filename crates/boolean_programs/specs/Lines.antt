@@ -1,8 +1,11 @@
 -- Where the lines of a body lead: the line below, and the other line, to which some of them jump.
 use Rattle.std.specs.Prelude.{ℕ, zero, suc, List, [], ◌∷◌, ◌++◌, map, Option, None, Some, option_map, slice_get, nat_eq, if◌then◌else◌}
-use Rattle.boolean_programs.specs.Programs.{Statement, BodyLine, Procedure, Program, If, Else, While, EndIf, EndWhile}
-pub use Rattle.boolean_programs.specs.declared.statement.Bracket.{Bracket}
-pub use Rattle.boolean_programs.specs.declared.statement.Bracket.TheVariants.{Opens, Parts, Closes, Inside}
+use Rattle.boolean_programs.specs.declared.statement.Statement.{Statement}
+use Rattle.boolean_programs.specs.declared.program.BodyLine.{BodyLine}
+use Rattle.boolean_programs.specs.Programs.{Procedure, Program}
+use Rattle.boolean_programs.specs.declared.statement.Statement.TheVariants.{If, Else, While, EndIf, EndWhile}
+use Rattle.boolean_programs.specs.declared.statement.Bracket.{Bracket}
+use Rattle.boolean_programs.specs.declared.statement.Bracket.TheVariants.{Opens, Parts, Closes, Inside}
 use Rattle.boolean_programs.specs.Lists.{place_in}
 
 -- what a line is to the blocks

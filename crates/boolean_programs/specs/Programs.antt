@@ -3,12 +3,12 @@
 use Rattle.std.specs.Prelude.{ℕ, suc, ◌+◌, List, [], ◌∷◌, length, map, codes, bytes_eq, if◌then◌else◌}
 use Rattle.boolean_programs.specs.declared.program.Proc.{Proc}
 use Rattle.boolean_programs.specs.declared.program.Program.{Program as ParsedProgram}
-pub use Rattle.boolean_programs.specs.declared.point.Point.{Point}
-pub use Rattle.boolean_programs.specs.declared.program.BodyLine.{BodyLine}
-pub use Rattle.boolean_programs.specs.declared.statement.Choice.{Choice}
-pub use Rattle.boolean_programs.specs.declared.statement.Choice.TheVariants.{Star, Is}
-pub use Rattle.boolean_programs.specs.declared.statement.Statement.{Statement}
-pub use Rattle.boolean_programs.specs.declared.statement.Statement.TheVariants.{Skip, Assign, Goto, Assume, Assert, Call, Return, If, Else, While, EndIf, EndWhile, EndProc}
+use Rattle.boolean_programs.specs.declared.point.Point.{Point}
+use Rattle.boolean_programs.specs.declared.program.BodyLine.{BodyLine}
+use Rattle.boolean_programs.specs.declared.statement.Choice.{Choice}
+use Rattle.boolean_programs.specs.declared.statement.Choice.TheVariants.{Star, Is}
+use Rattle.boolean_programs.specs.declared.statement.Statement.{Statement}
+use Rattle.boolean_programs.specs.declared.statement.Statement.TheVariants.{Skip, Assign, Goto, Assume, Assert, Call, Return, If, Else, While, EndIf, EndWhile, EndProc}
 
 pub record Procedure : Type 0 where
   -- how many parameters, how many other locals, and how many values it returns

@@ -2,7 +2,12 @@
 use Rattle.std.specs.Prelude.{◌≡◌, ℕ, ◌+◌, ◌<◌, ◌≤◌, max, Bool, true, false, not, ◌&&◌, nat_lt, IsTrue, List, [], ◌∷◌, length, map, Some, slice_get, ◌⊎◌}
 use Rattle.wpds_base.specs.Limits.{most_related}
 use Rattle.truth_tables.specs.Formulas.{is_over}
-use Rattle.boolean_programs.specs.Programs.{Statement, BodyLine, Procedure, Choice, Star, Is, Program, width, Assign, Goto, Assume, Assert, Call, Return, If, Else, While, EndIf, EndWhile, EndProc}
+use Rattle.boolean_programs.specs.declared.statement.Statement.{Statement}
+use Rattle.boolean_programs.specs.declared.program.BodyLine.{BodyLine}
+use Rattle.boolean_programs.specs.Programs.{Procedure, Program, width}
+use Rattle.boolean_programs.specs.declared.statement.Choice.{Choice}
+use Rattle.boolean_programs.specs.declared.statement.Choice.TheVariants.{Star, Is}
+use Rattle.boolean_programs.specs.declared.statement.Statement.TheVariants.{Assign, Goto, Assume, Assert, Call, Return, If, Else, While, EndIf, EndWhile, EndProc}
 use Rattle.boolean_programs.specs.Lines.{Instruction, code, line_numbers}
 use Rattle.boolean_programs.specs.Lists.{Each, StandOnce}
 
