@@ -1,0 +1,12 @@
+pub mod TestLemmas
+pub mod ListLemmas
+pub mod BlockLemmas
+pub mod ReadingLemmas
+pub mod NextLemmas
+pub mod BitLemmas
+pub mod PickLemmas
+pub mod ActionLemmas
+pub mod MoveLemmas
+pub mod MoveTestLemmas
+pub mod StateTestLemmas
+pub mod MachineExamples

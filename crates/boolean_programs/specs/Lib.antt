@@ -1,0 +1,4 @@
+pub mod Lists
+pub mod Programs
+pub mod Lines
+pub mod Structure
