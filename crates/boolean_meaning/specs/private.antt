@@ -1,0 +1,4 @@
+pub mod Spots
+pub mod GivenValues
+pub mod Outcomes
+pub mod Depths
