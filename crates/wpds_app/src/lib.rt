@@ -11,6 +11,7 @@ mod reply;
 mod report;
 mod request;
 mod status;
+mod texts;
 
 pub use input::Input;
 pub use laws::{

@@ -11,35 +11,13 @@ use crate::Status;
 use crate::crew::Crew;
 use crate::generate::answer_ladder;
 use crate::reply::{Reply, read_and_reply};
+use crate::texts::{help, usage, version};
 use command_words::Request;
 use std::alloc::Global;
 use std::sync::Wait;
 use std::thread::Threads;
 use wpds_base::OutOfMemory;
 use wpds_port::{Gate, InputFault, Source, Text};
-
-const USAGE: &str =
-    "usage: wpds check [--workers N] [--by pre|post] [--brief] [--traces]\nusage: wpds gen N [--workers N] [--by pre|post]\n";
-
-const VERSION: &str = "wpds 0.1.0\n";
-
-const HELP: &str = "Says what the runs of a pushdown system are worth, with runs that show it.
-
-usage: wpds check [--workers N] [--by pre|post] [--brief]
-usage: wpds gen N [--workers N] [--by pre|post]
-
-check            answers the queries of the document on standard input
-gen N            answers a ladder of N rungs, from 1 to 10000, that it makes itself
-
---workers N      how many workers saturate, from 1 to 64 (1 if it is not given)
---by pre|post    backwards from where runs end, or forwards from where they begin
-                 (pre if it is not given)
---brief          values alone, without the runs that they combine; not with gen
--h, --help       writes this text
--V, --version    writes the version
-
-example: wpds check --by post --brief < examples/cost.wpds
-";
 
 // A status with a text that stands fast.
 fn fixed(alloc: Global, status: Status, text: &str) -> Result<Reply, OutOfMemory>
@@ -70,9 +48,9 @@ pub(crate) fn reply_to_request<H: Threads + Wait + Sync, R: Source, G: Gate>(
         → R.left source.new ≡ R.left source.old }
 {
     match request {
-        None => Ok(fixed(alloc, Status::WordsRefused, USAGE)?),
-        Some(Request::Help) => Ok(fixed(alloc, Status::Answered, HELP)?),
-        Some(Request::Version) => Ok(fixed(alloc, Status::Answered, VERSION)?),
+        None => Ok(fixed(alloc, Status::WordsRefused, usage())?),
+        Some(Request::Help) => Ok(fixed(alloc, Status::Answered, help())?),
+        Some(Request::Version) => Ok(fixed(alloc, Status::Answered, version())?),
         Some(Request::Check(options)) => read_and_reply(crew, alloc, source, options),
         Some(Request::Generate(generation)) => Ok(Reply {
             status: Status::Answered,
