@@ -1,0 +1,2 @@
+mod LockProgram
+mod Rows
