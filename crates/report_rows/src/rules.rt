@@ -328,7 +328,8 @@ fn expressions(rt: HostRuntime) -> Result<(), OutOfMemory> {
 }
 
 // Values were worked out by tools/plain_check.py, from sets of pairs of states.
-const ACTION_VALUES: &str = "relation z' 1 0; z' 0 1; z 2 3; y' 4 0; y' 0 4; y 5 6; x' 0 7; x 0 8 | rule p a -> p : assume x
+const ACTION_VALUES: &str =
+    "relation z' 1 0; z' 0 1; z 2 3; y' 4 0; y' 0 4; y 5 6; x' 0 7; x 0 8 | rule p a -> p : assume x
 unreachable | rule p a -> p : assume 0
 relation z' 1 0; z' 0 1; z 2 3; y' 4 0; y' 0 4; y 5 6; x' 7 0; x' 0 7; x 8 9 | rule p a -> p:assume!x=y!=z=>x|y^z&1
 relation z' 1 0; z' 0 1; z 2 3; y' 4 0; y' 0 4; y 5 6; x' 7 0; y 5 0; x' 0 9; x 8 10 | rule p a -> p : assume x => y => z = x != y = z
@@ -435,7 +436,8 @@ variables x y z
 rule p a -> p : x, y, z := !y, x, x & z
 ";
 
-const RETURN_VALUES: &str = "relation z' 1 0; y' 2 0; y 0 3; y 3 0; x' 4 5; z' 0 1; z 2 7; y' 0 8; y 0 9; y 9 0; x' 10 11; x 6 12 | rule p a -> p a b return plain
+const RETURN_VALUES: &str =
+    "relation z' 1 0; y' 2 0; y 0 3; y 3 0; x' 4 5; z' 0 1; z 2 7; y' 0 8; y 0 9; y 9 0; x' 10 11; x 6 12 | rule p a -> p a b return plain
 relation z' 1 0; y' 2 0; x' 3 0; z' 0 1; z 2 5; y' 0 6; x' 0 7; x 4 8 | rule p a -> p a b return restore x
 relation z' 1 0; z' 0 1; z 2 3; y' 4 0; y' 0 4; y 5 6; x' 7 0; x' 0 7; x 8 9 | rule p a -> p a b return restore z y x
 relation z' 1 0; y' 2 0; x' 3 0; z' 0 1; z 2 5; y' 0 6; x' 0 7; x 4 8 | rule p a -> p a b return move x=y
