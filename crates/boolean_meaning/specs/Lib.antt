@@ -1,4 +1,0 @@
-pub mod Bits
-pub mod HeldStates
-pub mod Steps
-pub mod private

@@ -1,4 +1,0 @@
-pub mod Spots
-pub mod GivenValues
-pub mod Outcomes
-pub mod Depths
