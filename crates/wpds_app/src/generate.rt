@@ -19,7 +19,9 @@ use wpds_port::{Gate, Text};
 fn ladder_line(alloc: Global, rungs: u32, rules: usize, value: &Text) -> Result<Text, OutOfMemory>
     ensures { IfOk result (λ t. t ≡ line_of rungs rules value.now) }
 {
-    let mut line = format!(in alloc; "gen {rungs}: {rules} rules, value ")?.into_bytes();
+    let mut line = format!(in alloc; "gen {rungs}: ")?.into_bytes();
+    let count = format!(in alloc; "{rules} rules, value ")?;
+    line.extend_from_slice(count.as_bytes())?;
     line.extend_from_slice(value.as_bytes())?;
     line.push(b'\n')?;
     Ok(Text::from_vec(line))

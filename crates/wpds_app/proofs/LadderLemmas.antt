@@ -1,0 +1,77 @@
+-- Answers to ladders.
+use Rattle.std.proofs.Common.{◌≡◌, ℕ, zero, suc, ◌<◌, List, [], ◌∷◌, length, refl, sym, ap, ◌∙◌, subst, arith, Option}
+use Rattle.std.specs.Prelude.{All, Result, Ok, Err, IfOk, false}
+use Rattle.std.proofs.lemmas.List.Elements.{All-nil, All-cons}
+use Rattle.semiring_laws.specs.declared.reach.NoMap.{NoMap}
+use Rattle.cost_weights.specs.Cost.{cost_operations}
+use Rattle.pushdown_rules.specs.Pushdown.{Pushdown}
+use Rattle.config_patterns.specs.declared.item.Item.{Item}
+use Rattle.config_patterns.specs.Membership.{PatternValue}
+use Rattle.pattern_openings.specs.PatternOpenings.{IsOver}
+use Rattle.witness_graph.specs.declared.node.Side.{Side}
+use Rattle.witness_graph.specs.declared.node.Side.TheVariants.{Pre, Post}
+use Rattle.document_systems.specs.Weights.{cost_kind}
+use Rattle.document_systems.specs.Systems.{system_of, side_of}
+use Rattle.path_sum.specs.declared.answer.Answer.{Answer}
+use Rattle.query_answers.specs.Answering.{opened_of, summed_of, IsAnswer}
+use Rattle.ladder.specs.Ladders.{symbols_from, ladder_document, ladder_cap, question}
+use Rattle.command_words.specs.declared.options.Generation.{Generation}
+use Rattle.wpds_app.specs.Generating.{ladder_line, IsLadderAnswer}
+
+by_opened : (P : PatternValue → Type 0) (by : Side) (from to : PatternValue) → P from → P to → P (opened_of by from to)
+by_opened P Pre from to begin end = end
+by_opened P Post from to begin end = begin
+
+by_summed : (P : PatternValue → Type 0) (by : Side) (from to : PatternValue) → P from → P to → P (summed_of by from to)
+by_summed P Pre from to begin end = begin
+by_summed P Post from to begin end = end
+
+some_symbol : (n : ℕ) → 0 < length (symbols_from 0 n)
+some_symbol zero = omega arith
+some_symbol (suc n) = omega arith
+
+-- the patterns of the question are over one control and any symbols, of which there is one
+module _ (symbols : ℕ) (some : 0 < symbols) where
+  first : Item
+  first = record { set = 0 ∷ []; star = false }
+
+  begins : IsOver 1 symbols (record { control = 0; symbols = symbols; items = record { set = 0 ∷ []; star = false } ∷ [] })
+  begins = record {
+    control = omega arith;
+    sets = All-cons (λ (x : Item). All (λ g. g < symbols) x.set) (record { set = 0 ∷ []; star = false }) []
+        (All-cons (λ g. g < symbols) 0 [] some (All-nil (λ g. g < symbols))) (All-nil (λ (x : Item). All (λ g. g < symbols) x.set));
+  }
+
+  ends : IsOver 1 symbols (record { control = 0; symbols = symbols; items = [] })
+  ends = record { control = omega arith; sets = All-nil (λ (x : Item). All (λ g. g < symbols) x.set) }
+
+module _ (n : ℕ) (p : Pushdown ℕ (Option ℕ) NoMap) (from to : PatternValue) (is : p ≡ system_of cost_kind ladder_cap (ladder_document n))
+    (begin : from ≡ side_of (ladder_document n) question.from) (end : to ≡ side_of (ladder_document n) question.to) where
+  pub opened_over : (by : Side) → IsOver p.controls p.symbols (opened_of by from to)
+  opened_over by =
+      let symbols = length (symbols_from 0 n) in
+      let over = by_opened (IsOver 1 symbols) by from to
+          (subst (IsOver 1 symbols) (sym begin) (begins symbols (some_symbol n))) (subst (IsOver 1 symbols) (sym end) (ends symbols (some_symbol n))) in
+      subst (λ (q : Pushdown ℕ (Option ℕ) NoMap). IsOver q.controls q.symbols (opened_of by from to)) (sym is) over
+
+  pub summed_within : (by : Side) → (summed_of by from to).control < p.controls
+  summed_within by =
+      let within : (summed_of by from to).control < 1 =
+          by_summed (λ x. x.control < 1) by from to (omega (arith, ap (λ (x : PatternValue). x.control) begin)) (omega (arith, ap (λ (x : PatternValue). x.control) end)) in
+      omega (arith, within, ap (λ (q : Pushdown ℕ (Option ℕ) NoMap). q.controls) is)
+
+pub told : {E : Type 0} (g : Generation) (p : Pushdown ℕ (Option ℕ) NoMap) (from to : PatternValue) (a : Answer ℕ (Option ℕ) NoMap) (rules : ℕ) (value : List ℕ) (r : Result (List ℕ) E)
+    → p ≡ system_of cost_kind ladder_cap (ladder_document g.rungs) → from ≡ side_of (ladder_document g.rungs) question.from → to ≡ side_of (ladder_document g.rungs) question.to
+    → IsAnswer cost_operations p g.by g.workers from to a → rules ≡ length (ladder_document g.rungs).rules → value ≡ cost_kind.written ladder_cap [] a.value
+    → IfOk r (λ t. t ≡ ladder_line g.rungs rules value) → IfOk r (IsLadderAnswer g)
+told g p from to a rules value (Err e) is begin end answers count written line = tt
+told g p from to a rules value (Ok t) is begin end answers count written line =
+    let d = ladder_document g.rungs in
+    record {
+      answer = a;
+      is_answer =
+          subst (λ q. IsAnswer cost_operations q g.by g.workers (side_of d question.from) (side_of d question.to) a) is
+          (subst (λ x. IsAnswer cost_operations p g.by g.workers x (side_of d question.to) a) begin
+          (subst (λ x. IsAnswer cost_operations p g.by g.workers from x a) end answers));
+      told = line ∙ ap (λ k. ladder_line g.rungs k value) count ∙ ap (ladder_line g.rungs (length d.rules)) written;
+    }

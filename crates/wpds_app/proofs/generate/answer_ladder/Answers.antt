@@ -1,0 +1,49 @@
+use Rattle.std.proofs.Common.{◌≡◌, ◌∙◌, ap, ap₂, get_or, length, [], ℕ, Option}
+use Rattle.semiring_laws.specs.declared.reach.NoMap.{NoMap}
+use Rattle.pushdown_rules.specs.Pushdown.{Pushdown}
+use Rattle.document_forms.specs.Documents.{Document}
+use Rattle.document_forms.specs.declared.document.QueryLine.{QueryLine}
+use Rattle.document_systems.specs.Weights.{cost_kind}
+use Rattle.document_systems.specs.Systems.{system_of, pattern_of, side_of}
+use Rattle.ladder.specs.Ladders.{ladder_document, ladder_cap, question}
+use Rattle.wpds_app.proofs.LadderLemmas.{opened_over, summed_within, told}
+use Rattle.wpds_app.proofs.generate.answer_ladder.Goals as goal
+
+pub answer-requires-clause-opened : goal.answer-requires-clause-opened
+answer-requires-clause-opened g c κs within =
+    let d = ladder_document c.args.generation.rungs in
+    let is = c.in_ok-system.ensures ∙ ap₂ (system_of cost_kind) c.costs.ensures c.in_ok-document.ensures in
+    let symbols = ap (λ (p : Pushdown ℕ (Option ℕ) NoMap). p.symbols) is in
+    let q = c.index-as_slice-0.result in
+    let queries = c.as_slice.ensures ∙ ap (λ (x : Document). x.queries) c.in_ok-document.ensures in
+    let query : q ≡ question = c.index-as_slice-0.is ∙ ap (λ xs. get_or xs 0 q) queries in
+    let begin = c.in_ok-from.ensures ∙ ap₂ pattern_of symbols (ap (λ (x : QueryLine). x.from) query) in
+    let end = c.in_ok-to.ensures ∙ ap₂ pattern_of symbols (ap (λ (x : QueryLine). x.to) query) in
+    opened_over c.args.generation.rungs c.in_ok-system.system c.in_ok-from.from c.in_ok-to.to is begin end c.args.generation.by
+
+pub answer-requires-clause-summed : goal.answer-requires-clause-summed
+answer-requires-clause-summed g c κs within =
+    let is = c.in_ok-system.ensures ∙ ap₂ (system_of cost_kind) c.costs.ensures c.in_ok-document.ensures in
+    let symbols = ap (λ (p : Pushdown ℕ (Option ℕ) NoMap). p.symbols) is in
+    let q = c.index-as_slice-0.result in
+    let queries = c.as_slice.ensures ∙ ap (λ (x : Document). x.queries) c.in_ok-document.ensures in
+    let query : q ≡ question = c.index-as_slice-0.is ∙ ap (λ xs. get_or xs 0 q) queries in
+    let begin = c.in_ok-from.ensures ∙ ap₂ pattern_of symbols (ap (λ (x : QueryLine). x.from) query) in
+    let end = c.in_ok-to.ensures ∙ ap₂ pattern_of symbols (ap (λ (x : QueryLine). x.to) query) in
+    summed_within c.args.generation.rungs c.in_ok-system.system c.in_ok-from.from c.in_ok-to.to is begin end c.args.generation.by
+
+pub returns : goal.returns
+returns g c =
+    let is = c.in_ok-system.ensures ∙ ap₂ (system_of cost_kind) c.costs.ensures c.in_ok-document.ensures in
+    let symbols = ap (λ (p : Pushdown ℕ (Option ℕ) NoMap). p.symbols) is in
+    let semiring = c.semiring.ensures.value ∙ ap (λ (p : Pushdown ℕ (Option ℕ) NoMap). p.semiring) is in
+    let q = c.index-as_slice-0.result in
+    let queries = c.as_slice.ensures ∙ ap (λ (x : Document). x.queries) c.in_ok-document.ensures in
+    let query : q ≡ question = c.index-as_slice-0.is ∙ ap (λ xs. get_or xs 0 q) queries in
+    let begin = c.in_ok-from.ensures ∙ ap₂ pattern_of symbols (ap (λ (x : QueryLine). x.from) query) in
+    let end = c.in_ok-to.ensures ∙ ap₂ pattern_of symbols (ap (λ (x : QueryLine). x.to) query) in
+    let rules = c.len.ensures ∙ ap (λ (x : Document). length x.rules) c.in_ok-document.ensures in
+    let items = ap (λ (x : Document). x.items) c.in_ok-document.ensures in
+    let a = c.in_ok-answer.answer in
+    let value = c.in_ok-value.ensures ∙ ap₂ (λ s xs. cost_kind.written s xs a.value) semiring items in
+    told c.args.generation c.in_ok-system.system c.in_ok-from.from c.in_ok-to.to a c.len.result c.in_ok-value.value c.ladder_line.result is begin end c.in_ok-answer.ensures rules value c.ladder_line.ensures
