@@ -5,5 +5,5 @@ use Rattle.wpds_app.proofs.report.report.Goals as goal
 pub report_over-requires-clause-taken : goal.report_over-requires-clause-taken
 report_over-requires-clause-taken g c κs within = all_taken reach_kind (record {}) (λ t. tt) (λ m. tt) c.args.document.now
 
-pub report_over-requires-2-clause-taken : goal.report_over-requires-2-clause-taken
-report_over-requires-2-clause-taken g c κs within = all_taken cost_kind c.costs.result (λ t. tt) (λ m. tt) c.args.document.now
+pub report_over-requires-in-Cost-clause-taken : goal.report_over-requires-in-Cost-clause-taken
+report_over-requires-in-Cost-clause-taken g c κs within = all_taken cost_kind c.costs.result (λ t. tt) (λ m. tt) c.args.document.now
