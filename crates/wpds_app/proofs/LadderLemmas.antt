@@ -51,13 +51,13 @@ module _ (n : ℕ) (p : Pushdown ℕ (Option ℕ) NoMap) (from to : PatternValue
   opened_over by =
       let symbols = length (symbols_from 0 n) in
       let over = by_opened (IsOver 1 symbols) by from to
-          (subst (IsOver 1 symbols) (sym begin) (begins symbols (some_symbol n))) (subst (IsOver 1 symbols) (sym end) (ends symbols (some_symbol n))) in
+      (subst (IsOver 1 symbols) (sym begin) (begins symbols (some_symbol n))) (subst (IsOver 1 symbols) (sym end) (ends symbols (some_symbol n))) in
       subst (λ (q : Pushdown ℕ (Option ℕ) NoMap). IsOver q.controls q.symbols (opened_of by from to)) (sym is) over
 
   pub summed_within : (by : Side) → (summed_of by from to).control < p.controls
   summed_within by =
       let within : (summed_of by from to).control < 1 =
-          by_summed (λ x. x.control < 1) by from to (omega (arith, ap (λ (x : PatternValue). x.control) begin)) (omega (arith, ap (λ (x : PatternValue). x.control) end)) in
+      by_summed (λ x. x.control < 1) by from to (omega (arith, ap (λ (x : PatternValue). x.control) begin)) (omega (arith, ap (λ (x : PatternValue). x.control) end)) in
       omega (arith, within, ap (λ (q : Pushdown ℕ (Option ℕ) NoMap). q.controls) is)
 
 pub told : {E : Type 0} (g : Generation) (p : Pushdown ℕ (Option ℕ) NoMap) (from to : PatternValue) (a : Answer ℕ (Option ℕ) NoMap) (rules : ℕ) (value : List ℕ) (r : Result (List ℕ) E)
