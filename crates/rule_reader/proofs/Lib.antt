@@ -1,5 +1,6 @@
 mod ActionLemmas
 mod DigitLemmas
+mod CopyLemmas
 mod EachLemmas
 mod FactLemmas
 mod FormLemmas

@@ -16,6 +16,9 @@ pub use name_reads::{NamesOnce, NamesRead, read_names};
 pub use names::NameTable;
 pub use rules::{RuleRead, read_rule};
 pub use scope::Scope;
+pub use weights::{
+    Cut, Pieces, TreeRead, ValueRead, WeightFaults, read_tree, read_value,
+};
 
 #[cfg(test)]
 mod rule_tests;

@@ -4,7 +4,8 @@ ghost use Rattle.std.specs.Prelude.{◌≡◌, ◌∷◌, [], MatchOption, false
 ghost use Rattle.wpds_port.specs.Words.{word_of};
 ghost use Rattle.truth_tables.specs.Grammar.{number_of};
 ghost use Rattle.document_forms.specs.Weights.{NumberForm, OneForm, cost_of, is_only, own_weight};
-ghost use Rattle.rule_reader.specs.private.WeightReads.{IsRead, IsReadAs, IsWeightRead, either};
+ghost use Rattle.rule_reader.specs.private.WeightReads.{IsRead, IsReadAs, IsWeightRead};
+ghost use Rattle.rule_reader.specs.TreeReads.{either};
 
 mod actions;
 mod exprs;
@@ -13,6 +14,9 @@ mod forms;
 mod pieces;
 #[cfg(test)]
 mod tests;
+
+pub use exprs::{TreeRead, ValueRead, read_tree, read_value};
+pub use pieces::{Cut, Pieces};
 
 use crate::digits::number;
 use crate::names::NameTable;
@@ -26,18 +30,18 @@ use wpds_port::{Lexeme, Words};
 
 /// What is amiss with a weight that has its form.
 #[derive(Clone, Copy, Debug)]
-pub(crate) struct WeightFaults {
+pub struct WeightFaults {
     /// A name is none of the facts or variables.
-    pub(crate) unknown: bool,
+    pub unknown: bool,
     /// A number is too large, a name stands twice, or an assignment is uneven.
-    pub(crate) unlawful: bool,
+    pub unlawful: bool,
     /// An expression is too deep. This is told only where nothing is unlawful.
-    pub(crate) deep: bool,
+    pub deep: bool,
 }
 
 impl WeightFaults {
     /// Nothing is amiss.
-    pub(crate) fn none() -> WeightFaults
+    pub fn none() -> WeightFaults
         ensures { result ≡ record { unknown = false; unlawful = false; deep = false } }
     {
         WeightFaults {
@@ -48,7 +52,7 @@ impl WeightFaults {
     }
 
     /// What is amiss with one of two parts.
-    pub(crate) fn or(self, other: WeightFaults) -> WeightFaults
+    pub fn or(self, other: WeightFaults) -> WeightFaults
         ensures { result ≡ either self other }
     {
         WeightFaults {

@@ -9,18 +9,7 @@ use Rattle.document_forms.specs.Kinds.{weight_names, is_unlawful, is_deep}
 use Rattle.document_forms.specs.Documents.{weight_value}
 use Rattle.rule_reader.specs.declared.weights.WeightFaults.{WeightFaults}
 use Rattle.rule_reader.specs.declared.weights.WeightRead.{WeightRead}
-
--- nothing is amiss
-abbrev pub is_sound : WeightFaults → Bool
-is_sound f = not (f.unknown || (f.unlawful || f.deep))
-
--- what is amiss with one of two parts
-abbrev pub either : WeightFaults → WeightFaults → WeightFaults
-either f g = record {
-  unknown = f.unknown || g.unknown;
-  unlawful = f.unlawful || g.unlawful;
-  deep = f.deep || g.deep;
-}
+use Rattle.rule_reader.specs.TreeReads.{is_sound}
 
 -- There are no more variables than a copy's value has places for.
 abbrev pub has_places : List (List ℕ) → WeightForm → Bool

@@ -1,5 +1,5 @@
 -- What reading expressions and values gives.
-use Rattle.std.specs.Prelude.{◌≡◌, IsTrue, ℕ, Bool, true, false, nat_lt, List, [], ◌∷◌, map, filter, slice_index_or, Option, None, Some, MatchOption, unwrap_or}
+use Rattle.std.specs.Prelude.{◌≡◌, IsTrue, ℕ, Bool, true, false, not, ◌||◌, nat_lt, List, [], ◌∷◌, map, filter, slice_index_or, Option, None, Some, MatchOption, unwrap_or}
 use Rattle.std.specs.List.{list_any}
 use Rattle.wpds_base.specs.Limits.{most_depth}
 use Rattle.wpds_port.specs.declared.Mark.TheVariants.{Star}
@@ -16,7 +16,18 @@ use Rattle.rule_reader.specs.Names.{number_among}
 use Rattle.rule_reader.specs.declared.weights.WeightFaults.{WeightFaults}
 use Rattle.rule_reader.specs.declared.weights.exprs.TreeRead.{TreeRead}
 use Rattle.rule_reader.specs.declared.weights.exprs.ValueRead.{ValueRead}
-use Rattle.rule_reader.specs.private.WeightReads.{is_sound}
+
+-- nothing is amiss
+abbrev pub is_sound : WeightFaults → Bool
+is_sound f = not (f.unknown || (f.unlawful || f.deep))
+
+-- what is amiss with one of two parts
+abbrev pub either : WeightFaults → WeightFaults → WeightFaults
+either f g = record {
+  unknown = f.unknown || g.unknown;
+  unlawful = f.unlawful || g.unlawful;
+  deep = f.deep || g.deep;
+}
 
 -- This is amiss. Whether an expression is too deep is told of what is lawful.
 pub record HasFaults (some_unknown some_unlawful some_deep : Bool) (f : WeightFaults) : Type 0 where
