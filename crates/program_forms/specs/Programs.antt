@@ -13,7 +13,7 @@ use Rattle.boolean_programs.specs.declared.statement.Choice.TheVariants.{Star, I
 use Rattle.boolean_programs.specs.declared.statement.Statement.{Statement}
 use Rattle.boolean_programs.specs.declared.statement.Statement.TheVariants.{Skip, Assign, Goto, Assume, Assert, Call, Return, If, Else, While, EndIf, EndWhile, EndProc}
 use Rattle.boolean_programs.specs.Structure.{Block, InIf, InElse, InWhile}
-use Rattle.program_forms.specs.Forms.{StatementForm, SkipForm, AssignForm, GotoForm, AssumeForm, AssertForm, CallForm, ReturnForm, IfForm, WhileForm, LineForm, ProcForm, LocalForm, Stating, ElseForm, EndForm, QueryForm}
+use Rattle.program_forms.specs.Forms.{StatementForm, SkipForm, AssignForm, GotoForm, AssumeForm, AssertForm, CallForm, ReturnForm, IfForm, WhileForm, LineForm, GlobalForm, ProcForm, LocalForm, Stating, ElseForm, EndForm, QueryForm}
 use Rattle.program_forms.specs.Places.{Stated, stated}
 use Rattle.program_forms.specs.Declared.{label_named, proc_named, Whole, whole}
 use Rattle.program_forms.specs.Above.{own_names}
@@ -83,6 +83,8 @@ on_last f (q ∷ r ∷ qs) = q ∷ on_last f (r ∷ qs)
 abbrev pub procs_with : Whole → (above : List Stated) → Stated → LineForm → List Proc → List Proc
 procs_with w above l (ProcForm f ps n) qs =
     qs ++ record { name = f; params = ps; locals = []; returns = n; body = [] } ∷ []
+procs_with w above l (GlobalForm xs) qs = qs
+procs_with w above l (QueryForm fails x) qs = qs
 procs_with w above l (LocalForm xs) qs = on_last (with_locals xs) qs
 procs_with w above l form qs = on_last (with_body (body_on w above l form)) qs
 

@@ -106,7 +106,7 @@ no_zip items ts = ap (map (assigned items)) (zip_none ts)
 
 -- ---- the parts of an action
 
-becomes_test : same_word (Sign Becomes) ≡ is_becomes
+pub becomes_test : same_word (Sign Becomes) ≡ is_becomes
 becomes_test = fun_ext go
   where
     go : (w : Word) → same_word (Sign Becomes) w ≡ is_becomes w

@@ -1,3 +1,4 @@
+pub mod CallerLemmas
 mod ActionLemmas
 mod DigitLemmas
 mod CopyLemmas
