@@ -1,2 +1,4 @@
 pub mod FirstLines
+pub mod LinesLeft
+pub mod NameLines
 pub mod private
