@@ -1,0 +1,4 @@
+mod MoreLemmas
+mod ReadLemmas
+mod KindLemmas
+mod ProcLemmas

@@ -1,0 +1,88 @@
+//! What is read of a program, line by line.
+
+ghost use Rattle.std.specs.Prelude.{◌≡◌, ◌+◌, ◌≤◌, ◌||◌, [], nat_lt, IfOk};
+ghost use Rattle.wpds_base.specs.Limits.{most_symbols, most_rules};
+ghost use Rattle.wpds_port.specs.Refusals.{refusal};
+ghost use Rattle.program_forms.specs.Declared.{Whole};
+ghost use Rattle.program_tables.specs.Tables.{AreTablesOf};
+ghost use Rattle.boolean_syntax.specs.private.Readings.{HasRead};
+
+use crate::procs::Procs;
+use boolean_programs::Point;
+use program_statements::Scope;
+use program_tables::Tables;
+use rule_reader::NameTable;
+use std::alloc::Global;
+use wpds_base::OutOfMemory;
+use wpds_port::{Kind, ReadFault, Refusal};
+
+/// How many body lines and asserts a program has at most.
+const MOST_POINTS: u32 = 40_000;
+
+/// How many rules a program makes at most.
+const MOST_RULES: u32 = 130_000;
+
+/// What the lines that were read say.
+#[derive(Drop)]
+pub(crate) struct Reading<'t> {
+    pub globals: NameTable<'t>,
+    /// The names of procedures and labels that stand above.
+    pub seen_procs: NameTable<'t>,
+    pub seen_labels: NameTable<'t>,
+    /// The procedure that began last.
+    pub scope: Scope<'t>,
+    /// Body lines, and asserts once more.
+    pub points: u32,
+    pub rules: u32,
+    /// How many procedures have ended.
+    pub closed: u32,
+    pub procs: Procs,
+    pub queries: Vec<Point>,
+}
+
+/// A line is refused.
+pub(crate) fn refused(line: u64, kind: Kind) -> ReadFault
+    ensures { result ≡ ReadFault.Refused (refusal line kind) }
+{
+    ReadFault::Refused(Refusal { line, kind })
+}
+
+/// Whether counts are past their limits.
+fn is_past(points: u32, rules: u32) -> bool
+    ensures { result ≡ (nat_lt most_symbols points || nat_lt most_rules rules) }
+{
+    points > MOST_POINTS || rules > MOST_RULES
+}
+
+impl<'t> Reading<'t> {
+    /// Nothing is read yet.
+    pub(crate) fn new(alloc: Global, tables: &Tables<'t>) -> Result<Reading<'t>, OutOfMemory>
+        ensures { (w : Whole) → AreTablesOf w tables.now → IfOk result (HasRead w []) }
+    {
+        Ok(Reading {
+            globals: NameTable::new(alloc),
+            seen_procs: NameTable::new(alloc),
+            seen_labels: NameTable::new(alloc),
+            scope: Scope {
+                names: tables.globals.copy(alloc)?,
+                returns: 0,
+            },
+            points: 0,
+            rules: 0,
+            closed: 0,
+            procs: Procs::new(alloc),
+            queries: Vec::new(alloc),
+        })
+    }
+
+    /// Whether so many more pass a limit.
+    pub(crate) fn passes_limit(&self, points: u32, rules: u32) -> bool
+        ensures { result ≡ (nat_lt most_symbols (self.now.points + points)
+            || nat_lt most_rules (self.now.rules + rules)) }
+    {
+        is_past(
+            self.points.saturating_add(points),
+            self.rules.saturating_add(rules),
+        )
+    }
+}

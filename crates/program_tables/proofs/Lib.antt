@@ -1,0 +1,4 @@
+mod BlockLemmas
+mod JudgingLemmas
+mod TableLemmas
+mod WalkLemmas
