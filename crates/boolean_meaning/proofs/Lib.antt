@@ -6,3 +6,4 @@ pub mod ValueLemmas
 pub mod StateLemmas
 pub mod StepLemmas
 pub mod FitLemmas
+pub mod ExampleLemmas

@@ -12,3 +12,6 @@ mod valuation;
 pub use state::{Frame, FrameList, State};
 pub use states::start;
 pub use stepping::step;
+
+#[cfg(test)]
+mod tests;

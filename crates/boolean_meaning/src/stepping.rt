@@ -173,14 +173,14 @@ fn end(
     let Statement::Call { targets, .. } = &spot.line.statement else {
         return Ok(false);
     };
-    let mut left = bits;
-    let new = picked(alloc, values, old, &mut left)?;
     let kept = bits_of_names(
         state.globals,
         program.globals.len(),
         caller.locals,
         width(spot.owner),
     );
+    let mut left = bits;
+    let new = picked(alloc, values, old, &mut left)?;
     let names = written(targets.as_slice(), new.as_slice(), kept.as_slice());
     state.frames.pop();
     set_names(program, state, at_line(spot.next()), &names);
