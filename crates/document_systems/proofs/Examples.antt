@@ -1,14 +1,14 @@
 -- Small relations in documents, computed.
-use Rattle.std.proofs.Common.{◌≡◌, ℕ, true, false, List, [], ◌∷◌, refl}
+use Rattle.std.proofs.Common.{◌≡◌, ℕ, List, [], ◌∷◌, refl}
 use Rattle.std.specs.Prelude.{codes}
 use Rattle.std.specs.Fmt.{digits}
-use Rattle.truth_tables.specs.Formulas.{Variable, Opposite, Constant}
+use Rattle.truth_tables.specs.Formulas.{Variable, Opposite}
 use Rattle.diagram_store.specs.declared.branch.Branch.{Branch}
 use Rattle.diagram_store.specs.Meaning.{walk}
 use Rattle.relation_laws.specs.Building.{Parts, built}
 use Rattle.relation_laws.specs.Relations.{relation_of}
 use Rattle.relation_weights.specs.declared.rel_map.Slot.TheVariants.{Caller, Callee}
-use Rattle.document_forms.specs.declared.weight.ValueText.TheVariants.{Free, Is}
+use Rattle.document_forms.specs.declared.weight.ValueText.TheVariants.{Is}
 use Rattle.document_forms.specs.declared.weight.Action.TheVariants.{Assume, Choose, Assign}
 use Rattle.document_forms.specs.declared.weight.WeightText.TheVariants.{Actions}
 use Rattle.document_forms.specs.declared.document.MapText.{MapText}

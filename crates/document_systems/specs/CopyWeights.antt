@@ -1,5 +1,5 @@
 -- Copy constants as weights: what the weights of a document are worth over n variables, and how values are written.
-use Rattle.std.specs.Prelude.{◌≡◌, ℕ, All, IfSome, List, [], ◌∷◌, ◌++◌, length, map, codes}
+use Rattle.std.specs.Prelude.{◌≡◌, ℕ, All, IfSome, List, ◌++◌, length, map, codes}
 use Rattle.std.specs.List.{join_with_byte, range_with_len}
 use Rattle.wpds_base.specs.Limits.{most_copied}
 use Rattle.semiring_laws.specs.Semiring.{Fits}

@@ -1,5 +1,5 @@
 -- Facts as weights: what the weights of a document are worth over 64 n facts, and how values are written.
-use Rattle.std.specs.Prelude.{◌≡◌, ◌≢◌, ℕ, ◌*◌, ◌<◌, ◌≤◌, Bool, true, false, not, All, List, [], ◌∷◌, ◌++◌, filter, length, map, codes}
+use Rattle.std.specs.Prelude.{◌≡◌, ◌≢◌, ℕ, ◌*◌, ◌<◌, ◌≤◌, Bool, true, false, not, All, List, ◌∷◌, ◌++◌, filter, length, map, codes}
 use Rattle.wpds_base.specs.Limits.{most_facts}
 use Rattle.semiring_laws.specs.Semiring.{Fits}
 use Rattle.genkill_weights.specs.declared.genkill.GenKill.{GenKill}

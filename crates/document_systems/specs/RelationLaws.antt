@@ -1,6 +1,6 @@
 -- The texts of relations tell the relations.
-use Rattle.std.proofs.Common.{◌≡◌, ◌≢◌, ℕ, zero, suc, ◌+◌, ◌*◌, ◌^◌, ◌<◌, ◌≤◌, Bool, true, false, cond, List, [], ◌∷◌, ◌++◌, fold, length, map, refl, sym, ap, ap₂, subst, ◌∙◌, inl, inr, append-nil, append_assoc, arith}
-use Rattle.std.specs.Prelude.{◌↔◌, ◌⊎◌, ◌/◌, ◌%◌, All, IsTrue, nat_eq, drop, codes, decimal, Some, slice_get, slice_index_or}
+use Rattle.std.proofs.Common.{◌≡◌, ◌≢◌, ℕ, zero, suc, ◌*◌, ◌^◌, ◌<◌, ◌≤◌, Bool, true, false, cond, List, [], ◌∷◌, ◌++◌, fold, length, map, refl, sym, ap, ap₂, subst, ◌∙◌, inl, inr, append-nil, append_assoc, arith}
+use Rattle.std.specs.Prelude.{◌↔◌, ◌⊎◌, ◌/◌, ◌%◌, All, nat_eq, drop, codes, decimal, Some, slice_get, slice_index_or}
 use Rattle.std.specs.List.{AllByRecursion, join_with_byte, range_with_len}
 use Rattle.std.specs.Str.Parse.{AllDigits}
 use Rattle.std.proofs.Math.Logic.{∥∥₁_elim}
@@ -41,7 +41,7 @@ use Rattle.document_systems.specs.RelationWeights.{allowed, and_then, relation_w
 use Rattle.document_systems.specs.ValueTexts.{or_one}
 use Rattle.document_systems.specs.private.RowLaws.{Lacks, names_lack, or_one_tells}
 use Rattle.document_systems.specs.private.RowLaws.{parts_tell as fronts_tell}
-use Rattle.document_systems.specs.private.PartLaws.{IsFree, AreFree, free_test, free_append, marked, row_tells}
+use Rattle.document_systems.specs.private.PartLaws.{IsFree, free_test, free_append, marked, row_tells}
 
 -- ---- what is worth something fits
 

@@ -182,10 +182,8 @@ impl DocumentWeights for Relations {
         match text {
             WeightText::Zero => self.zero(alloc),
             WeightText::Actions(actions) => actions_from(self, alloc, actions.as_slice()),
-            WeightText::One
-            | WeightText::Number(_)
-            | WeightText::Facts(_)
-            | WeightText::Forms(_) => self.one(alloc),
+            WeightText::One | WeightText::Number(_) | WeightText::Facts(_) | WeightText::Forms(_) =>
+                self.one(alloc),
         }
     }
 

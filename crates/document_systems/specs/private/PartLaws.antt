@@ -1,6 +1,6 @@
 -- Texts of names and constants with a mark between tell these.
-use Rattle.std.proofs.Common.{◌≡◌, ◌≢◌, ℕ, zero, suc, ◌+◌, ◌^◌, ◌<◌, ◌≤◌, Bool, true, false, not, List, [], ◌∷◌, ◌++◌, length, map, refl, sym, ap, ap₂, subst, ◌∙◌, inl, inr, arith}
-use Rattle.std.specs.Prelude.{All, nat_eq, cond, filter, codes, decimal, ℤ, pos, negsuc, Option, None, Some, IfSome}
+use Rattle.std.proofs.Common.{◌≡◌, ◌≢◌, ℕ, zero, suc, ◌+◌, ◌^◌, ◌<◌, ◌≤◌, Bool, true, false, not, List, [], ◌∷◌, ◌++◌, map, refl, sym, ap, subst, ◌∙◌, inl, inr, arith}
+use Rattle.std.specs.Prelude.{All, nat_eq, filter, codes, decimal, ℤ, pos, negsuc, Option, None, Some, IfSome}
 use Rattle.std.specs.Fmt.{signed_decimal}
 use Rattle.std.specs.List.{join_with_byte, range_with_len, list_all, AllByRecursion}
 use Rattle.std.specs.Str.Parse.{AllDigits}
@@ -8,9 +8,8 @@ use Rattle.std.proofs.lemmas.Bool.{true≢false, and_parts, cases_eq, cond_both,
 use Rattle.std.proofs.lemmas.List.Elements.{All-from_recursion}
 use Rattle.std.proofs.lemmas.Fmt.{decimal_injective, decimal_is_IsNumeral}
 use Rattle.std.proofs.lemmas.Str.Parse.{digit_from_value}
-use Rattle.wpds_base.specs.Lists.{IsIn, IsOnce}
 use Rattle.wpds_port.specs.Tokens.{begins_name, goes_on_name, is_name_text}
-use Rattle.document_forms.specs.Names.{name, is_reserved}
+use Rattle.document_forms.specs.Names.{is_reserved}
 use Rattle.document_forms.specs.Lawful.{IsName, IsConstant}
 use Rattle.document_forms.specs.Writing.{constant_texts}
 use Rattle.document_systems.specs.ValueTexts.{or_one}

@@ -1,4 +1,4 @@
-use Rattle.std.proofs.Common.{rules, slice_index_or}
+use Rattle.std.proofs.Common.{rules}
 use Rattle.copy_weights.specs.Forms.{form}
 use Rattle.document_systems.proofs.constants.form_at.Goals as goal
 

@@ -1,4 +1,4 @@
-use Rattle.std.proofs.Common.{◌++◌, sym, ◌∙◌, subst, ap, ◌∷◌, []}
+use Rattle.std.proofs.Common.{◌++◌, sym, ◌∙◌, subst, ◌∷◌, []}
 use Rattle.copy_weights.specs.Forms.{has}
 use Rattle.document_systems.specs.private.Rows.{IsRow}
 use Rattle.document_systems.proofs.RowLemmas.{names_below, with_name, without_name}
