@@ -10,3 +10,4 @@ pub mod MoveLemmas
 pub mod MoveTestLemmas
 pub mod StateTestLemmas
 pub mod MachineExamples
+pub mod CallerLemmas

@@ -10,6 +10,3 @@ pub use expression::Expression;
 pub use point::{Point, ProgramQueries};
 pub use program::{BodyLine, BodyList, Names, Proc, ProcList, Program};
 pub use statement::{Bracket, Choice, ChoiceList, Numbers, Statement};
-
-#[cfg(test)]
-mod tests;

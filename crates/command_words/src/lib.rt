@@ -7,6 +7,3 @@ mod reading;
 
 pub use options::{Generation, Options, Request};
 pub use reading::read_words;
-
-#[cfg(test)]
-mod tests;

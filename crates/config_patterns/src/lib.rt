@@ -7,8 +7,6 @@ mod item;
 mod laws;
 mod matching;
 mod pattern;
-#[cfg(test)]
-mod tests;
 
 pub use edge::{Edge, EdgeList};
 pub use item::{Item, SymbolSet, is_set};

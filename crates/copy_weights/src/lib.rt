@@ -11,6 +11,3 @@ mod meets;
 pub use copy_const::CopyConst;
 pub use form::{CopyMap, CopyW, Form, Forms};
 pub use laws::{forms_tell_values, weights_map_values};
-
-#[cfg(test)]
-mod tests;

@@ -157,6 +157,3 @@ impl Semiring for Cost {
         self.cap == other.cap
     }
 }
-
-#[cfg(test)]
-mod tests;

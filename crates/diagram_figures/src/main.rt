@@ -29,6 +29,9 @@ const BITS: u32 = 24;
 // How often the relation is composed with itself.
 const ROUNDS: u32 = 10;
 
+// How often an operation that is measured is done.
+const REPEATS: u32 = 1000;
+
 // Conjunctions of so many random clauses.
 const CLAUSES: u64 = 1000;
 
@@ -91,6 +94,111 @@ fn compose_times(
         made = compose_relations(alloc, bits, &made, &made)?;
     }
     Ok(made)
+}
+
+// The assignment of the conjunction of two bits to a bit, over so many bits.
+fn assignment(
+    alloc: Global,
+    bits: u32,
+    target: u32,
+    first: u32,
+    second: u32,
+) -> Result<Diagram, OutOfMemory>
+    requires bits { bits < 64 }
+    requires first { first < 64 }
+    requires second { second < 64 }
+{
+    let mut all = Diagram::constant(alloc, true);
+    for v in 0..bits {
+        let new = Diagram::literal(alloc, 2 * v + 1)?;
+        let value = if v == target {
+            let one = Diagram::literal(alloc, 2 * first)?;
+            let other = Diagram::literal(alloc, 2 * second)?;
+            apply2::<AND>(alloc, &one, &other)?
+        } else {
+            Diagram::literal(alloc, 2 * v)?
+        };
+        let bit = apply2::<EQUAL>(alloc, &new, &value)?;
+        all = apply2::<AND>(alloc, &all, &bit)?;
+    }
+    Ok(all)
+}
+
+// The relation of so many bits in which those from a number on stay.
+fn staying(alloc: Global, bits: u32, from: u32) -> Result<Diagram, OutOfMemory>
+    requires { bits < 64 }
+{
+    let mut all = Diagram::constant(alloc, true);
+    for v in from..bits {
+        let old = Diagram::literal(alloc, 2 * v)?;
+        let new = Diagram::literal(alloc, 2 * v + 1)?;
+        let bit = apply2::<EQUAL>(alloc, &new, &old)?;
+        all = apply2::<AND>(alloc, &all, &bit)?;
+    }
+    Ok(all)
+}
+
+/// An operation on relations that is measured.
+#[derive(Clone, Copy)]
+enum Operation {
+    Composition,
+    Union,
+    /// A call returns: the callee's bit 0 is kept, and the caller's other bits stay.
+    Return,
+}
+
+// An operation on two relations of so many bits, once.
+fn operated(
+    alloc: Global,
+    operation: Operation,
+    bits: u32,
+    a: &Diagram,
+    b: &Diagram,
+    stays: &Diagram,
+) -> anyhow::Result<Diagram> {
+    let width = 2 * u64::from(bits);
+    let is_over = a.has_variables_below(width) && b.has_variables_below(width);
+    ensure!(is_over, "a variable is past the bits");
+    match operation {
+        Operation::Composition => Ok(compose_relations(alloc, bits, a, b)?),
+        Operation::Union => Ok(apply2::<OR>(alloc, a, b)?),
+        Operation::Return => {
+            let led = compose_relations(alloc, bits, a, b)?;
+            Ok(apply2::<AND>(alloc, &led, stays)?)
+        }
+    }
+}
+
+// An operation, so many times over relations of so many bits. The number of the nodes that it makes.
+fn operate_times(alloc: Global, operation: Operation, bits: u32) -> anyhow::Result<u64>
+    requires { bits < 64 }
+{
+    let a = assignment(alloc, bits, 0, 1, 2)?;
+    let stays = staying(alloc, bits, 1)?;
+    let b = match operation {
+        Operation::Return => staying(alloc, 1, 0)?,
+        _ => assignment(alloc, bits, 3, 0, 1)?,
+    };
+    let mut nodes = 0u64;
+    for _ in 0..REPEATS {
+        let made = operated(alloc, operation, bits, &a, &b, &stays)?;
+        nodes = nodes.saturating_add(made.nodes().len() as u64);
+    }
+    Ok(nodes)
+}
+
+// An operation on relations of 4, 6 and 8 bits.
+fn print_operation(
+    rt: &impl Print,
+    alloc: Global,
+    operation: Operation,
+    name: &str,
+) -> anyhow::Result<()> {
+    let four = operate_times(alloc, operation, 4)?;
+    let six = operate_times(alloc, operation, 6)?;
+    let eight = operate_times(alloc, operation, 8)?;
+    println!(rt; "{REPEATS} {name} of 4, 6 and 8 bits each: {four}, {six} and {eight} nodes")?;
+    Ok(())
 }
 
 // The next number of a sequence that has no plain order (splitmix64, Steele, Lea, Flood 2014).
@@ -168,7 +276,12 @@ fn print_figure(rt: &impl Print, alloc: Global, word: &str) -> anyhow::Result<()
         "adder" => print_adder(rt, alloc),
         "clauses-of-3" => print_clauses(rt, alloc, 3),
         "clauses-of-6" => print_clauses(rt, alloc, 6),
-        _ => bail!("words: successor, adder, clauses-of-3, clauses-of-6"),
+        "compositions" => print_operation(rt, alloc, Operation::Composition, word),
+        "unions" => print_operation(rt, alloc, Operation::Union, word),
+        "returns" => print_operation(rt, alloc, Operation::Return, word),
+        _ => bail!(
+            "words: successor, adder, clauses-of-3, clauses-of-6, compositions, unions, returns"
+        ),
     }
 }
 

@@ -1,5 +1,6 @@
 mod KeepingLemmas
 mod PushLemmas
+mod PlaceLemmas
 mod CopyLemmas
 mod CofactorLemmas
 mod ApplyingLemmas

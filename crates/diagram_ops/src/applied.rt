@@ -6,10 +6,10 @@ use crate::applying::apply;
 use crate::copying::copy_out;
 use crate::loading::load;
 use crate::scratch::Scratch;
-use crate::table::Table;
 use bumpalo::Bump;
 use diagram_store::{Diagram, independent_variables};
 use std::alloc::Global;
+use triple_tables::TripleTable;
 use truth_tables::value2;
 use wpds_base::OutOfMemory;
 
@@ -47,11 +47,13 @@ fn apply_in_arena(
     // the law that gives the variables of the result
     independent_variables();
     let arena = Bump::new(alloc);
-    let mut scratch = Scratch::new(alloc, &arena);
+    // twice the nodes of the largest operand: for them, and for those of a result of that size
+    let room = 2 * a.nodes().len().max(b.nodes().len()).max(c.nodes().len());
+    let mut scratch = Scratch::with_room(alloc, &arena, room)?;
     let x = load(alloc, &mut scratch, a)?;
     let y = load(alloc, &mut scratch, b)?;
     let z = load(alloc, &mut scratch, c)?;
-    let mut results = Table::new(alloc);
+    let mut results = TripleTable::with_room(alloc, room)?;
     let root = apply(&mut scratch, &mut results, table, x, y, z)?;
     let made = copy_out(alloc, &scratch, root)?;
     Ok(made)

@@ -2,11 +2,11 @@ ghost use Rattle.std.specs.Prelude.{◌≡◌, ◌+◌, ◌<◌, ◌^◌, ℕ, S
 ghost use Rattle.diagram_store.specs.Nodes.{IsReduced};
 ghost use Rattle.diagram_ops.specs.private.Applying.{AreApplied, Applies, variable, cofactor};
 ghost use Rattle.diagram_ops.specs.private.Applying as applying;
-ghost use Rattle.diagram_ops.specs.private.Tables.{known};
+ghost use Rattle.triple_tables.specs.Tables.{known};
 
 use crate::scratch::Scratch;
 use crate::short_cuts::short_cut;
-use crate::table::Table;
+use triple_tables::TripleTable;
 use truth_tables::value3;
 use wpds_base::OutOfMemory;
 
@@ -16,7 +16,7 @@ pub(crate) const OR: u8 = 252;
 /// The operator with this table at three references, by their lowest variable. Each triple is worked out once.
 pub(crate) fn apply(
     scratch: &mut Scratch,
-    results: &mut Table,
+    results: &mut TripleTable,
     table: u8,
     x: u64,
     y: u64,

@@ -6,17 +6,17 @@ ghost use Rattle.diagram_ops.specs.private.Composing.{AreComposed, Composes, IsJ
 ghost use Rattle.diagram_ops.specs.private.Composing as composing;
 ghost use Rattle.diagram_ops.specs.Relations.{relates, RelatesThrough};
 ghost use Rattle.diagram_ops.specs.private.Scratch.{Keeps, Stands};
-ghost use Rattle.diagram_ops.specs.private.Tables.{known};
+ghost use Rattle.triple_tables.specs.Tables.{known};
 ghost use Rattle.diagram_ops.specs.declared.composing.Operand.TheVariants.{First, Second};
 
 use crate::applying::{OR, apply};
 use crate::copying::copy_out;
 use crate::loading::load;
 use crate::scratch::Scratch;
-use crate::table::Table;
 use bumpalo::Bump;
 use diagram_store::{Diagram, independent_variables};
 use std::alloc::Global;
+use triple_tables::TripleTable;
 use wpds_base::OutOfMemory;
 
 /// The relation that leads from `x` to `z` exactly where `a` leads from `x` to some `y`, and `b` from `y` to `z`.
@@ -39,11 +39,13 @@ pub fn compose_relations(
     // the law that gives the variables of the result
     independent_variables();
     let arena = Bump::new(alloc);
-    let mut scratch = Scratch::new(alloc, &arena);
+    // twice the nodes of the larger operand: for both, and for those of a result of that size
+    let room = 2 * a.nodes().len().max(b.nodes().len());
+    let mut scratch = Scratch::with_room(alloc, &arena, room)?;
     let x = load(alloc, &mut scratch, a)?;
     let y = load(alloc, &mut scratch, b)?;
-    let mut results = Table::new(alloc);
-    let mut joins = Table::new(alloc);
+    let mut results = TripleTable::with_room(alloc, room)?;
+    let mut joins = TripleTable::new(alloc);
     let root = compose(&mut scratch, &mut results, &mut joins, x, y)?;
     let made = copy_out(alloc, &scratch, root)?;
     Ok(made)
@@ -59,8 +61,8 @@ pub(crate) enum Operand {
 // The composition of two references. Each pair is worked out once.
 fn compose(
     scratch: &mut Scratch,
-    results: &mut Table,
-    joins: &mut Table,
+    results: &mut TripleTable,
+    joins: &mut TripleTable,
     x: u64,
     y: u64,
 ) -> Result<u64, OutOfMemory>
@@ -93,7 +95,7 @@ fn compose(
 // The disjunction at the place of a value in the middle, else the choice by the variable that stays.
 fn join(
     scratch: &mut Scratch,
-    joins: &mut Table,
+    joins: &mut TripleTable,
     place: u64,
     low: u64,
     high: u64,

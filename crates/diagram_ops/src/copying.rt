@@ -1,20 +1,20 @@
 ghost use Rattle.std.specs.Prelude.{◌≡◌, ◌+◌, ◌<◌, ◌++◌, [], ◌∷◌, ℕ, Bool, Some, IfOk, OnOk, length, cond, nat_eq};
-ghost use Rattle.std.specs.HashMap.{get};
 ghost use Rattle.diagram_store.specs.Diagrams.{meaning};
 ghost use Rattle.diagram_store.specs.Meaning.{value_at};
 ghost use Rattle.diagram_ops.specs.private.Copying.{IsCopy, Copies};
+ghost use Rattle.diagram_ops.specs.private.Places.{placed};
 
+use crate::places::Places;
 use crate::scratch::Scratch;
 use diagram_store::{Branch, BranchList, Diagram, one_reference};
 use std::alloc::Global;
-use std::collections::HashMap;
 use wpds_base::OutOfMemory;
 
 // Nodes in canonical order, and the place of each scratch reference that has one.
 #[derive(Drop)]
 struct Copy {
     nodes: Vec<Branch>,
-    places: HashMap<u64, u64>,
+    places: Places,
 }
 
 /// The diagram with the meaning of a scratch reference.
@@ -25,7 +25,7 @@ pub(crate) fn copy_out(alloc: Global, scratch: &Scratch, root: u64) -> Result<Di
 {
     let mut copy = Copy {
         nodes: Vec::new(alloc),
-        places: HashMap::new(alloc),
+        places: Places::new(alloc, scratch.references())?,
     };
     let place = copy_from(scratch, &mut copy, root)?;
     Ok(Diagram {
@@ -37,15 +37,17 @@ pub(crate) fn copy_out(alloc: Global, scratch: &Scratch, root: u64) -> Result<Di
 // Copies what a reference reaches, low first, and returns its place.
 fn copy_from(scratch: &Scratch, copy: &mut Copy, reference: u64) -> Result<u64, OutOfMemory>
     requires within { reference < length scratch.now + 2 }
-    requires copy { IsCopy scratch.now (λ k. get nat_eq copy.old.places k) copy.old.nodes.items }
-    ensures { IfOk result (λ p. Copies scratch.now
-        (λ k. get nat_eq copy.old.places k) copy.old.nodes.items
-        (λ k. get nat_eq copy.new.places k) copy.new.nodes.items reference p) }
+    requires room { length copy.old.places ≡ length scratch.now + 2 }
+    requires copy { IsCopy scratch.now (placed copy.old.places) copy.old.nodes.items }
+    ensures room { length copy.new.places ≡ length copy.old.places }
+    ensures copies { IfOk result (λ p. Copies scratch.now
+        (placed copy.old.places) copy.old.nodes.items
+        (placed copy.new.places) copy.new.nodes.items reference p) }
 {
     // the law by which no node is copied twice
     one_reference();
-    if let Some(place) = copy.places.get(&reference) {
-        return Ok(*place);
+    if let Some(place) = copy.places.get(reference) {
+        return Ok(place);
     }
     match scratch.node(reference) {
         None => Ok(reference),
@@ -61,13 +63,15 @@ fn copy_from(scratch: &Scratch, copy: &mut Copy, reference: u64) -> Result<u64, 
 
 // Adds the node of a reference, and returns its place.
 fn place_node(copy: &mut Copy, reference: u64, node: Branch) -> Result<u64, OutOfMemory>
+    requires { reference < length copy.old.places }
+    ensures room { length copy.new.places ≡ length copy.old.places }
     ensures place { IfOk result (λ p. p ≡ length copy.old.nodes.items + 2) }
     ensures nodes { OnOk result (copy.new.nodes.items ≡ copy.old.nodes.items ++ node ∷ []) }
-    ensures places { IfOk result (λ p. (k : ℕ) → get nat_eq copy.new.places k
-        ≡ cond (nat_eq reference k) (Some p) (get nat_eq copy.old.places k)) }
+    ensures places { IfOk result (λ p. (k : ℕ) → placed copy.new.places k
+        ≡ cond (nat_eq reference k) (Some p) (placed copy.old.places k)) }
 {
     let place = copy.nodes.len() as u64 + 2;
     copy.nodes.push(node)?;
-    copy.places.insert(reference, place)?;
+    copy.places.put(reference, place);
     Ok(place)
 }

@@ -7,12 +7,12 @@ mod composing;
 mod copying;
 mod loading;
 mod picking;
+mod places;
 mod quantifying;
 mod renaming;
 mod restricting;
 mod scratch;
 mod short_cuts;
-mod table;
 
 pub use applied::{apply_table2, apply_table3, apply2, apply3};
 pub use composing::compose_relations;
@@ -20,8 +20,3 @@ pub use picking::{Bits, pick};
 pub use quantifying::exists;
 pub use renaming::rename;
 pub use restricting::restrict;
-
-#[cfg(test)]
-mod table_tests;
-#[cfg(test)]
-mod tests;

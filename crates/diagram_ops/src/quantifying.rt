@@ -5,16 +5,16 @@ ghost use Rattle.diagram_ops.specs.Quantifying.{IsTrueOnSome};
 ghost use Rattle.diagram_ops.specs.private.Applying.{AreApplied};
 ghost use Rattle.diagram_ops.specs.private.Images.{IsImage, IsPlaceOf, IsQuantified};
 ghost use Rattle.diagram_ops.specs.private.Scratch.{Keeps};
-ghost use Rattle.diagram_ops.specs.private.Tables.{known};
+ghost use Rattle.triple_tables.specs.Tables.{known};
 
 use crate::applying::{OR, apply};
 use crate::copying::copy_out;
 use crate::loading::{first_places, place_at};
 use crate::scratch::Scratch;
-use crate::table::Table;
 use bumpalo::Bump;
 use diagram_store::{Branch, Diagram, independent_variables};
 use std::alloc::Global;
+use triple_tables::TripleTable;
 use wpds_base::OutOfMemory;
 
 /// The diagram that is true on exactly those bits for which `a` is true on some bits that differ from them
@@ -50,7 +50,7 @@ fn load_quantified(
 {
     let nodes = diagram.nodes();
     let mut places = first_places(alloc)?;
-    let mut results = Table::new(alloc);
+    let mut results = TripleTable::new(alloc);
     for k in 0..nodes.len() {
         let place = quantify_node(scratch, &mut results, nodes, &places, k, vars)?;
         places.push(place)?;
@@ -61,7 +61,7 @@ fn load_quantified(
 // The place of a node, after those of its branches.
 fn quantify_node(
     scratch: &mut Scratch,
-    results: &mut Table,
+    results: &mut TripleTable,
     nodes: &[Branch],
     places: &[u64],
     k: usize,

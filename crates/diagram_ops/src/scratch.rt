@@ -2,25 +2,25 @@ ghost use Rattle.std.specs.Prelude.{◌≡◌, ◌+◌, ◌<◌, ◌^◌, ℕ, [
 ghost use Rattle.diagram_store.specs.Nodes.{node_at, IsAbove, IsReduced, HasVariablesBelow};
 ghost use Rattle.diagram_ops.specs.private.Scratch.{Keeps, Stands, IsChoice};
 
-use crate::table::Table;
 use bumpalo::Bump;
 use diagram_store::{Branch, node};
 use std::alloc::Global;
 use std::marker::Model;
+use triple_tables::TripleTable;
 use wpds_base::OutOfMemory;
 
 /// Reduced nodes in an arena, and a table that finds each by its parts.
 #[derive(Drop)]
 pub(crate) struct Scratch<'a> {
     nodes: Vec<Branch, &'a Bump>,
-    places: Table,
+    places: TripleTable,
 }
 
 impl<'a> Model for Scratch<'a> {
     ghost use Rattle.std.specs.Prelude.{List};
     ghost use Rattle.diagram_store.specs.declared.branch.Branch.{Branch as BranchValue};
     ghost use Rattle.diagram_ops.specs.private.Scratch.{IsScratch};
-    ghost use Rattle.diagram_ops.specs.private.Tables.{known};
+    ghost use Rattle.triple_tables.specs.Tables.{known};
 
     ghost Value = { List BranchValue };
 
@@ -37,8 +37,29 @@ impl<'a> Scratch<'a> {
     {
         Scratch {
             nodes: Vec::new(arena),
-            places: Table::new(alloc),
+            places: TripleTable::new(alloc),
         }
+    }
+
+    /// No nodes yet, with room for so many. The nodes lie in the arena.
+    pub(crate) fn with_room(
+        alloc: Global,
+        arena: &'a Bump,
+        room: usize,
+    ) -> Result<Scratch<'a>, OutOfMemory>
+        ensures empty { IfOk result (λ s. s ≡ []) }
+        ensures reduced { IfOk result (λ s. IsReduced s) }
+    {
+        let nodes = Vec::with_capacity(arena, room)?;
+        let places = TripleTable::with_room(alloc, room)?;
+        Ok(Scratch { nodes, places })
+    }
+
+    /// How many references there are: one for each constant, and one for each node.
+    pub(crate) fn references(&self) -> usize
+        ensures { result ≡ length self.now + 2 }
+    {
+        self.nodes.len() + 2
     }
 
     /// The node that a reference names.

@@ -13,6 +13,3 @@ pub use form::canonical;
 pub use laws::{
     constants_are_canonical, independent_variables, one_meaning, one_reference, value_by_branch,
 };
-
-#[cfg(test)]
-mod tests;

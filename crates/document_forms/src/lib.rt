@@ -24,6 +24,3 @@ pub use weight::{
     Action, Actions, Assignment, Assignments, FactSign, FactSigns, FormText, FormTexts, Numbers,
     ValueText, VariableForm, WeightText, WeightsLine,
 };
-
-#[cfg(test)]
-mod tests;

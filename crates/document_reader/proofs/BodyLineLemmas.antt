@@ -17,7 +17,7 @@ use Rattle.rule_reader.specs.declared.rules.RuleRead.{RuleRead}
 use Rattle.document_reader.specs.private.Readings.{above_now, TakesForm}
 use Rattle.rule_reader.specs.RuleReads.{HasFewItems, IsReadRule}
 use Rattle.document_reader.specs.private.LineReads.{IsAnswered, AreAnswered}
-use Rattle.document_reader.specs.private.NameLines.{kind_of_names, Declares}
+use Rattle.document_reader.specs.NameLines.{kind_of_names, Declares}
 
 -- ---- names
 

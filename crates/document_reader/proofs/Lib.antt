@@ -1,3 +1,4 @@
+pub mod CallerLemmas
 mod BodyLineLemmas
 mod EdgeLemmas
 mod FirstLinesLemmas

@@ -18,7 +18,7 @@ use Rattle.document_forms.specs.Forms.{WeightsForm, RuleForm, LineForm, OfWeight
 use Rattle.document_forms.specs.Kinds.{weights_conditions}
 use Rattle.document_forms.specs.Above.{names_on}
 use Rattle.document_reader.specs.private.Readings.{declared_on}
-use Rattle.document_reader.specs.private.NameLines.{names_in}
+use Rattle.document_reader.specs.NameLines.{names_in}
 use Rattle.document_reader.specs.private.LineForms.{form_in}
 
 pub form_lawful : (line : List ℕ) → line_form line ≡ option_and_then form_in (lawful_words line)

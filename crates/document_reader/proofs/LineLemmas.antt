@@ -7,7 +7,7 @@ use Rattle.std.proofs.lemmas.List.Quantifiers.{position-Some}
 use Rattle.std.proofs.lemmas.List.Sums.{fails_before_first}
 use Rattle.std.proofs.lemmas.Bool.{and_from, false_from_ne_true, eqb-true, ltb-false}
 use Rattle.document_forms.specs.Lines.{pieces, lines, has_no_feed, without_return, IsCut}
-use Rattle.document_reader.specs.private.LinesLeft.{is_feed}
+use Rattle.document_reader.specs.LinesLeft.{is_feed}
 
 -- ---- the carriage return at the end
 

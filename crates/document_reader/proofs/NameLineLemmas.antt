@@ -15,7 +15,7 @@ use Rattle.document_forms.specs.Forms.{names_of}
 use Rattle.document_forms.specs.Names.{is_among, has_twice, once, is_reserved}
 use Rattle.document_forms.specs.Words.{name_of, each, guarded, ◌>>=◌}
 use Rattle.document_forms.proofs.CallerLemmas.{has_known, known_first, known_next, once_alone, once_is_once, once_joined, once_known, twice_is_once}
-use Rattle.document_reader.specs.private.NameLines.{names_in, is_free, HasAdded, kind_of_names, Declares}
+use Rattle.document_reader.specs.NameLines.{names_in, is_free, HasAdded, kind_of_names, Declares}
 
 -- ---- which words are names
 

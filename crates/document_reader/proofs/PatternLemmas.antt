@@ -21,7 +21,7 @@ use Rattle.document_reader.specs.declared.patterns.PatternRead.{PatternRead}
 use Rattle.document_reader.specs.declared.queries.QueryRead.{QueryRead}
 use Rattle.document_reader.specs.private.ItemReading.{HasItem, AreItemsRead, HasItems}
 use Rattle.rule_reader.specs.Names.{number_among}
-use Rattle.document_reader.specs.private.QueryReading.{is_amiss, IsPatternRead, IsQueryFrom}
+use Rattle.document_reader.specs.QueryReading.{is_amiss, IsPatternRead, IsQueryFrom}
 use Rattle.document_reader.proofs.SetLemmas.{regroup, unknown_push, known_number}
 
 -- ---- items

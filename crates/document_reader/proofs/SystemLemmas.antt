@@ -12,7 +12,7 @@ use Rattle.document_forms.specs.declared.document.RuleLine.{RuleLine}
 use Rattle.document_forms.specs.declared.document.QueryLine.{QueryLine}
 use Rattle.document_forms.specs.Documents.{Document, body, document_of, read_as}
 use Rattle.document_reader.specs.declared.reading.Reading.{Reading}
-use Rattle.document_reader.specs.private.LinesLeft.{Left, left}
+use Rattle.document_reader.specs.LinesLeft.{Left, left}
 use Rattle.document_reader.specs.private.Readings.{HasRead, document_now}
 use Rattle.document_reader.specs.private.Found.{found_first}
 use Rattle.document_reader.proofs.FirstLinesLemmas.{found_at_end}

@@ -1,2 +1,5 @@
 pub mod FirstLines
+pub mod LinesLeft
+pub mod NameLines
 pub mod private
+pub mod QueryReading

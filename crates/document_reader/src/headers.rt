@@ -13,8 +13,8 @@ use document_forms::{Language, WeightsLine};
 use rule_reader::is_name;
 use wpds_port::{Kind, Lexeme, Words};
 
-// Whether the words are this name and the number 1.
-fn is_first_version(words: &Words, name: &[u8]) -> bool
+/// Whether the words are this name and the number 1.
+pub fn is_first_version(words: &Words, name: &[u8]) -> bool
     ensures { result ≡ is_first_version_of name.now words.now }
 {
     let Some((first, rest)) = words.split_first() else {

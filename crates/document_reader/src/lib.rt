@@ -13,10 +13,9 @@ mod symbols;
 mod system;
 mod weights_lines;
 
-pub use headers::{first_line, language};
+pub use headers::{first_line, is_first_version, language};
+pub use lines::{Line, Lines, is_text};
+pub use name_lines::{add_names, add_word, are_names, is_reserved};
+pub use patterns::QueryFaults;
+pub use queries::{QueryRead, read_query};
 pub use system::read_system;
-
-#[cfg(test)]
-mod query_tests;
-#[cfg(test)]
-mod system_tests;

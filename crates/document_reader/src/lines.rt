@@ -5,7 +5,7 @@ ghost use Rattle.wpds_port.specs.Tokens.{is_blank};
 ghost use Rattle.wpds_port.specs.Words.{word_of};
 ghost use Rattle.document_forms.specs.Forms.{line_form, form_behind};
 ghost use Rattle.document_forms.specs.Lines.{lines, counts as counts_as, is_text as is_text_as, is_allowed, without_return as return_off};
-ghost use Rattle.document_reader.specs.private.LinesLeft.{left, is_feed};
+ghost use Rattle.document_reader.specs.LinesLeft.{left, is_feed};
 
 use document_forms::one_cutting_into_lines;
 use std::marker::Model;
@@ -13,7 +13,7 @@ use wpds_port::{Lexeme, Words};
 
 /// A line of a document with its number, from 1.
 #[derive(Clone, Copy)]
-pub(crate) struct Line<'t> {
+pub struct Line<'t> {
     pub number: u64,
     /// Without the line feed, and without a carriage return at the end.
     pub bytes: &'t [u8],
@@ -21,7 +21,7 @@ pub(crate) struct Line<'t> {
 
 /// The lines of a document that count, from a place on.
 #[derive(Drop)]
-pub(crate) struct Lines<'t> {
+pub struct Lines<'t> {
     rest: &'t [u8],
     // The number of the line with which the rest begins.
     number: u64,
@@ -29,7 +29,7 @@ pub(crate) struct Lines<'t> {
 
 impl<'t> Model for Lines<'t> {
     ghost use Rattle.std.specs.Prelude.{◌≤◌, ◌+◌, ◌^◌, length};
-    ghost use Rattle.document_reader.specs.private.LinesLeft.{Left, left};
+    ghost use Rattle.document_reader.specs.LinesLeft.{Left, left};
 
     ghost Value = { Left };
 
@@ -40,7 +40,7 @@ impl<'t> Model for Lines<'t> {
 
 impl<'t> Lines<'t> {
     /// All lines of these bytes that count.
-    pub(crate) fn new(bytes: &'t [u8]) -> Lines<'t>
+    pub fn new(bytes: &'t [u8]) -> Lines<'t>
         ensures { result ≡ left 1 bytes.now }
     {
         Lines {
@@ -50,7 +50,7 @@ impl<'t> Lines<'t> {
     }
 
     /// The next line that counts, if there is one.
-    pub(crate) fn next(&mut self) -> Option<Line<'t>>
+    pub fn next(&mut self) -> Option<Line<'t>>
         ensures lines { MatchOption result
             ((self.old.lines ≡ []) × (self.new.lines ≡ []))
             (λ l. self.old.lines
@@ -73,7 +73,7 @@ impl<'t> Lines<'t> {
     }
 
     /// The number of the line after the last.
-    pub(crate) fn after(&self) -> u64
+    pub fn after(&self) -> u64
         ensures { result ≡ self.now.after }
     {
         let mut number = self.number;
@@ -143,7 +143,7 @@ fn allowed(byte: u8) -> bool
 }
 
 /// Whether the line has no byte but tab and those from 32 to 126.
-pub(crate) fn is_text(line: &[u8]) -> bool
+pub fn is_text(line: &[u8]) -> bool
     ensures { result ≡ is_text_as line.now }
 {
     line.iter().all(|byte| allowed(*byte))

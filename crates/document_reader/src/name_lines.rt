@@ -5,7 +5,7 @@ ghost use Rattle.wpds_port.specs.Words.{word_of};
 ghost use Rattle.document_forms.specs.Forms.{Symbols, names_of};
 ghost use Rattle.document_forms.specs.Names.{once, is_reserved as is_reserved_of};
 ghost use Rattle.document_reader.specs.private.Readings.{declared_on};
-ghost use Rattle.document_reader.specs.private.NameLines.{names_in, is_free as is_free_of, HasAdded, kind_of_names, Declares};
+ghost use Rattle.document_reader.specs.NameLines.{names_in, is_free as is_free_of, HasAdded, kind_of_names, Declares};
 
 use crate::lines::line_front;
 use rule_reader::{NameTable, is_name};
@@ -18,8 +18,8 @@ const RESERVED: [&[u8]; 24] = [
     b"goto", b"assert", b"call", b"skip", b"query",
 ];
 
-// Whether the name is a word of the two languages, which cannot be declared.
-fn is_reserved(name: &[u8]) -> bool
+/// Whether the name is a word of the two languages, which cannot be declared.
+pub fn is_reserved(name: &[u8]) -> bool
     ensures { result ≡ is_reserved_of name.now }
 {
     RESERVED.iter().any(|word| name == *word)
@@ -35,8 +35,8 @@ fn is_free(lexeme: Lexeme) -> bool
     }
 }
 
-// Whether the words are names, one at least, that may be declared.
-fn are_names(words: &Words) -> bool
+/// Whether the words are names, one at least, that may be declared.
+pub fn are_names(words: &Words) -> bool
     ensures { result ≡ is_some (names_of words.now) }
 {
     let mut left = words.reborrow();
@@ -49,8 +49,8 @@ fn are_names(words: &Words) -> bool
     words.split_first().is_some()
 }
 
-// Adds a word to the names of a class, if it is a name, and returns whether it stood there.
-fn add_word<'t>(table: &mut NameTable<'t>, lexeme: Lexeme<'t>) -> Result<bool, OutOfMemory>
+/// Adds a word to the names of a class, if it is a name, and returns whether it stood there.
+pub fn add_word<'t>(table: &mut NameTable<'t>, lexeme: Lexeme<'t>) -> Result<bool, OutOfMemory>
     ensures { IfOk result (HasAdded table.old table.new (names_in (word_of lexeme.entry ∷ []))) }
 {
     table.stands_once();
@@ -60,9 +60,9 @@ fn add_word<'t>(table: &mut NameTable<'t>, lexeme: Lexeme<'t>) -> Result<bool, O
     }
 }
 
-// Adds the names among words to those of a class, and returns whether one stood there or stands
-// twice.
-fn add_names<'t>(table: &mut NameTable<'t>, words: &Words<'t>) -> Result<bool, OutOfMemory>
+/// Adds the names among words to those of a class, and returns whether one stood there or stands
+/// twice.
+pub fn add_names<'t>(table: &mut NameTable<'t>, words: &Words<'t>) -> Result<bool, OutOfMemory>
     ensures { IfOk result (HasAdded table.old table.new (names_in words.now)) }
 {
     table.stands_once();

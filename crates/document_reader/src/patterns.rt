@@ -6,7 +6,7 @@ ghost use Rattle.document_forms.specs.Kinds.{sources, edges};
 ghost use Rattle.document_forms.specs.Lawful.{set_count, item_count};
 ghost use Rattle.document_forms.specs.Patterns.{ItemForm, items_of};
 ghost use Rattle.document_reader.specs.private.ItemReading.{begins_with_colon, IsSetRead, AreItemsRead, HasItems};
-ghost use Rattle.document_reader.specs.private.QueryReading.{IsPatternOf};
+ghost use Rattle.document_reader.specs.QueryReading.{IsPatternOf};
 
 use crate::items::{SetRead, read_item};
 use document_forms::{ItemText, PatternText, SetText};
@@ -22,13 +22,13 @@ const MOST_EDGES: usize = 1_000_000;
 
 /// What is amiss with a query that has its form, or with one of its patterns.
 #[derive(Clone, Copy, Debug, PartialEq, Eq)]
-pub(crate) struct QueryFaults {
+pub struct QueryFaults {
     /// Whether a symbol stands twice in a set.
-    pub(crate) twice: bool,
+    pub twice: bool,
     /// Whether a control or a symbol is not declared above.
-    pub(crate) unknown: bool,
+    pub unknown: bool,
     /// Whether a pattern has too many items or edges.
-    pub(crate) count: bool,
+    pub count: bool,
 }
 
 impl QueryFaults {

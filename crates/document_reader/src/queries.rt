@@ -1,5 +1,5 @@
 ghost use Rattle.std.specs.Prelude.{IfOk};
-ghost use Rattle.document_reader.specs.private.QueryReading.{IsQueryRead};
+ghost use Rattle.document_reader.specs.QueryReading.{IsQueryRead};
 
 use crate::patterns::{QueryFaults, read_pattern};
 use document_forms::QueryLine;
@@ -10,14 +10,16 @@ use wpds_port::{Lexeme, Mark, Words};
 
 /// A query as it is read. Where something is amiss, `query` says nothing.
 #[derive(Drop)]
-pub(crate) struct QueryRead {
-    pub(crate) query: QueryLine,
-    pub(crate) faults: QueryFaults,
+pub struct QueryRead {
+    /// The query; it says nothing where something is amiss.
+    pub query: QueryLine,
+    /// What is amiss.
+    pub faults: QueryFaults,
 }
 
 /// The words behind `query` as a query, in a document that declares so many symbols in all; nothing
 /// where they are none.
-pub(crate) fn read_query(
+pub fn read_query(
     alloc: Global,
     all: usize,
     controls: &NameTable,

@@ -2,7 +2,7 @@
 
 ghost use Rattle.std.specs.Prelude.{◌≡◌, IfOk, drop};
 ghost use Rattle.document_forms.specs.FirstRefusal.{counted_lines, all_symbols as all_symbols_of};
-ghost use Rattle.document_reader.specs.private.LinesLeft.{left};
+ghost use Rattle.document_reader.specs.LinesLeft.{left};
 
 use crate::lines::Lines;
 use crate::name_lines::symbols_on;

@@ -14,6 +14,3 @@ pub use kind::{DocumentWeights, Names};
 pub use laws::{configurations_are_their_own_members, documents_are_systems, unreachable_is_zero};
 pub use pattern::pattern_from;
 pub use system::system_from;
-
-#[cfg(test)]
-mod tests;

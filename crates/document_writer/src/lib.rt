@@ -11,6 +11,3 @@ mod rules;
 mod weights;
 
 pub use document::write_system;
-
-#[cfg(test)]
-mod tests;

@@ -14,6 +14,3 @@ pub use laws::{
 };
 pub use weight::{GenKillW, MaskMap};
 pub use width::words_for;
-
-#[cfg(test)]
-mod tests;

@@ -5,6 +5,3 @@
 mod rows;
 
 pub use rows::KeyRows;
-
-#[cfg(test)]
-mod tests;

@@ -10,6 +10,3 @@ mod text;
 pub use document::{LADDER_CAP, ladder_document};
 pub use laws::ladders_are_documents;
 pub use text::ladder;
-
-#[cfg(test)]
-mod tests;

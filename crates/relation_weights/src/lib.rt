@@ -16,6 +16,3 @@ pub use laws::{actions_are_sets_of_pairs, weights_are_sets_of_pairs};
 pub use rel_map::{RelMap, Slot};
 pub use relation::Relation;
 pub use relations::Relations;
-
-#[cfg(test)]
-mod tests;

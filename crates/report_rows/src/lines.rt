@@ -72,22 +72,32 @@ fn the_first_line(rt: HostRuntime) -> Result<(), OutOfMemory> {
     Ok(())
 }
 
-// Programs are refused on their first line, whatever follows; a line that is no header of one is not.
+// Programs are refused by their first refusal, and those that are read as not built. A line that is no header of one
+// begins none.
 const PROGRAMS: &str = "bool 1
 ----
-refused: line 1: 14 NotBuilt
+refused: line 2: 6 Unknown
 ====
 # a program
 
  bool\t1
 query reach é
 ----
-refused: line 3: 14 NotBuilt
+refused: line 4: 2 NotText
 ====
 bool 1
 wpds 1
 ----
-refused: line 1: 14 NotBuilt
+refused: line 2: 4 Form
+====
+bool 1
+global g
+proc main()
+L: assert g
+end
+query fails L
+----
+refused: line 0: 14 NotBuilt
 ====
 bool 2
 ----

@@ -1,9 +1,8 @@
-//! How answers are written: the line of a query, and the listing of its runs.
+//! How answers are written: the line of a query, the listing of its runs, and the runs themselves.
 #![tactic(auto)]
 
 mod listing;
+mod traces;
 
 pub use listing::{listing_text, query_line};
-
-#[cfg(test)]
-mod tests;
+pub use traces::traces_text;

@@ -16,8 +16,9 @@ use Rattle.document_forms.specs.Weights.{ValueForm, ActionForm, AssignForm, targ
 use Rattle.document_forms.specs.Kinds.{value_names, value_trees}
 use Rattle.document_forms.specs.Documents.{value_of, assignment_of}
 use Rattle.rule_reader.specs.declared.weights.WeightFaults.{WeightFaults}
-use Rattle.rule_reader.specs.private.WeightReads.{is_sound, either}
-use Rattle.rule_reader.specs.private.TreeReads.{HasFaults, is_too_deep}
+use Rattle.rule_reader.specs.TreeReads.{either}
+use Rattle.rule_reader.specs.TreeReads.{is_sound}
+use Rattle.rule_reader.specs.TreeReads.{HasFaults, is_too_deep}
 use Rattle.rule_reader.specs.private.ActionReads.{sides_of, assigned}
 use Rattle.std.proofs.lemmas.List.Folds.{list_any-append}
 use Rattle.rule_reader.proofs.FormLemmas.{flat_map_push}
@@ -105,7 +106,7 @@ no_zip items ts = ap (map (assigned items)) (zip_none ts)
 
 -- ---- the parts of an action
 
-becomes_test : same_word (Sign Becomes) ≡ is_becomes
+pub becomes_test : same_word (Sign Becomes) ≡ is_becomes
 becomes_test = fun_ext go
   where
     go : (w : Word) → same_word (Sign Becomes) w ≡ is_becomes w

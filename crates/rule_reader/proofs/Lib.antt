@@ -1,5 +1,7 @@
+pub mod CallerLemmas
 mod ActionLemmas
 mod DigitLemmas
+mod CopyLemmas
 mod EachLemmas
 mod FactLemmas
 mod FormLemmas

@@ -36,7 +36,7 @@ among_again xs y x h = go (bytes_eq x y) refl
     go false e = or-false (is_among xs x)
     go true e = let same : is_among xs x ≡ true = ap (is_among xs) ((bytes_eq-Decides x y).0 e) ∙ h in rw same refl
 
-not_twice : (b : Bool) → not (not b) ≡ b
+pub not_twice : (b : Bool) → not (not b) ≡ b
 not_twice true = refl
 not_twice false = refl
 

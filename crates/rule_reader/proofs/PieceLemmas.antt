@@ -10,7 +10,7 @@ use Rattle.wpds_port.specs.Words.{same_word, before, behind, before_outside, beh
 use Rattle.document_forms.specs.Lines.{in_front}
 use Rattle.document_forms.specs.Words.{is_comma, is_semicolon, parted_outside}
 use Rattle.rule_reader.specs.declared.weights.pieces.Cut.TheVariants.{Commas, Semicolons, OutsideCommas}
-use Rattle.rule_reader.specs.private.Pieces.{pieces_of, pieces_left}
+use Rattle.rule_reader.specs.Pieces.{pieces_of, pieces_left}
 use Rattle.rule_reader.proofs.EachLemmas.{others, parted_cut}
 
 -- ---- the marks

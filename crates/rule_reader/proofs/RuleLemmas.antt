@@ -22,7 +22,7 @@ use Rattle.document_forms.specs.Above.{Above, item_class, most_names}
 use Rattle.document_forms.specs.Kinds.{rule_weight, weight_names, is_unlawful, is_deep, has_unknown_name, has_map_twice, map_names, is_foreign_map, rule_conditions}
 use Rattle.document_forms.specs.Documents.{weight_value, rule_value}
 use Rattle.document_forms.proofs.CallerLemmas.{IsOwn, weight_own}
-use Rattle.rule_reader.specs.private.WeightReads.{IsRead, IsReadAs, has_places}
+use Rattle.rule_reader.specs.WeightReads.{IsRead, IsReadAs, has_places}
 use Rattle.rule_reader.specs.RuleReads.{HasFewItems, IsReadRule}
 use Rattle.rule_reader.specs.declared.weights.WeightRead.{WeightRead}
 use Rattle.rule_reader.specs.declared.rules.RuleParts.{RuleParts}

@@ -16,8 +16,8 @@ use Rattle.truth_tables.specs.Texts.{named}
 use Rattle.document_forms.specs.Names.{is_among, has_unknown, number_in}
 use Rattle.document_forms.specs.Documents.{over_numbers, expression_value}
 use Rattle.rule_reader.specs.declared.weights.WeightFaults.{WeightFaults}
-use Rattle.rule_reader.specs.private.WeightReads.{is_sound}
-use Rattle.rule_reader.specs.private.TreeReads.{variables_among, numbers_of, number_at, is_too_deep, is_star, HasFaults}
+use Rattle.rule_reader.specs.TreeReads.{is_sound}
+use Rattle.rule_reader.specs.TreeReads.{variables_among, numbers_of, number_at, is_too_deep, is_star, HasFaults}
 
 -- ---- numbers in place of names
 

@@ -3,8 +3,5 @@ pub mod FactReads
 pub mod FormReads
 pub mod NameTables
 pub mod PairTexts
-pub mod Pieces
 pub mod Returns
 pub mod Rules
-pub mod TreeReads
-pub mod WeightReads

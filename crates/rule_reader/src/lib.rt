@@ -16,8 +16,6 @@ pub use name_reads::{NamesOnce, NamesRead, read_names};
 pub use names::NameTable;
 pub use rules::{RuleRead, read_rule};
 pub use scope::Scope;
-
-#[cfg(test)]
-mod rule_tests;
-#[cfg(test)]
-mod tests;
+pub use weights::{
+    Cut, Pieces, TreeRead, ValueRead, WeightFaults, WeightRead, read_tree, read_value, read_weight,
+};

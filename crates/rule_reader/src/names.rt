@@ -83,6 +83,17 @@ impl<'t> NameTable<'t> {
         Ok(added)
     }
 
+    /// The same names in a table of their own. The bytes are borrowed again.
+    pub fn copy(&self, alloc: Global) -> Result<NameTable<'t>, OutOfMemory>
+        ensures { IfOk result (λ t. t ≡ self.now) }
+    {
+        let mut copy = NameTable::new(alloc);
+        for name in &self.order {
+            copy.add(*name)?;
+        }
+        Ok(copy)
+    }
+
     /// The names as texts of their own, each copied once.
     pub fn into_names(self, alloc: Global) -> Result<Sequence<Text>, OutOfMemory>
         ensures { IfOk result (λ names. names ≡ self.entry) }

@@ -8,7 +8,7 @@ ghost use Rattle.document_forms.specs.Above.{Above};
 ghost use Rattle.document_forms.specs.Forms.{RuleForm, rule_of};
 ghost use Rattle.document_forms.specs.Kinds.{rule_weight};
 ghost use Rattle.rule_reader.specs.RuleReads.{above_in, IsReadRule, IsRuleRead};
-ghost use Rattle.rule_reader.specs.private.WeightReads.{IsRead};
+ghost use Rattle.rule_reader.specs.WeightReads.{IsRead};
 ghost use Rattle.rule_reader.specs.private.Rules.{rule_said, IsRightRead, IsBackRead, AreEnds, AreParts, weight_unknown as weight_unknown_of, weight_amiss as weight_amiss_of, weight_deep as weight_deep_of, is_unknown as is_unknown_of, is_misplaced as is_misplaced_of, parts_kind, weight_kept};
 
 use crate::lexemes::split_name;

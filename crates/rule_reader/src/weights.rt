@@ -4,15 +4,14 @@ ghost use Rattle.std.specs.Prelude.{◌≡◌, ◌∷◌, [], MatchOption, false
 ghost use Rattle.wpds_port.specs.Words.{word_of};
 ghost use Rattle.truth_tables.specs.Grammar.{number_of};
 ghost use Rattle.document_forms.specs.Weights.{NumberForm, OneForm, cost_of, is_only, own_weight};
-ghost use Rattle.rule_reader.specs.private.WeightReads.{IsRead, IsReadAs, IsWeightRead, either};
+ghost use Rattle.rule_reader.specs.WeightReads.{IsRead, IsReadAs, IsWeightRead};
+ghost use Rattle.rule_reader.specs.TreeReads.{either};
 
 mod actions;
 mod exprs;
 mod facts;
 mod forms;
 mod pieces;
-#[cfg(test)]
-mod tests;
 
 use crate::digits::number;
 use crate::names::NameTable;
@@ -20,24 +19,26 @@ use crate::weights::actions::read_actions;
 use crate::weights::facts::read_facts;
 use crate::weights::forms::read_forms;
 use document_forms::{WeightText, WeightsLine};
+pub use exprs::{TreeRead, ValueRead, read_tree, read_value};
+pub use pieces::{Cut, Pieces};
 use std::alloc::Global;
 use wpds_base::OutOfMemory;
 use wpds_port::{Lexeme, Words};
 
 /// What is amiss with a weight that has its form.
 #[derive(Clone, Copy, Debug)]
-pub(crate) struct WeightFaults {
+pub struct WeightFaults {
     /// A name is none of the facts or variables.
-    pub(crate) unknown: bool,
+    pub unknown: bool,
     /// A number is too large, a name stands twice, or an assignment is uneven.
-    pub(crate) unlawful: bool,
+    pub unlawful: bool,
     /// An expression is too deep. This is told only where nothing is unlawful.
-    pub(crate) deep: bool,
+    pub deep: bool,
 }
 
 impl WeightFaults {
     /// Nothing is amiss.
-    pub(crate) fn none() -> WeightFaults
+    pub fn none() -> WeightFaults
         ensures { result ≡ record { unknown = false; unlawful = false; deep = false } }
     {
         WeightFaults {
@@ -48,7 +49,7 @@ impl WeightFaults {
     }
 
     /// What is amiss with one of two parts.
-    pub(crate) fn or(self, other: WeightFaults) -> WeightFaults
+    pub fn or(self, other: WeightFaults) -> WeightFaults
         ensures { result ≡ either self other }
     {
         WeightFaults {
@@ -61,9 +62,11 @@ impl WeightFaults {
 
 /// A weight that was read: its value, if nothing is amiss, and what is.
 #[derive(Debug, Drop)]
-pub(crate) struct WeightRead {
-    pub(crate) value: WeightText,
-    pub(crate) faults: WeightFaults,
+pub struct WeightRead {
+    /// The value; it says nothing where something is amiss.
+    pub value: WeightText,
+    /// What is amiss.
+    pub faults: WeightFaults,
 }
 
 impl WeightRead {
@@ -91,7 +94,7 @@ impl WeightRead {
 ///
 /// Nothing is returned where the words are no such weight. It answers out of memory where it gets
 /// none.
-pub(crate) fn read_weight<'t>(
+pub fn read_weight<'t>(
     alloc: Global,
     weights: WeightsLine,
     items: &NameTable<'_>,

@@ -31,6 +31,12 @@ module _ {S W Map : Type 0} where
   hands_out-freed (Some g ∷ hs) zero h e = omega arith
   hands_out-freed (g ∷ hs) (suc k) h e = omega (arith, hands_out-freed hs k h e)
 
+  -- a seat with a hand is one of the seats
+  pub seat_within : (hs : List (Option (Holding S W Map))) (k : ℕ) (h : Holding S W Map) → hand_at k hs ≡ Some h → k < length hs
+  seat_within [] k h e = cc
+  seat_within (g ∷ hs) zero h e = omega arith
+  seat_within (g ∷ hs) (suc k) h e = omega (arith, seat_within hs k h e)
+
   -- at most one more, whatever a seat gets
   set_le : (hs : List (Option (Holding S W Map))) (k : ℕ) (o : Option (Holding S W Map)) → hands_out (set hs k o) ≤ 1 + hands_out hs
   set_le [] k o = omega arith
@@ -95,6 +101,9 @@ module _ {S W Map : Type 0} where
   -- one fewer, where a hand goes whose place was read
   pub hands_out-read : (hs : List (Option (Holding S W Map))) (k : ℕ) (x : Place) → option_map (λ h. h.place) (hand_at k hs) ≡ Some x → hands_out hs ≡ 1 + hands_out (set hs k None)
   hands_out-read hs k x e = let h = hand_of (hand_at k hs) x e in hands_out-freed hs k h.0 h.1
+
+  pub seat_read : (hs : List (Option (Holding S W Map))) (k : ℕ) (x : Place) → option_map (λ h. h.place) (hand_at k hs) ≡ Some x → k < length hs
+  seat_read hs k x e = let h = hand_of (hand_at k hs) x e in seat_within hs k h.0 h.1
 
 -- a queue with a front: what is taken is that, and the rest is left
 pub popped : {X : Type 0} (o : Option X) (old new : List X) (x : X) (P : Type 0) → old ≡ x ∷ drop 1 old

@@ -1,6 +1,7 @@
 mod HandLemmas
 mod QueueFacts
 mod NoteLemmas
+mod RecordLemmas
 mod ChangeLemmas
 mod StartLemmas
 mod OpeningBook

@@ -1,5 +1,5 @@
 -- What a book is after it has settled a hand.
-use Rattle.std.proofs.Common.{◌≡◌, inl, inr, ℕ, ◌+◌, List, [], ◌∷◌, ◌++◌, length, map, false, refl, sym, ap, ap₂, ◌∙◌, subst, arith}
+use Rattle.std.proofs.Common.{◌≡◌, ◌<◌, inl, inr, ℕ, ◌+◌, List, [], ◌∷◌, ◌++◌, length, map, false, refl, sym, ap, ap₂, ◌∙◌, subst, arith}
 use Rattle.std.specs.Prelude.{◌↔◌, All, Bool, Result, Ok, Err, OnErr, Option, None, Some, IfSome, IsTrue, option_map, slice_set}
 use Rattle.std.specs.List.{AllByRecursion}
 use Rattle.std.proofs.lemmas.Option.{same_Some}
@@ -29,7 +29,7 @@ use Rattle.saturation_core.specs.DoneValue.{DoneValue}
 use Rattle.saturation_core.specs.Settled.{jobs_of, jobs_out, IsWorked, CanSettle}
 use Rattle.saturation_laws.proofs.CallerLemmas.{worth_fits, change_fits, job_sound, opening_fits, book_works}
 use Rattle.saturation_core.proofs.PutPlan.{IsFitChange, nodes_added, plan_is, apply_jobs_is, plan_nodes}
-use Rattle.saturation_core.proofs.HandLemmas.{hands_out-freed}
+use Rattle.saturation_core.proofs.HandLemmas.{hands_out-freed, seat_within}
 use Rattle.saturation_laws.specs.Ways.{Way, IsLawful, HasOneCandidate}
 
 -- what holds anyway holds on a refusal
@@ -46,6 +46,9 @@ module _ {S W Map : Type 0} where
   -- one hand fewer, where it goes
   pub one_out : (hs : List (Option (Holding S W Map))) (seat : ℕ) (js : List (Job S W Map)) → jobs_out seat hs ≡ Some js → hands_out hs ≡ 1 + hands_out (slice_set hs seat None)
   one_out hs seat js out = let h = held (hand_at seat hs) js out in hands_out-freed hs seat h.0 h.1
+
+  pub seat_out : (hs : List (Option (Holding S W Map))) (seat : ℕ) (js : List (Job S W Map)) → jobs_out seat hs ≡ Some js → seat < length hs
+  seat_out hs seat js out = let h = held (hand_at seat hs) js out in seat_within hs seat h.0 h.1
 
   -- the state that lowerings begin with
   pub put_on : (plan : List (Planned S W Map)) (old roomy new : Found S W Map) → Becomes old (λ st. st) roomy → Becomes roomy (put_all plan) new → Becomes old (put_all plan) new

@@ -1,5 +1,5 @@
 -- What a book is seen as, and the room that it keeps.
-use Rattle.std.specs.Prelude.{◌+◌, ◌≤◌, vec_len, vec_capacity}
+use Rattle.std.specs.Prelude.{◌≤◌}
 use Rattle.saturation_core.specs.declared.book.Book.TheInside.{Inside}
 use Rattle.saturation_laws.specs.Books.{BookValue}
 use Rattle.saturation_core.specs.Seats.{hands_out}
@@ -10,10 +10,10 @@ book_view b = record {
   direction = b.direction;
   opening = b.opening;
   state = record { transitions = b.found.transitions.transitions; nodes = b.found.graph.nodes; queue = b.found.waiting.items; hands = b.out.items };
-  journal = b.journal.items;
+  journal = b.journal.events;
 }
 
 -- Each hand that is out can be given back without memory.
 pub record HasRoom {S D W Map : Type 0} (b : Inside S D W Map) : Type 0 where
-  pub journal : vec_len b.journal + hands_out b.out.items ≤ vec_capacity b.journal
+  pub journal : hands_out b.out.items ≤ b.journal.spare
   pub queue : hands_out b.out.items ≤ b.found.waiting.spare

@@ -1,6 +1,7 @@
 pub mod Seats
 pub mod Calls
 pub mod WaitingPlaces
+pub mod JournalEvents
 pub mod BookView
 pub mod DoneValue
 pub mod Settled

@@ -1,7 +1,7 @@
--- What a settling plans before it changes a book, what was found so far as a state, and the tests' direction.
+-- What a settling plans before it changes a book, what was found so far as a state, and how events are kept.
 pub mod Plans
 pub mod Steps
 pub mod Finding
 pub mod GoalRows
-pub mod Gather
 pub mod Notes
+pub mod Records

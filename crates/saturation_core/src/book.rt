@@ -8,16 +8,15 @@ ghost use Rattle.saturation_laws.specs.Books.{IsBook, Makes, IsClosed};
 ghost use Rattle.saturation_core.specs.Calls.{AnswersTake, HandWorks};
 ghost use Rattle.saturation_core.specs.Settled.{CanSettle};
 
-use crate::copies::copy_jobs;
 use crate::found::Found;
 use crate::hands::{no_hands, none_out, place_out, put, seats_out};
-use crate::journal::{count_takes, count_takes_of};
+use crate::journal::Journal;
 use crate::plan::plan_jobs;
 use crate::queue::list_jobs;
 use crate::same::{agree, lists, same_side};
 use crate::{Done, Hand, Lowered, SettleFault, Taken};
 use pushdown_rules::System;
-use saturation_laws::{Direction, Event, Holding, JobList, Opening};
+use saturation_laws::{Direction, Holding, Opening, SharedJobs};
 use semiring_laws::Semiring;
 use std::alloc::Global;
 use std::marker::Model;
@@ -33,7 +32,7 @@ pub struct Book<'s, S: Semiring, D: Direction<S>> {
     opening: Opening,
     found: Found<S>,
     out: Vec<Option<Holding<S>>>,
-    journal: Vec<Event>,
+    journal: Journal,
 }
 
 impl<'s, S: Semiring, D: Direction<S>> Model for Book<'s, S, D> {
@@ -79,7 +78,7 @@ impl<'s, S: Semiring, D: Direction<S>> Book<'s, S, D> {
             opening,
             found,
             out: no_hands(alloc)?,
-            journal: Vec::new(alloc),
+            journal: Journal::new(alloc),
         })
     }
 
@@ -142,7 +141,7 @@ impl<'s, S: Semiring, D: Direction<S>> Book<'s, S, D> {
     pub fn takes(&self) -> u128
         ensures { result ≡ takes self.now.journal }
     {
-        count_takes(&self.journal)
+        self.journal.takes()
     }
 
     /// How often this seat has taken one.
@@ -150,7 +149,7 @@ impl<'s, S: Semiring, D: Direction<S>> Book<'s, S, D> {
         requires { seat < most_seats }
         ensures { result ≡ takes_of seat self.now.journal }
     {
-        count_takes_of(&self.journal, seat)
+        self.journal.takes_of(seat)
     }
 
     /// Puts the transition of a hand back into the queue, and takes the hand away.
@@ -161,7 +160,7 @@ impl<'s, S: Semiring, D: Direction<S>> Book<'s, S, D> {
         let at = seat as usize;
         if let Some(place) = place_out(&self.out, at) {
             self.found.waiting.enqueue(place);
-            self.journal.push_reserved(Event::GiveBack { seat });
+            self.journal.give_back(seat);
             put(&mut self.out, at, None);
         }
     }
@@ -180,12 +179,11 @@ impl<'s, S: Semiring, D: Direction<S>> Book<'s, S, D> {
             Some(place) => {
                 let (direction, system) = (&self.direction, self.system);
                 let transitions = &self.found.transitions;
-                let jobs = list_jobs(alloc, direction, system, transitions, place)?;
-                let kept = copy_jobs(alloc, system.semiring(), jobs.as_slice())?;
-                // For this event, and for one more of each hand.
-                self.journal.reserve(65)?;
+                let listed = list_jobs(alloc, direction, system, transitions, place)?;
+                let jobs = SharedJobs::new(alloc, listed)?;
+                let kept = jobs.share()?;
+                self.journal.take(seat, place)?;
                 self.found.waiting.pop();
-                self.journal.push_reserved(Event::Take { seat, place });
                 put(
                     &mut self.out,
                     seat as usize,
@@ -254,7 +252,7 @@ impl<'s, S: Semiring, D: Direction<S>> Book<'s, S, D> {
         self.found.make_room(alloc, &plan)?;
         let count = plan.len() as u64;
         self.found.lower_all(alloc, plan);
-        self.journal.push_reserved(Event::Settle { seat });
+        self.journal.settle(seat);
         put(&mut self.out, seat as usize, None);
         Ok(Lowered { count })
     }

@@ -5,7 +5,7 @@ ghost use Rattle.saturation_laws.specs.Ways.{AreRows, HaveFitInputs};
 
 use crate::work::candidates;
 use pushdown_rules::System;
-use saturation_laws::{Direction, JobList};
+use saturation_laws::{Direction, JobList, SharedJobs};
 use semiring_laws::Semiring;
 use std::alloc::Global;
 use std::marker::Model;
@@ -17,7 +17,7 @@ use wpds_base::Sequence;
 #[derive(Drop)]
 pub struct Hand<S: Semiring> {
     pub seat: u32,
-    pub jobs: JobList<S>,
+    pub jobs: SharedJobs<S>,
 }
 
 /// Seats as bits: bit `s` stands for seat `s`.
@@ -45,7 +45,7 @@ pub type WeightList<S> = Sequence<<S as Semiring>::W>;
 #[derive(Drop)]
 pub struct Done<'s, S: Semiring, D: Direction<S>> {
     seat: u32,
-    jobs: JobList<S>,
+    jobs: SharedJobs<S>,
     candidates: WeightList<S>,
     direction: D,
     system: &'s System<S>,
@@ -100,7 +100,7 @@ impl<S: Semiring> Hand<S> {
     pub fn jobs(&self) -> &JobList<S>
         ensures { result.now ≡ self.now.jobs }
     {
-        &self.jobs
+        self.jobs.as_list()
     }
 
     /// Works out the jobs, without the book. It is refused only when out of memory.
@@ -119,7 +119,7 @@ impl<S: Semiring> Hand<S> {
         ensures worked { IfOk result (IsWorked D.way) }
         ensures fault { IfErr result (λ f. f.hand ≡ self) }
     {
-        match candidates(alloc, direction, system, self.jobs.as_slice()) {
+        match candidates(alloc, direction, system, self.jobs.as_list().as_slice()) {
             Ok(weights) => Ok(Done {
                 seat: self.seat,
                 jobs: self.jobs,
@@ -145,7 +145,7 @@ impl<'s, S: Semiring, D: Direction<S>> Done<'s, S, D> {
         ensures value { result.now ≡ self.now.jobs }
         ensures inputs { All (InputsFit (S.operations self.now.system.semiring)) result.now }
     {
-        &self.jobs
+        self.jobs.as_list()
     }
 
     /// What each job is worth, in order: what the direction makes of it over the system.

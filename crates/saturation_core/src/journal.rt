@@ -1,52 +1,127 @@
-ghost use Rattle.std.specs.Prelude.{◌≡◌};
-ghost use Rattle.saturation_laws.specs.Bound.{takes, takes_of, is_take, is_take_of};
+ghost use Rattle.std.specs.Prelude.{◌≡◌, ◌<◌, ◌≤◌, ◌+◌, ◌++◌, ◌∷◌, [], OnOk, OnErr, length};
+ghost use Rattle.wpds_base.specs.Limits.{most_seats};
+ghost use Rattle.saturation_laws.specs.declared.event.Event.TheVariants.{Take, Settle, GiveBack};
+ghost use Rattle.saturation_laws.specs.Bound.{takes, takes_of};
+ghost use Rattle.saturation_core.specs.private.Records.{is_taken_by, taken_by};
 
-use saturation_laws::Event;
+use std::alloc::Global;
+use std::marker::Model;
+use weighted_automata::Place;
+use wpds_base::OutOfMemory;
 
-/// How many of the events are takes.
-pub(crate) fn count_takes(events: &[Event]) -> u128
-    ensures { result ≡ takes events.now }
+/// An event without its place, by one of 64 seats.
+#[derive(Clone, Copy, Debug)]
+pub(crate) enum Mark {
+    Take { seat: u8 },
+    Settle { seat: u8 },
+    GiveBack { seat: u8 },
+}
+
+/// The events of a book, in order. The places of takes stand apart, so that an event is a mark of two bytes, and a take
+/// has a place besides.
+#[derive(Drop)]
+pub struct Journal {
+    marks: Vec<Mark>,
+    // Those of the takes, in order.
+    places: Vec<Place>,
+}
+
+impl Model for Journal {
+    ghost use Rattle.std.specs.Prelude.{◌≡◌, ◌-◌, vec_len, vec_capacity, length};
+    ghost use Rattle.saturation_core.specs.JournalEvents.{JournalEvents};
+    ghost use Rattle.saturation_core.specs.private.Records.{events_of, taken};
+
+    ghost Value = { JournalEvents };
+
+    ghost view = { λ j. record {
+      events = events_of j.marks.items j.places.items;
+      spare = vec_capacity j.marks - vec_len j.marks;
+    } };
+
+    ghost invariant = { λ j. taken j.marks.items ≡ length j.places.items };
+}
+
+// Whether the mark is a take of this seat.
+fn takes_for(mark: Mark, seat: u32) -> bool
+    ensures { result ≡ is_taken_by seat mark }
+{
+    match mark {
+        Mark::Take { seat: taker } => u32::from(taker) == seat,
+        Mark::Settle { .. } => false,
+        Mark::GiveBack { .. } => false,
+    }
+}
+
+// How many of the marks are takes of this seat.
+fn count_takes_of(marks: &[Mark], seat: u32) -> u128
+    ensures { result ≡ taken_by seat marks.now }
 {
     let mut count = 0;
-    for event in events {
-        if takes_any(*event) {
+    for mark in marks {
+        if takes_for(*mark, seat) {
             count += 1;
         }
     }
     count
 }
 
-/// How many of the events are takes of this seat.
-pub(crate) fn count_takes_of(events: &[Event], seat: u32) -> u128
-    ensures { result ≡ takes_of seat events.now }
-{
-    let mut count = 0;
-    for event in events {
-        if takes_for(*event, seat) {
-            count += 1;
+impl Journal {
+    /// No event, and no room. It takes no memory.
+    pub(crate) fn new(alloc: Global) -> Journal
+        ensures { result.events ≡ [] }
+    {
+        Journal {
+            marks: Vec::new(alloc),
+            places: Vec::new(alloc),
         }
     }
-    count
-}
 
-// Whether the event is a take of this seat.
-fn takes_for(event: Event, seat: u32) -> bool
-    ensures { result ≡ is_take_of seat event }
-{
-    match event {
-        Event::Take { seat: taker, .. } => taker == seat,
-        Event::Settle { .. } => false,
-        Event::GiveBack { .. } => false,
+    /// Writes down that a seat takes the transition at a place, and makes room for one more event of each seat.
+    pub(crate) fn take(&mut self, seat: u32, place: Place) -> Result<(), OutOfMemory>
+        requires { seat < most_seats }
+        ensures ok { OnOk result (self.new.events ≡ self.old.events ++ Take seat place ∷ []) }
+        ensures room { OnOk result (most_seats ≤ self.new.spare) }
+        ensures err { OnErr result (self.new.events ≡ self.old.events) }
+        ensures kept { OnErr result (self.old.spare ≤ self.new.spare) }
+    {
+        self.marks.reserve(65)?;
+        self.places.push(place)?;
+        self.marks.push_reserved(Mark::Take { seat: seat as u8 });
+        Ok(())
     }
-}
 
-// Whether the event is a take.
-fn takes_any(event: Event) -> bool
-    ensures { result ≡ is_take event }
-{
-    match event {
-        Event::Take { .. } => true,
-        Event::Settle { .. } => false,
-        Event::GiveBack { .. } => false,
+    /// Writes down that a seat settles its hand.
+    pub(crate) fn settle(&mut self, seat: u32)
+        requires seat { seat < most_seats }
+        requires room { 0 < self.old.spare }
+        ensures events { self.new.events ≡ self.old.events ++ Settle seat ∷ [] }
+        ensures spare { self.old.spare ≤ self.new.spare + 1 }
+    {
+        self.marks.push_reserved(Mark::Settle { seat: seat as u8 });
+    }
+
+    /// Writes down that a seat gives its hand back.
+    pub(crate) fn give_back(&mut self, seat: u32)
+        requires seat { seat < most_seats }
+        requires room { 0 < self.old.spare }
+        ensures events { self.new.events ≡ self.old.events ++ GiveBack seat ∷ [] }
+        ensures spare { self.old.spare ≤ self.new.spare + 1 }
+    {
+        self.marks
+            .push_reserved(Mark::GiveBack { seat: seat as u8 });
+    }
+
+    /// How many of the events are takes.
+    pub(crate) fn takes(&self) -> u128
+        ensures { result ≡ takes self.now.events }
+    {
+        self.places.len() as u128
+    }
+
+    /// How many of the events are takes of this seat.
+    pub(crate) fn takes_of(&self, seat: u32) -> u128
+        ensures { result ≡ takes_of seat self.now.events }
+    {
+        count_takes_of(&self.marks, seat)
     }
 }

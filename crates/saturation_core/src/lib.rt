@@ -6,8 +6,6 @@ mod book;
 mod change;
 mod copies;
 mod found;
-#[cfg(test)]
-mod gather;
 mod hand;
 mod hands;
 mod journal;
@@ -16,13 +14,12 @@ mod place_queue;
 mod plan;
 mod queue;
 mod same;
-#[cfg(test)]
-mod tests;
 mod work;
 
 pub use book::Book;
 pub use change::{node_now, queue_up, weight_after, weight_now};
 pub use copies::copy_input;
 pub use hand::{Done, Hand, Lowered, SeatSet, SettleFault, Taken, WeightList, WorkFault};
+pub use journal::Journal;
 pub use laws::bits_are_seats;
 pub use place_queue::PlaceQueue;

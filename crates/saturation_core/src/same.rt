@@ -78,7 +78,7 @@ pub(crate) fn lists<S: Semiring>(
         return false;
     }
     match &out[seat] {
-        Some(held) => same_jobs(semiring, held.jobs.as_slice(), jobs),
+        Some(held) => same_jobs(semiring, held.jobs.as_list().as_slice(), jobs),
         None => false,
     }
 }

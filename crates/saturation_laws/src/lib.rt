@@ -1,5 +1,5 @@
 //! The laws of a saturation, over lists of events: whatever the order in which workers take transitions, settle what these
-//! give or give them back, the same holds of what was found. No code; the book that keeps it is `saturation_core`.
+//! give or give them back, the same holds of what was found. The book that keeps it is `saturation_core`.
 #![tactic(auto)]
 
 mod direction;
@@ -11,7 +11,7 @@ mod opening;
 
 pub use direction::Direction;
 pub use event::Event;
-pub use holding::Holding;
+pub use holding::{Holding, SharedJobs};
 pub use job::{Input, Job, JobKind, JobList};
 pub use laws::{
     closed_is_applied, each_job_stands_once, every_order_keeps, others_leave_a_hand,

@@ -10,6 +10,3 @@ mod view;
 
 pub use lock::{CloseFault, Held, LockFault, Pass, SeatLock};
 pub use view::{Journaled, Stage, View};
-
-#[cfg(test)]
-mod tests;

@@ -5,8 +5,6 @@ mod combination;
 mod laws;
 mod reach;
 mod semiring;
-#[cfg(test)]
-mod tests;
 
 pub use combination::combine_all;
 pub use laws::{

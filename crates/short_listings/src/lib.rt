@@ -9,6 +9,3 @@ pub use laws::{
     shorter_stays_tight,
 };
 pub use shortening::shorter;
-
-#[cfg(test)]
-mod tests;

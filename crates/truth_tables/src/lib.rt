@@ -24,6 +24,3 @@ pub use postfix::Postfix;
 pub use reading::{ExprRead, read_expr};
 pub use tables::{Table2, Table3, value2, value3};
 pub use variables::is_variable;
-
-#[cfg(test)]
-mod tests;

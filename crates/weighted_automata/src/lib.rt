@@ -13,6 +13,3 @@ pub use laws::{
 };
 pub use place::{Label, Place};
 pub use transitions::{Entry, Transitions};
-
-#[cfg(test)]
-mod tests;

@@ -1,6 +1,8 @@
-//! Worked rows by workers in threads, as tests: hands that are out at once, gates, and want of memory.
+//! Worked rows by workers in threads, as tests: the lock, hands that are out at once, gates, and want of memory.
 #![tactic(auto)]
 
+#[cfg(test)]
+mod locks;
 #[cfg(test)]
 mod parts;
 #[cfg(test)]

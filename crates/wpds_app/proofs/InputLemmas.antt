@@ -13,7 +13,8 @@ use Rattle.document_forms.specs.Languages.{language_named, language_on}
 use Rattle.document_forms.specs.declared.language.Language.TheVariants.{System as SystemLanguage, Program}
 use Rattle.wpds_app.specs.declared.input.Input.{Input}
 use Rattle.wpds_app.specs.declared.input.Input.TheVariants.{System}
-use Rattle.wpds_app.specs.Running.{Means, IsProgram, IsRefused, IsUnread}
+use Rattle.program_forms.specs.Programs.{read_as}
+use Rattle.wpds_app.specs.Running.{Means, IsProgram, IsRefusalOf, IsRefused, IsUnread}
 
 -- what the law on documents says
 abbrev pub NeverBoth : Type 0
@@ -44,6 +45,10 @@ accepted_not_refused both input (System d) r means (inl program) = no_program in
 accepted_not_refused both input (System d) r means (inr system) = both input d r means system.1
 
 -- ---- why an input is not read
+
+pub unread_program : (input : List ℕ) (fault : ReadFaultValue) → IsProgram input → ((r : Refusal) → fault ≡ Refused r → IsRefusalOf (read_as input) r) → IsUnread input fault
+unread_program input (Refused r) program refused = inl (program, refused r refl)
+unread_program input Memory program refused = tt
 
 pub unread : (input : List ℕ) (fault : ReadFaultValue) → (IsProgram input → ⊥) → ((r : Refusal) → fault ≡ Refused r → FirstRefusal input r) → IsUnread input fault
 unread input (Refused r) system refused = inr (system, refused r refl)

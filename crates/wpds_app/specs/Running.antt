@@ -1,5 +1,5 @@
 -- What a run of the program reads and writes.
-use Rattle.std.specs.Prelude.{◌≡◌, ℕ, ◌+◌, ◌<◌, ◌≤◌, ◌⊎◌, ◌↔◌, IsTrue, List, [], ◌∷◌, ◌++◌, Option, None, Some, length}
+use Rattle.std.specs.Prelude.{◌≡◌, ℕ, ◌+◌, ◌<◌, ◌≤◌, ◌⊎◌, ◌↔◌, IsTrue, List, [], ◌∷◌, ◌++◌, Option, None, Some, Result, Ok, Err, length}
 use Rattle.std.specs.Io.KnownBytes.{Appends, Consumes, IsAtEnd}
 use Rattle.wpds_port.specs.Writing.{AppendsPart}
 use Rattle.wpds_port.specs.Refusals.{refusal, refusal_text}
@@ -8,8 +8,9 @@ use Rattle.wpds_port.specs.declared.refusal.Kind.TheVariants.{NotBuilt}
 use Rattle.document_forms.specs.Documents.{reads_as}
 use Rattle.document_forms.specs.FirstRefusal.{FirstRefusal, is_short}
 use Rattle.document_forms.specs.Languages.{language_of}
-use Rattle.document_forms.specs.declared.language.Language.TheVariants.{Program}
-use Rattle.document_reader.specs.FirstLines.{first_line}
+use Rattle.document_forms.specs.declared.language.Language.TheVariants.{Program as ProgramLanguage}
+use Rattle.boolean_programs.specs.declared.program.Program.{Program}
+use Rattle.program_forms.specs.Programs.{read_as}
 use Rattle.wpds_port.specs.declared.refusal.ReadFault.{ReadFault as ReadFaultValue}
 use Rattle.wpds_port.specs.declared.refusal.ReadFault.TheVariants.{Refused, Memory}
 use Rattle.wpds_base.specs.Limits.{most_bytes}
@@ -35,13 +36,18 @@ pub record IsInput (left_before left_now : Option (List ℕ)) (input : List ℕ)
 abbrev pub Means : List ℕ → Input → Type 0
 Means input (System d) = reads_as input d
 
--- the input is a program, which is not read yet
+-- the input is a program, by its header
 abbrev pub IsProgram : List ℕ → Type 0
-IsProgram input = IsTrue (is_short input) × (language_of input ≡ Some Program)
+IsProgram input = IsTrue (is_short input) × (language_of input ≡ Some ProgramLanguage)
 
--- what is refused as not built on its first line that counts, the header of a program
+-- The refusal of what is read as a program: its own, and of a program that is accepted that none is answered yet.
+abbrev pub IsRefusalOf : Result Program Refusal → Refusal → Type 0
+IsRefusalOf (Ok p) r = r ≡ refusal 0 NotBuilt
+IsRefusalOf (Err first) r = r ≡ first
+
+-- what is refused as a program
 abbrev pub IsRefusedProgram : List ℕ → Refusal → Type 0
-IsRefusedProgram input r = IsProgram input × (r ≡ refusal (first_line input) NotBuilt)
+IsRefusedProgram input r = IsProgram input × IsRefusalOf (read_as input) r
 
 -- what is refused as a system
 abbrev pub IsRefusedSystem : List ℕ → Refusal → Type 0

@@ -20,6 +20,3 @@ pub use laws::{
 };
 pub use program::run;
 pub use status::Status;
-
-#[cfg(test)]
-mod tests;

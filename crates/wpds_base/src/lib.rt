@@ -6,6 +6,3 @@ mod sequence;
 
 pub use out_of_memory::OutOfMemory;
 pub use sequence::Sequence;
-
-#[cfg(test)]
-mod tests;

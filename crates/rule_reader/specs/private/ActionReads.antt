@@ -14,8 +14,8 @@ use Rattle.rule_reader.specs.declared.weights.actions.Values.{Values}
 use Rattle.rule_reader.specs.declared.weights.actions.ActionRead.{ActionRead}
 use Rattle.rule_reader.specs.declared.weights.actions.ActionsRead.{ActionsRead}
 use Rattle.rule_reader.specs.NameReads.{AreNumbersRead, HasNames}
-use Rattle.rule_reader.specs.private.WeightReads.{is_sound}
-use Rattle.rule_reader.specs.private.TreeReads.{HasFaults, is_too_deep}
+use Rattle.rule_reader.specs.TreeReads.{is_sound}
+use Rattle.rule_reader.specs.TreeReads.{HasFaults, is_too_deep}
 
 -- the assignment with these words on its two sides
 abbrev pub sides_of : (front back : List Word) → Option ActionForm

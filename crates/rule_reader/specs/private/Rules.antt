@@ -14,7 +14,7 @@ use Rattle.document_forms.specs.Names.{has_unknown, number_in}
 use Rattle.document_forms.specs.Forms.{RuleForm}
 use Rattle.document_forms.specs.Above.{Above}
 use Rattle.document_forms.specs.Kinds.{rule_weight}
-use Rattle.rule_reader.specs.private.WeightReads.{IsRead}
+use Rattle.rule_reader.specs.WeightReads.{IsRead}
 use Rattle.rule_reader.specs.declared.weights.WeightRead.{WeightRead}
 use Rattle.rule_reader.specs.NameReads.{AreNumbersRead}
 use Rattle.rule_reader.specs.declared.name_reads.NamesRead.{NamesRead}

@@ -5,8 +5,8 @@ ghost use Rattle.truth_tables.specs.Stacks.{tree_of};
 ghost use Rattle.document_forms.specs.Words.{is_comma, parted, parted_outside, name_of, each, each_of_some};
 ghost use Rattle.document_forms.specs.Weights.{ValueForm, ActionForm, AssumeForm, ChooseForm, AssignForm, ActionsForm, value_of, target_of, assign_of, action_of, relation_of};
 ghost use Rattle.rule_reader.specs.NameReads.{AreNumbersRead};
-ghost use Rattle.rule_reader.specs.private.WeightReads.{IsRead, IsReadAs};
-ghost use Rattle.rule_reader.specs.private.TreeReads.{HasValue};
+ghost use Rattle.rule_reader.specs.WeightReads.{IsRead, IsReadAs};
+ghost use Rattle.rule_reader.specs.TreeReads.{HasValue};
 ghost use Rattle.rule_reader.specs.private.ActionReads.{sides_of, HasTargets, HasValues, HasAction, IsActionRead, HasActions};
 
 use super::exprs::{ValueRead, read_tree, read_value};

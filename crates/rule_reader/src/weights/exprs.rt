@@ -4,7 +4,7 @@ ghost use Rattle.std.specs.Prelude.{◌≡◌, ◌||◌, ℕ, [], ◌∷◌, IfO
 ghost use Rattle.truth_tables.specs.Formulas.{Formula, renamed};
 ghost use Rattle.document_forms.specs.Names.{has_unknown};
 ghost use Rattle.document_forms.specs.Weights.{ValueForm, value_of};
-ghost use Rattle.rule_reader.specs.private.TreeReads.{variables_among, numbers_of, number_at, IsTreeRead, HasValue, is_star};
+ghost use Rattle.rule_reader.specs.TreeReads.{variables_among, numbers_of, number_at, IsTreeRead, HasValue, is_star};
 
 use super::WeightFaults;
 use crate::names::NameTable;
@@ -19,20 +19,20 @@ const MOST_DEPTH: u32 = 64;
 
 /// An expression that was read.
 #[derive(Drop)]
-pub(crate) struct TreeRead {
-    pub(crate) expression: Expression,
-    pub(crate) faults: WeightFaults,
+pub struct TreeRead {
+    pub expression: Expression,
+    pub faults: WeightFaults,
 }
 
 /// A value that was read.
 #[derive(Drop)]
-pub(crate) struct ValueRead {
-    pub(crate) value: ValueText,
-    pub(crate) faults: WeightFaults,
+pub struct ValueRead {
+    pub value: ValueText,
+    pub faults: WeightFaults,
 }
 
 /// Reads a value: `*` or an expression.
-pub(crate) fn read_value<'t>(
+pub fn read_value<'t>(
     alloc: Global,
     items: &NameTable<'_>,
     words: &Words<'t>,
@@ -65,7 +65,7 @@ fn only_star(words: &Words<'_>) -> bool
 }
 
 /// Reads an expression.
-pub(crate) fn read_tree<'t>(
+pub fn read_tree<'t>(
     alloc: Global,
     items: &NameTable<'_>,
     words: &Words<'t>,

@@ -2,7 +2,7 @@
 
 ghost use Rattle.std.specs.Prelude.{◌≡◌, ◌<◌, ℕ, List, [], ◌∷◌, ◌++◌, length, IfOk, MatchOption, None, option_map};
 ghost use Rattle.document_forms.specs.Weights.{SignForm, SignsForm, genkill_of, signs};
-ghost use Rattle.rule_reader.specs.private.WeightReads.{IsRead, IsReadAs};
+ghost use Rattle.rule_reader.specs.WeightReads.{IsRead, IsReadAs};
 ghost use Rattle.rule_reader.specs.private.FactReads.{HasSigns, some_signs, sign_form};
 
 use super::{WeightFaults, WeightRead};

@@ -9,7 +9,7 @@ ghost use Rattle.document_forms.specs.Words.{begins_pair};
 ghost use Rattle.document_forms.specs.Weights.{PartForm, OfVariable, OfNumber, PairForm, Parts, VaryingParts, Undefined, PairsForm, parts_of, copy_of};
 ghost use Rattle.document_forms.specs.Kinds.{is_wide_part};
 ghost use Rattle.document_forms.specs.Documents.{constants_in, meet_of};
-ghost use Rattle.rule_reader.specs.private.WeightReads.{IsRead, IsReadAs};
+ghost use Rattle.rule_reader.specs.WeightReads.{IsRead, IsReadAs};
 ghost use Rattle.rule_reader.specs.private.PairTexts.{is_whole, begins_number, up_to_pair, from_pair, is_at_pair, some_pairs, parts_in, parts_behind};
 ghost use Rattle.rule_reader.specs.private.FormReads.{part_form, constant_more, HasParts, HasPairs, ArePartsOf};
 

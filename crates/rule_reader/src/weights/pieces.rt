@@ -1,14 +1,14 @@
 //! Words cut into pieces at a mark.
 
 ghost use Rattle.std.specs.Prelude.{◌≡◌, [], ◌∷◌, MatchOption, Some};
-ghost use Rattle.rule_reader.specs.private.Pieces.{pieces_of, pieces_left};
+ghost use Rattle.rule_reader.specs.Pieces.{pieces_of, pieces_left};
 
 use std::marker::Model;
 use wpds_port::{Lexeme, Mark, Words};
 
 /// Where words are cut.
 #[derive(Clone, Copy, Debug)]
-pub(crate) enum Cut {
+pub enum Cut {
     Commas,
     Semicolons,
     /// At commas outside brackets.
@@ -17,7 +17,7 @@ pub(crate) enum Cut {
 
 /// The pieces of words, one after another. There is one more than there are marks.
 #[derive(Drop)]
-pub(crate) struct Pieces<'t> {
+pub struct Pieces<'t> {
     cut: Cut,
     left: Option<Words<'t>>,
 }
@@ -28,13 +28,13 @@ impl<'t> Model for Pieces<'t> {
 
     ghost Value = { List (List Word) };
 
-    ghost use Rattle.rule_reader.specs.private.Pieces.{pieces_left};
+    ghost use Rattle.rule_reader.specs.Pieces.{pieces_left};
 
     ghost view = { λ p. pieces_left p.cut p.left };
 }
 
 impl<'t> Pieces<'t> {
-    pub(crate) fn new(cut: Cut, words: &Words<'t>) -> Pieces<'t>
+    pub fn new(cut: Cut, words: &Words<'t>) -> Pieces<'t>
         ensures { result ≡ pieces_of cut words.now }
     {
         Pieces {
@@ -44,7 +44,7 @@ impl<'t> Pieces<'t> {
     }
 
     /// The next piece, if there is one.
-    pub(crate) fn next(&mut self) -> Option<Words<'t>>
+    pub fn next(&mut self) -> Option<Words<'t>>
         ensures { MatchOption result (self.old ≡ []) (λ piece. self.old ≡ piece ∷ self.new) }
     {
         match self.left.take() {

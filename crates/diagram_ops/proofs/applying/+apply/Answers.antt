@@ -1,6 +1,6 @@
 use Rattle.std.proofs.Common.{◌≡◌, ℕ, List, ◌+◌, ◌<◌, true, false, sym, subst, ◌∙◌}
 use Rattle.diagram_store.specs.declared.branch.Branch.{Branch}
-use Rattle.diagram_ops.specs.private.Tables.{known}
+use Rattle.triple_tables.specs.Tables.{known}
 use Rattle.diagram_ops.specs.private.Applying.{cofactor, Applies}
 use Rattle.diagram_ops.proofs.KeepingLemmas.{keeps_same}
 use Rattle.diagram_ops.proofs.ApplyingLemmas.{applies_constant, applies_known, lowest_is, operands_fall, operand_within, applies_at, low_above, low_within, high_above, applies_step}

@@ -1,5 +1,5 @@
 use Rattle.std.proofs.Common.{ℕ, ◌+◌, ◌<◌, inl, inr, true, sym, subst, ◌∙◌}
-use Rattle.diagram_ops.specs.private.Tables.{known}
+use Rattle.triple_tables.specs.Tables.{known}
 use Rattle.diagram_ops.proofs.ComposingLemmas.{composes_never, composes_always, composes_known, lowest_place, branches_fall, first_within, second_within, low_within, low_above, high_above, composes_step}
 use Rattle.diagram_ops.proofs.composing.+compose.Goals.{then-x-eq0-via-then-x-eq0, then-x-eq0-via-else-x-eq0+then-y-eq0}
 use Rattle.diagram_ops.proofs.composing.+compose.Goals as goal

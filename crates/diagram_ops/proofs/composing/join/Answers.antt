@@ -1,4 +1,4 @@
-use Rattle.diagram_ops.specs.private.Tables.{known}
+use Rattle.triple_tables.specs.Tables.{known}
 use Rattle.diagram_ops.proofs.ApplyingLemmas.{are_applied_kept}
 use Rattle.diagram_ops.proofs.ComposingLemmas.{joined_stands}
 use Rattle.diagram_ops.proofs.composing.join.Goals as goal

@@ -1,23 +1,22 @@
-use Rattle.std.proofs.Common.{List, sym, ap, subst, ◌∙◌, nat_eq}
+use Rattle.std.proofs.Common.{List, sym, ap, subst, ◌∙◌}
 use Rattle.diagram_store.specs.declared.branch.Branch.{Branch}
 use Rattle.diagram_store.specs.Canonical.{IsCanonical}
 use Rattle.diagram_store.specs.Meaning.{value_at}
-use Rattle.std.specs.HashMap.{get}
-use Rattle.std.specs.Map.{lookup}
+use Rattle.diagram_ops.specs.private.Places.{placed}
 use Rattle.diagram_ops.proofs.CopyLemmas.{copy_empty, copy_canonical}
 use Rattle.diagram_ops.proofs.copying.copy_out.Goals as goal
 
 pub copy_from-requires-clause-copy : goal.copy_from-requires-clause-copy
-copy_from-requires-clause-copy c = copy_empty c.args.scratch.now (λ k. get nat_eq c.new-2.result k) c.new.result.items (λ k. ap (lookup (nat_eq k)) c.new-2.ensures.empty) c.new.ensures.items
+copy_from-requires-clause-copy c = copy_empty c.args.scratch.now (placed c.in_ok-new.field-0) c.new.result.items c.in_ok-new.ensures.none c.new.ensures.items
 
 pub invariant_of-result : goal.invariant_of-result
 invariant_of-result c = record {
   is_canonical =
       let P : List Branch → Type 0 = λ l. IsCanonical c.in_ok-place.place l in
       subst P (sym c.from_vec.ensures)
-      (copy_canonical c.args.scratch.now (λ k. get nat_eq c.new-2.result k) (λ k. get nat_eq c.copy_from.new.copy.places k) c.new.result.items c.copy_from.new.copy.nodes.items c.args.root c.in_ok-place.place
-      c.new.ensures.items c.in_ok-place.ensures);
+      (copy_canonical c.args.scratch.now (placed c.in_ok-new.field-0) (placed c.copy_from.new.copy.places) c.new.result.items c.copy_from.new.copy.nodes.items c.args.root c.in_ok-place.place
+      c.new.ensures.items c.in_ok-place.ensures.copies);
 }
 
 pub returns : goal.returns
-returns c = λ bits. ap (λ l. value_at l c.in_ok-place.place bits) c.from_vec.ensures ∙ c.in_ok-place.ensures.copied.means bits
+returns c = λ bits. ap (λ l. value_at l c.in_ok-place.place bits) c.from_vec.ensures ∙ c.in_ok-place.ensures.copies.copied.means bits

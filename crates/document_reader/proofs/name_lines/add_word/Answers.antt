@@ -1,7 +1,7 @@
 use Rattle.std.proofs.Common.{◌∷◌, [], sym, subst}
 use Rattle.std.specs.Prelude.{not, false}
 use Rattle.wpds_port.specs.Words.{word_of}
-use Rattle.document_reader.specs.private.NameLines.{names_in, HasAdded}
+use Rattle.document_reader.specs.NameLines.{names_in, HasAdded}
 use Rattle.document_reader.proofs.NameLineLemmas.{name_added, nothing_added, not_a_name}
 use Rattle.document_reader.proofs.name_lines.add_word.Goals as goal
 

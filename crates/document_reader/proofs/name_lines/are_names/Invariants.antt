@@ -1,6 +1,6 @@
 use Rattle.std.proofs.Common.{◌≡◌, length}
 use Rattle.std.specs.List.{list_all}
-use Rattle.document_reader.specs.private.NameLines.{is_free}
+use Rattle.document_reader.specs.NameLines.{is_free}
 use Rattle.document_reader.proofs.name_lines.are_names.Given as goal
 
 abbrev pub invariant-loop-lexeme : goal.invariant-loop-lexeme

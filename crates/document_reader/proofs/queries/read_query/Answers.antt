@@ -1,6 +1,6 @@
 use Rattle.std.proofs.Common.{◌≡◌, Some, sym, refl, ◌∙◌}
 use Rattle.document_forms.specs.Patterns.{PatternForm, pattern_of}
-use Rattle.document_reader.specs.private.QueryReading.{IsPatternRead}
+use Rattle.document_reader.specs.QueryReading.{IsPatternRead}
 use Rattle.document_reader.proofs.PatternLemmas.{query_found, no_query_to, query_read}
 use Rattle.document_reader.proofs.queries.read_query.Goals as goal
 

@@ -4,7 +4,7 @@ use Rattle.document_forms.specs.Lines.{Line}
 use Rattle.document_forms.specs.Names.{once}
 use Rattle.document_forms.specs.Forms.{Symbols}
 use Rattle.document_forms.specs.FirstRefusal.{counted}
-use Rattle.document_reader.specs.private.LinesLeft.{counting}
+use Rattle.document_reader.specs.LinesLeft.{counting}
 use Rattle.document_reader.specs.private.Readings.{names_in, declared_on}
 use Rattle.document_reader.proofs.SymbolLemmas.{once_twice, symbols_more}
 use Rattle.document_reader.proofs.symbols.all_symbols.Goals as goal

@@ -1,5 +1,5 @@
 use Rattle.std.proofs.Common.{◌≡◌, ◌≤◌, ◌+◌, ◌^◌, length}
-use Rattle.document_reader.specs.private.LinesLeft.{left}
+use Rattle.document_reader.specs.LinesLeft.{left}
 use Rattle.document_reader.proofs.lines.Lines.next.Given as goal
 
 abbrev pub invariant-loop-self : goal.invariant-loop-self

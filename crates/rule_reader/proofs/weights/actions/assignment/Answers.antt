@@ -5,8 +5,9 @@ use Rattle.document_forms.specs.Names.{is_among, has_unknown}
 use Rattle.document_forms.specs.Weights.{AssignForm}
 use Rattle.document_forms.specs.Kinds.{value_names, is_uneven}
 use Rattle.rule_reader.specs.declared.weights.WeightFaults.{WeightFaults}
-use Rattle.rule_reader.specs.private.WeightReads.{is_sound, either}
-use Rattle.rule_reader.specs.private.TreeReads.{HasFaults}
+use Rattle.rule_reader.specs.TreeReads.{either}
+use Rattle.rule_reader.specs.TreeReads.{is_sound}
+use Rattle.rule_reader.specs.TreeReads.{HasFaults}
 use Rattle.rule_reader.specs.private.ActionReads.{HasValues, assigned}
 use Rattle.std.proofs.lemmas.List.Folds.{list_any-append}
 use Rattle.rule_reader.proofs.TreeLemmas.{sound_parts}

@@ -2,7 +2,7 @@ use Rattle.std.proofs.Common.{ap, subst}
 use Rattle.std.specs.Prelude.{option_map}
 use Rattle.document_forms.specs.declared.weight.Action.TheVariants.{Assume}
 use Rattle.document_forms.specs.Weights.{AssumeForm}
-use Rattle.rule_reader.specs.private.TreeReads.{IsTreeRead}
+use Rattle.rule_reader.specs.TreeReads.{IsTreeRead}
 use Rattle.rule_reader.proofs.TreeLemmas.{one_tree_faults}
 use Rattle.rule_reader.proofs.weights.actions.read_assume.Goals as goal
 

@@ -1,6 +1,6 @@
 use Rattle.std.proofs.Common.{◌≡◌, length}
 use Rattle.document_forms.specs.Names.{has_unknown}
-use Rattle.rule_reader.specs.private.TreeReads.{variables_among}
+use Rattle.rule_reader.specs.TreeReads.{variables_among}
 use Rattle.rule_reader.proofs.weights.exprs.has_unknown_variable.Given as goal
 
 abbrev pub invariant-loop-lexeme : goal.invariant-loop-lexeme

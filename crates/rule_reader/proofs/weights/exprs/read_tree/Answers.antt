@@ -6,7 +6,7 @@ use Rattle.truth_tables.specs.Grammar.{has_large_table}
 use Rattle.truth_tables.specs.Stacks.{tree_of}
 use Rattle.truth_tables.specs.Texts.{IsAnswer}
 use Rattle.document_forms.specs.Names.{has_unknown}
-use Rattle.rule_reader.specs.private.TreeReads.{variables_among}
+use Rattle.rule_reader.specs.TreeReads.{variables_among}
 use Rattle.rule_reader.proofs.TreeLemmas.{numbers_in_place, no_tree, sound_parts, shallow}
 use Rattle.rule_reader.proofs.weights.exprs.read_tree.Goals as goal
 

@@ -2,7 +2,7 @@ use Rattle.std.proofs.Common.{sym, ap, ◌∙◌, subst}
 use Rattle.std.specs.Prelude.{option_map}
 use Rattle.document_forms.specs.declared.weight.ValueText.TheVariants.{Is}
 use Rattle.document_forms.specs.Weights.{TreeValue}
-use Rattle.rule_reader.specs.private.TreeReads.{IsTreeRead}
+use Rattle.rule_reader.specs.TreeReads.{IsTreeRead}
 use Rattle.rule_reader.proofs.TreeLemmas.{no_star, one_tree_faults}
 use Rattle.rule_reader.proofs.weights.exprs.read_value.Goals as goal
 

@@ -1,5 +1,5 @@
 use Rattle.std.proofs.Common.{◌≡◌, ◌++◌, length}
-use Rattle.rule_reader.specs.private.TreeReads.{variables_among, numbers_of}
+use Rattle.rule_reader.specs.TreeReads.{variables_among, numbers_of}
 use Rattle.rule_reader.proofs.weights.exprs.variable_numbers.Given as goal
 
 abbrev pub invariant-loop-lexeme : goal.invariant-loop-lexeme

@@ -1,6 +1,6 @@
 use Rattle.std.proofs.Common.{◌≡◌, ◌∷◌, ap₂, sym, ◌∙◌, subst}
 use Rattle.rule_reader.specs.declared.weights.pieces.Cut.TheVariants.{Commas, Semicolons, OutsideCommas}
-use Rattle.rule_reader.specs.private.Pieces.{pieces_of, pieces_left}
+use Rattle.rule_reader.specs.Pieces.{pieces_of, pieces_left}
 use Rattle.rule_reader.proofs.PieceLemmas.{at_comma, at_semicolon, at_outside_comma}
 use Rattle.rule_reader.proofs.weights.pieces.first_piece.Goals as goal
 

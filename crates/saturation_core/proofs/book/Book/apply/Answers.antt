@@ -9,7 +9,7 @@ use Rattle.saturation_core.specs.private.Steps.{with_hands, IsKept}
 use Rattle.saturation_core.specs.BookView.{book_view}
 use Rattle.saturation_laws.proofs.CallerLemmas.{event_keeps}
 use Rattle.saturation_core.proofs.HandLemmas.{hands_out-seats}
-use Rattle.saturation_core.proofs.SettleBook.{on_refusal, one_out, put_on, planned_is, ready, settled, settled_nodes, book_keeps, worths_fit, worths_long, nodes_next}
+use Rattle.saturation_core.proofs.SettleBook.{on_refusal, one_out, seat_out, put_on, planned_is, ready, settled, settled_nodes, book_keeps, worths_fit, worths_long, nodes_next}
 use Rattle.saturation_core.proofs.book.Book.apply.Goals as goal
 
 pub plan_jobs-requires-clause-worths : goal.plan_jobs-requires-clause-worths
@@ -61,8 +61,15 @@ lower_all-requires-clause-nodes g c =
     (book_view c.self.inside) c.self.invariant.0 c.seat-seat.result c.as_slice-jobs.result.now r.out c.as_slice-worths.result.now r.worths
     (length c.self.inside.found.graph.nodes) c.in_ok-plan.plan refl planned)
 
-pub push_reserved-requires : goal.push_reserved-requires
-push_reserved-requires g c =
+pub settle-requires-clause-seat : goal.settle-requires-clause-seat
+settle-requires-clause-seat g c =
+    let r = ready g.S.Semiring.operations g.D.Direction.way g.met.D.Direction.same_candidate (book_view c.self.inside) c.args.self.now c.self.view_is c.args.done.now c.requires c.candidates.ensures.worked
+    c.seat-seat.result c.as_slice-jobs.result.now c.as_slice-worths.result.now c.seat-seat.ensures (c.as_slice-jobs.ensures ∙ c.jobs.ensures.value) (c.as_slice-worths.ensures ∙ c.candidates.ensures.value) in
+    let seats : length c.self.inside.out.items ≡ 64 = c.self.invariant.0.lock.shape.seats in
+    omega (arith, seats, seat_out c.self.inside.out.items c.seat-seat.result c.as_slice-jobs.result.now r.out)
+
+pub settle-requires-clause-room : goal.settle-requires-clause-room
+settle-requires-clause-room g c =
     let r = ready g.S.Semiring.operations g.D.Direction.way g.met.D.Direction.same_candidate (book_view c.self.inside) c.args.self.now c.self.view_is c.args.done.now c.requires c.candidates.ensures.worked
     c.seat-seat.result c.as_slice-jobs.result.now c.as_slice-worths.result.now c.seat-seat.ensures (c.as_slice-jobs.ensures ∙ c.jobs.ensures.value) (c.as_slice-worths.ensures ∙ c.candidates.ensures.value) in
     omega (arith, one_out c.self.inside.out.items c.seat-seat.result c.as_slice-jobs.result.now r.out, c.self.invariant.1.journal)
@@ -70,7 +77,7 @@ push_reserved-requires g c =
 made : (g : _) (c : goal.After-put g) → Makes g.S.Semiring.operations g.D.Direction.way (book_view c.self.inside) (Settle c.seat-seat.result)
     (record (book_view c.self.inside) {
       state = with_hands c.lower_all.new.self c.put.new.out.items;
-      journal = c.push_reserved.new.self.items;
+      journal = c.settle.new.self.events;
     })
 made g c =
     let r = ready g.S.Semiring.operations g.D.Direction.way g.met.D.Direction.same_candidate (book_view c.self.inside) c.args.self.now c.self.view_is c.args.done.now c.requires c.candidates.ensures.worked
@@ -80,9 +87,9 @@ made g c =
     let b = book_view c.self.inside in
     settled g.S.Semiring.operations g.D.Direction.way b c.seat-seat.result c.as_slice-jobs.result.now c.as_slice-worths.result.now (length c.self.inside.found.graph.nodes) c.in_ok-plan.plan
     r.out r.worths refl planned
-    c.lower_all.new.self c.put.new.out.items c.push_reserved.new.self.items
+    c.lower_all.new.self c.put.new.out.items c.settle.new.self.events
     (put_on c.in_ok-plan.plan c.self.inside.found c.make_room.new.self c.lower_all.new.self c.make_room.ensures.state c.lower_all.ensures.state c.self.inside.out.items)
-    c.put.ensures c.push_reserved.ensures.items
+    c.put.ensures c.settle.ensures.events
 
 pub invariant_of-self-2 : goal.invariant_of-self-2
 invariant_of-self-2 g c =
@@ -95,7 +102,7 @@ invariant_of-self-2 g c =
       event_keeps g.S.Semiring.operations g.S.Semiring.laws g.D.Direction.way g.met.D.Direction.laws
           (book_view c.self.inside) c.self.invariant.0 (Settle c.seat-seat.result) _ (made g c),
       record {
-        journal = omega (arith, one, now, c.self.invariant.1.journal, c.push_reserved.ensures.len, c.push_reserved.ensures.capacity);
+        journal = omega (arith, one, now, c.self.invariant.1.journal, c.settle.ensures.spare);
         queue = omega (arith, few, seats, c.in_ok-make_room.ensures.queue, c.lower_all.ensures.queue);
       },
       c.lower_all.ensures.side ∙ c.make_room.ensures.side ∙ c.self.invariant.2,
@@ -105,7 +112,7 @@ pub returns-clause-settled : goal.returns-clause-settled
 returns-clause-settled g c =
     let new : BookValue g.row.S.Denot g.row.S-W.Denot g.row.S-Ret.Denot g.row.D.Denot = record (book_view c.self.inside) {
       state = with_hands c.lower_all.new.self c.put.new.out.items;
-      journal = c.push_reserved.new.self.items;
+      journal = c.settle.new.self.events;
     } in
     subst (λ k. Makes g.S.Semiring.operations g.D.Direction.way c.args.self.now (Settle k) new) c.seat-seat.ensures
     (subst (λ b. Makes g.S.Semiring.operations g.D.Direction.way b (Settle c.seat-seat.result) new) c.self.view_is (made g c))

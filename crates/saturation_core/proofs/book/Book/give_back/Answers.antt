@@ -1,4 +1,4 @@
-use Rattle.std.proofs.Common.{sym, ap, ◌∙◌, subst, arith}
+use Rattle.std.proofs.Common.{◌≡◌, length, sym, ap, ◌∙◌, subst, arith}
 use Rattle.std.specs.Prelude.{option_map}
 use Rattle.saturation_laws.specs.declared.event.Event.TheVariants.{GiveBack}
 use Rattle.saturation_laws.specs.States.{hand_at}
@@ -6,23 +6,28 @@ use Rattle.saturation_laws.specs.Books.{Makes}
 use Rattle.saturation_core.specs.Seats.{hands_out}
 use Rattle.saturation_core.specs.BookView.{book_view}
 use Rattle.saturation_laws.proofs.CallerLemmas.{event_keeps, after, given}
-use Rattle.saturation_core.proofs.HandLemmas.{hands_out-read}
+use Rattle.saturation_core.proofs.HandLemmas.{hands_out-read, seat_read}
 use Rattle.saturation_core.proofs.book.Book.give_back.Goals as goal
 
 pub enqueue-requires : goal.enqueue-requires
 enqueue-requires g c = omega (arith, hands_out-read c.self.inside.out.items c.args.seat c.in-Some.place (ap (λ hands. option_map (λ h. h.place) (hand_at c.args.seat hands)) (sym c.deref.ensures.value) ∙ sym c.place_out.ensures ∙ c.in-Some.is), c.self.invariant.1.queue)
 
-pub push_reserved-requires : goal.push_reserved-requires
-push_reserved-requires g c = omega (arith, hands_out-read c.self.inside.out.items c.args.seat c.in-Some.place (ap (λ hands. option_map (λ h. h.place) (hand_at c.args.seat hands)) (sym c.deref.ensures.value) ∙ sym c.place_out.ensures ∙ c.in-Some.is), c.self.invariant.1.journal)
+pub give_back-requires-clause-seat : goal.give_back-requires-clause-seat
+give_back-requires-clause-seat g c =
+    let seats : length c.self.inside.out.items ≡ 64 = c.self.invariant.0.lock.shape.seats in
+    omega (arith, seats, seat_read c.self.inside.out.items c.args.seat c.in-Some.place (ap (λ hands. option_map (λ h. h.place) (hand_at c.args.seat hands)) (sym c.deref.ensures.value) ∙ sym c.place_out.ensures ∙ c.in-Some.is))
+
+pub give_back-requires-clause-room : goal.give_back-requires-clause-room
+give_back-requires-clause-room g c = omega (arith, hands_out-read c.self.inside.out.items c.args.seat c.in-Some.place (ap (λ hands. option_map (λ h. h.place) (hand_at c.args.seat hands)) (sym c.deref.ensures.value) ∙ sym c.place_out.ensures ∙ c.in-Some.is), c.self.invariant.1.journal)
 
 made : (g : _) (c : goal.After-put g) → Makes g.S.Semiring.operations g.D.Direction.way (book_view c.self.inside) (GiveBack c.args.seat)
-    (after (book_view c.self.inside) c.enqueue.new.self.items c.put.new.out.items c.push_reserved.new.self.items)
+    (after (book_view c.self.inside) c.enqueue.new.self.items c.put.new.out.items c.give_back.new.self.events)
 made g c = given g.S.Semiring.operations g.D.Direction.way (book_view c.self.inside) c.args.seat c.in-Some.place
-    c.enqueue.new.self.items c.put.new.out.items c.push_reserved.new.self.items
+    c.enqueue.new.self.items c.put.new.out.items c.give_back.new.self.events
     (ap (λ hands. option_map (λ h. h.place) (hand_at c.args.seat hands)) (sym c.deref.ensures.value) ∙ sym c.place_out.ensures ∙ c.in-Some.is)
     c.enqueue.ensures.items
     c.put.ensures
-    c.push_reserved.ensures.items
+    c.give_back.ensures.events
 
 pub invariant_of-self : goal.invariant_of-self
 invariant_of-self g c = (
@@ -31,7 +36,7 @@ invariant_of-self g c = (
   let one = hands_out-read c.self.inside.out.items c.args.seat c.in-Some.place (ap (λ hands. option_map (λ h. h.place) (hand_at c.args.seat hands)) (sym c.deref.ensures.value) ∙ sym c.place_out.ensures ∙ c.in-Some.is) in
       let now = ap hands_out c.put.ensures in
       record {
-        journal = omega (arith, one, now, c.self.invariant.1.journal, c.push_reserved.ensures.len, c.push_reserved.ensures.capacity);
+        journal = omega (arith, one, now, c.self.invariant.1.journal, c.give_back.ensures.spare);
         queue = omega (arith, one, now, c.self.invariant.1.queue, c.enqueue.ensures.spare);
       },
   c.self.invariant.2,
@@ -40,4 +45,4 @@ invariant_of-self g c = (
 pub returns-in-Some : goal.returns-in-Some
 returns-in-Some g c =
     subst (λ b. Makes g.S.Semiring.operations g.D.Direction.way b (GiveBack c.args.seat)
-    (after (book_view c.self.inside) c.enqueue.new.self.items c.put.new.out.items c.push_reserved.new.self.items)) c.self.view_is (made g c)
+    (after (book_view c.self.inside) c.enqueue.new.self.items c.put.new.out.items c.give_back.new.self.events)) c.self.view_is (made g c)

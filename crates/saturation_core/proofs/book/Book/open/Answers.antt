@@ -18,14 +18,14 @@ opened g c =
 pub invariant_of-result : goal.invariant_of-result
 invariant_of-result g c = (
   begun g.S.Semiring.operations g.S.Semiring.laws g.D.Direction.way g.met.D.Direction.laws
-      _ c.semiring.ensures.valid c.requires (opened g c) c.new-2.ensures.items,
+      _ c.semiring.ensures.valid c.requires (opened g c) c.new-2.ensures,
   let none = no_hand_out c.in_ok-no_hands.field-0.items c.in_ok-no_hands.ensures in
       record {
-        journal = omega (arith, none, c.new-2.ensures.len);
+        journal = omega (arith, none);
         queue = omega (arith, none);
       },
   c.add_pops_of.ensures.side ∙ c.add_edges.ensures.side ∙ c.in_ok-found.ensures.side ∙ sym (c.side-side.ensures c.args.system.now),
 )
 
 pub returns : goal.returns
-returns g c = begin_is c.args.system.now c.args.direction c.args.opening _ _ c.new-2.result.items (opened g c) c.new-2.ensures.items
+returns g c = begin_is c.args.system.now c.args.direction c.args.opening _ _ c.new-2.result.events (opened g c) c.new-2.ensures

@@ -1,32 +1,30 @@
 use Rattle.std.proofs.Common.{◌≡◌, ◌<◌, ◌≤◌, ◌+◌, sym, ap, ◌∙◌, subst, length, List, ◌++◌, ◌∷◌, [], arith}
-use Rattle.std.specs.Prelude.{All}
 use Rattle.weighted_automata.specs.Entries.{entry_at}
 use Rattle.saturation_laws.specs.declared.event.Event.TheVariants.{Take}
 use Rattle.saturation_laws.specs.declared.job.Job.{Job}
 use Rattle.saturation_core.specs.declared.hand.Hand.{Hand}
-use Rattle.saturation_laws.specs.Jobs.{InputsFit}
 use Rattle.saturation_laws.specs.States.{hand_at, jobs_at}
 use Rattle.saturation_laws.specs.Books.{BookValue, Makes, CanWork}
 use Rattle.saturation_core.specs.BookView.{book_view}
-use Rattle.saturation_laws.proofs.CallerLemmas.{book_fits, book_lists, event_keeps, taken_works, after, taken}
+use Rattle.saturation_laws.proofs.CallerLemmas.{book_fits, event_keeps, taken_works, after, taken}
 use Rattle.saturation_core.proofs.HandLemmas.{hands_out-seats, hands_out-set, popped}
 use Rattle.saturation_core.proofs.book.Book.take.Goals as goal
 
 made : (g : _) (c : goal.After-put g) → Makes g.S.Semiring.operations g.D.Direction.way (book_view c.self.inside) (Take c.args.seat c.in-Some.place)
-    (after (book_view c.self.inside) c.pop.new.self.items c.put.new.out.items c.push_reserved.new.self.items)
+    (after (book_view c.self.inside) c.pop.new.self.items c.put.new.out.items c.take.new.self.events)
 made g c =
     let seats : length c.self.inside.out.items ≡ 64 = c.self.invariant.0.lock.shape.seats in
     let seat : c.args.seat < 64 = c.requires.seat in
     let within : c.args.seat < length c.self.inside.out.items = omega arith in
     taken g.S.Semiring.operations g.D.Direction.way (book_view c.self.inside) c.args.seat c.in-Some.place
-    c.pop.new.self.items c.put.new.out.items c.push_reserved.new.self.items
+    c.pop.new.self.items c.put.new.out.items c.take.new.self.events
     within
     (ap (λ b. hand_at c.args.seat b.state.hands) c.self.view_is ∙ c.requires.free)
     (popped c.pop.result c.self.inside.found.waiting.items c.pop.new.self.items c.in-Some.place _ c.in-Some.ensures c.pop.ensures.place c.pop.ensures.spare).0
     c.in_ok-kept-in-Some.kept
-    (c.in_ok-kept-in-Some.ensures ∙ c.as_slice.ensures ∙ c.in_ok-jobs-in-Some.ensures)
+    (c.in_ok-kept-in-Some.ensures ∙ c.in_ok-jobs-in-Some.ensures ∙ c.in_ok-listed-in-Some.ensures)
     c.put.ensures
-    (c.push_reserved.ensures.items ∙ ap (λ es. es ++ Take c.args.seat c.in-Some.place ∷ []) c.in_ok-reserve-in-Some.ensures.items)
+    c.in_ok-take-in-Some.ensures.ok
 
 pub invariant_of-self-in-Some : goal.invariant_of-self-in-Some
 invariant_of-self-in-Some g c =
@@ -39,21 +37,21 @@ invariant_of-self-in-Some g c =
           g.met.D.Direction.laws
           (book_view c.self.inside) c.self.invariant.0 (Take c.args.seat c.in-Some.place) _ (made g c),
       record {
-        journal = omega (arith, more, few, seats, c.in_ok-reserve-in-Some.ensures.ok, c.push_reserved.ensures.len, c.push_reserved.ensures.capacity);
+        journal = omega (arith, few, seats, c.in_ok-take-in-Some.ensures.room);
         queue = omega (arith, more, one.1, c.self.invariant.1.queue);
       },
       c.self.invariant.2,
     )
 
-pub returns-in_ok-reserve-in-Some-clause-taken : goal.returns-in_ok-reserve-in-Some-clause-taken
-returns-in_ok-reserve-in-Some-clause-taken g c =
-    let new = after (book_view c.self.inside) c.pop.new.self.items c.put.new.out.items c.push_reserved.new.self.items in
+pub returns-in_ok-take-in-Some-clause-taken : goal.returns-in_ok-take-in-Some-clause-taken
+returns-in_ok-take-in-Some-clause-taken g c =
+    let new = after (book_view c.self.inside) c.pop.new.self.items c.put.new.out.items c.take.new.self.events in
     let hand : List (Job g.row.S.Denot g.row.S-W.Denot g.row.S-Ret.Denot) → Hand g.row.S.Denot g.row.S-W.Denot g.row.S-Ret.Denot = λ js. record { seat = c.args.seat; jobs = js } in
     let jobs : BookValue g.row.S.Denot g.row.S-W.Denot g.row.S-Ret.Denot g.row.D.Denot → List (Job g.row.S.Denot g.row.S-W.Denot g.row.S-Ret.Denot) =
     λ b. jobs_at (g.S.Semiring.operations b.system.semiring) (g.D.Direction.way.tables b.direction b.system) (entry_at c.in-Some.place b.state.transitions) b.state.transitions in (
       c.in-Some.place,
       subst (λ b. Makes g.S.Semiring.operations g.D.Direction.way b (Take c.args.seat c.in-Some.place) new) c.self.view_is (made g c),
-      ap hand (c.in_ok-jobs-in-Some.ensures ∙ ap jobs c.self.view_is),
+      ap hand (c.in_ok-jobs-in-Some.ensures ∙ c.in_ok-listed-in-Some.ensures ∙ ap jobs c.self.view_is),
     )
 
 pub list_jobs-requires-clause-weights : goal.list_jobs-requires-clause-weights
@@ -61,20 +59,12 @@ list_jobs-requires-clause-weights g c =
     book_fits g.S.Semiring.operations g.S.Semiring.laws g.D.Direction.way g.met.D.Direction.laws
     (book_view c.self.inside) c.self.invariant.0
 
-pub copy_jobs-requires : goal.copy_jobs-requires
-copy_jobs-requires g c =
-    let P : List (Job g.row.S.Denot g.row.S-W.Denot g.row.S-Ret.Denot) → g.row.S.Denot → Type 0 = λ js x. All (InputsFit (g.S.Semiring.operations x)) js in
-    let b = book_view c.self.inside in
-    let fit = book_lists g.S.Semiring.operations g.S.Semiring.laws g.D.Direction.way g.met.D.Direction.laws
-    b c.self.invariant.0 c.in-Some.place in
-    subst (λ x. P c.as_slice.result.now x) (sym c.semiring.ensures.value) (subst (λ js. P js b.system.semiring) (sym (c.as_slice.ensures ∙ c.in_ok-jobs-in-Some.ensures)) fit)
-
-pub returns-in_ok-reserve-in-Some-clause-works : goal.returns-in_ok-reserve-in-Some-clause-works
-returns-in_ok-reserve-in-Some-clause-works g c =
+pub returns-in_ok-take-in-Some-clause-works : goal.returns-in_ok-take-in-Some-clause-works
+returns-in_ok-take-in-Some-clause-works g c =
     let seats : length c.self.inside.out.items ≡ 64 = c.self.invariant.0.lock.shape.seats in
     let seat : c.args.seat < 64 = c.requires.seat in
     subst (λ b. CanWork g.S.Semiring.operations g.D.Direction.way b c.in_ok-jobs-in-Some.jobs) c.self.view_is
     (taken_works g.S.Semiring.operations g.S.Semiring.laws g.D.Direction.way g.met.D.Direction.laws
-    (book_view c.self.inside) c.self.invariant.0 c.args.seat c.in-Some.place c.pop.new.self.items c.put.new.out.items c.push_reserved.new.self.items
+    (book_view c.self.inside) c.self.invariant.0 c.args.seat c.in-Some.place c.pop.new.self.items c.put.new.out.items c.take.new.self.events
     (made g c) (omega (arith, seats, seat)) c.in_ok-kept-in-Some.kept c.in_ok-jobs-in-Some.jobs c.put.ensures
-    (sym (c.in_ok-kept-in-Some.ensures ∙ c.as_slice.ensures)))
+    (sym c.in_ok-kept-in-Some.ensures))

@@ -1,8 +1,8 @@
 use Rattle.std.proofs.Common.{◌≡◌, ◌≤◌, ◌<◌, ℕ, true, List, ◌∷◌, [], ◌++◌, length, get_or, sym, ap, ap₂, ◌∙◌, subst, arith, length-append}
 use Rattle.std.proofs.lemmas.Bool.{le-ltb, lt-ltb}
 use Rattle.document_forms.specs.declared.weight.Assignment.{Assignment}
-use Rattle.rule_reader.specs.private.WeightReads.{is_sound}
-use Rattle.rule_reader.specs.private.TreeReads.{HasFaults}
+use Rattle.rule_reader.specs.TreeReads.{is_sound}
+use Rattle.rule_reader.specs.TreeReads.{HasFaults}
 use Rattle.rule_reader.proofs.ActionLemmas.{values_faults, sound_both, assigned_more, assigned_full, count_below, count_full}
 use Rattle.rule_reader.proofs.weights.actions.Values.add.Goals as goal
 

@@ -1,6 +1,6 @@
 use Rattle.std.proofs.Common.{false, length, sym, ap, ◌∙◌, subst, refl, arith}
 use Rattle.std.proofs.lemmas.Bool.{le-ltb}
-use Rattle.rule_reader.specs.private.TreeReads.{HasFaults}
+use Rattle.rule_reader.specs.TreeReads.{HasFaults}
 use Rattle.rule_reader.proofs.ActionLemmas.{no_zip}
 use Rattle.rule_reader.proofs.weights.actions.Values.new.Goals as goal
 

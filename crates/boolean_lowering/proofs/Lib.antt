@@ -1,0 +1,12 @@
+pub mod ListLemmas
+pub mod SpotLemmas
+pub mod PointLemmas
+pub mod LayoutLemmas
+pub mod NameLemmas
+pub mod TargetLemmas
+pub mod PlanLemmas
+pub mod MakingLemmas
+pub mod AddedLemmas
+pub mod RuleLemmas
+pub mod LineLemmas
+pub mod TableLemmas

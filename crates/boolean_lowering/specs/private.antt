@@ -1,0 +1,5 @@
+pub mod Layouts
+pub mod Spots
+pub mod Tables
+pub mod Ways
+pub mod Made

@@ -1,0 +1,11 @@
+pub mod NumberLemmas
+pub mod PlaceLemmas
+pub mod SpotLemmas
+pub mod ValueLemmas
+pub mod StateLemmas
+pub mod StepLemmas
+pub mod FitLemmas
+pub mod HeldStateLemmas
+pub mod SameLemmas
+pub mod MoveLemmas
+pub mod TurnLemmas

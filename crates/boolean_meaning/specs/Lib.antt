@@ -1,0 +1,4 @@
+pub mod Bits
+pub mod HeldStates
+pub mod Steps
+pub mod private

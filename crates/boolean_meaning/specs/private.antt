@@ -1,0 +1,6 @@
+pub mod Spots
+pub mod GivenValues
+pub mod Outcomes
+pub mod HeldTests
+pub mod HeldMoves
+pub mod Depths

@@ -1,0 +1,9 @@
+mod BodyLemmas
+mod DeclarationLemmas
+mod KindLemmas
+mod MoreLemmas
+mod NameLemmas
+mod ProcLemmas
+mod ReadLemmas
+mod TextLemmas
+mod WayLemmas

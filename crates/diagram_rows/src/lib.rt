@@ -1,0 +1,11 @@
+//! Worked rows of decision diagrams, as tests.
+#![tactic(auto)]
+
+#[cfg(test)]
+mod diagrams;
+#[cfg(test)]
+mod operations;
+#[cfg(test)]
+mod triples;
+#[cfg(test)]
+mod truth;

@@ -1,0 +1,5 @@
+//! Worked rows of lowered programs, as tests.
+#![tactic(auto)]
+
+#[cfg(test)]
+mod lowered;

@@ -1,0 +1,15 @@
+pub mod ListLemmas
+pub mod KindLemmas
+pub mod WalkLemmas
+pub mod AcceptedLemmas
+pub mod BlockLemmas
+pub mod BodyLemmas
+pub mod CountLemmas
+pub mod LabelLemmas
+pub mod SoundLemmas
+pub mod NumberLemmas
+pub mod StatementLemmas
+pub mod AskedLemmas
+pub mod CodeLemmas
+pub mod LawLemmas
+pub mod Examples

@@ -1,0 +1,5 @@
+pub mod CallerLemmas
+mod BlockLemmas
+mod JudgingLemmas
+mod TableLemmas
+mod WalkLemmas

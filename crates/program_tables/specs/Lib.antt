@@ -1,0 +1,4 @@
+pub mod Blocks
+pub mod Judging
+pub mod Tables
+pub mod private

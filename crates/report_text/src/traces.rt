@@ -1,0 +1,64 @@
+ghost use Rattle.std.specs.Prelude.{◌≡◌, ◌++◌, IfOk, OnOk};
+ghost use Rattle.std.specs.String.{string_bytes};
+ghost use Rattle.report_text.specs.Listings as listings;
+ghost use Rattle.report_text.specs.Traces as traces;
+
+use std::alloc::Global;
+use trace_printer::{Expanded, Run, expand};
+use witness_graph::Listing;
+use wpds_base::OutOfMemory;
+
+// Adds a rule by its number in the text.
+fn add_rule(alloc: Global, text: &mut String, rule: u32) -> Result<(), OutOfMemory>
+    ensures { let before = string_bytes text.old in
+        OnOk result (string_bytes text.new ≡ before ++ listings.rule_text rule) }
+{
+    let counted = rule as u64 + 1;
+    text.push_str(format!(in alloc; "rule {counted}")?.as_str())?;
+    Ok(())
+}
+
+// Adds the rules of a run.
+fn add_run(alloc: Global, text: &mut String, run: &[u32]) -> Result<(), OutOfMemory>
+    ensures { let before = string_bytes text.old in
+        OnOk result (string_bytes text.new ≡ before ++ traces.run_text run.now) }
+{
+    let Some((first, rest)) = run.split_first() else {
+        text.push_str("empty")?;
+        return Ok(());
+    };
+    add_rule(alloc, text, *first)?;
+    for rule in rest {
+        text.push_str(", ")?;
+        add_rule(alloc, text, *rule)?;
+    }
+    Ok(())
+}
+
+// Adds the line of a run.
+fn add_line(alloc: Global, text: &mut String, run: &Run) -> Result<(), OutOfMemory>
+    ensures { let before = string_bytes text.old in
+        OnOk result (string_bytes text.new ≡ before ++ traces.run_line run.now) }
+{
+    text.push_str("  run: ")?;
+    add_run(alloc, text, run.as_slice())?;
+    text.push_str("\n")?;
+    Ok(())
+}
+
+/// The lines of the runs of a listing, one for each in order, or the line that says that they are too long: that their
+/// size, the number of their rules and one more for each run, is over the limit. Refused only when out of memory.
+pub fn traces_text(alloc: Global, listing: &Listing, limit: u64) -> Result<String, OutOfMemory>
+    ensures { IfOk result (λ t. string_bytes t ≡ traces.traces_text limit listing.now) }
+{
+    let mut text = String::new(alloc);
+    match expand(alloc, listing, limit)? {
+        Expanded::Runs(runs) => {
+            for run in runs.as_slice() {
+                add_line(alloc, &mut text, run)?;
+            }
+        }
+        Expanded::TooLong => text.push_str("  traces: too long\n")?,
+    }
+    Ok(text)
+}

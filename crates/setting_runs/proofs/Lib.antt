@@ -1,0 +1,3 @@
+mod FitLemmas
+mod RunLemmas
+pub mod CallerLemmas

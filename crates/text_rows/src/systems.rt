@@ -1,0 +1,141 @@
+use document_forms::WeightsLine;
+use document_reader::read_system;
+use std::alloc::Global;
+use wpds_base::OutOfMemory;
+use wpds_port::{Kind, ReadFault, Refusal};
+
+// The refusal of a text, if it is refused.
+fn refusal(alloc: Global, text: &[u8]) -> Result<Option<Refusal>, OutOfMemory> {
+    match read_system(alloc, text) {
+        Ok(_) => Ok(None),
+        Err(ReadFault::Refused(refusal)) => Ok(Some(refusal)),
+        Err(ReadFault::Memory) => Err(OutOfMemory),
+    }
+}
+
+// Whether a text is refused on this line by this kind.
+fn is_refused(alloc: Global, text: &[u8], line: u64, kind: Kind) -> Result<bool, OutOfMemory> {
+    Ok(refusal(alloc, text)? == Some(Refusal { line, kind }))
+}
+
+// The lines of a case, at each `/` of which a line ends, below such weights, a control `p` and a
+// symbol `a`.
+fn lines_of(alloc: Global, weights: &[u8], case: &[u8]) -> Result<Vec<u8>, OutOfMemory> {
+    let mut text = b"wpds 1\nweights ".to_vec(alloc)?;
+    text.extend_from_slice(weights)?;
+    text.extend_from_slice(b"\ncontrols p\nsymbols a\n")?;
+    for byte in case {
+        text.push(if *byte == b'/' { b'\n' } else { *byte })?;
+    }
+    Ok(text)
+}
+
+// Whether the last line of each case is refused by this kind. A case is a line of these.
+fn each_is_refused(
+    alloc: Global,
+    weights: &[u8],
+    cases: &[u8],
+    kind: Kind,
+) -> Result<bool, OutOfMemory> {
+    for case in cases.split(|byte| *byte == b'\n') {
+        let text = lines_of(alloc, weights, case)?;
+        let line = text.split(|byte| *byte == b'\n').count() as u64;
+        if !is_refused(alloc, &text, line, kind)? {
+            return Ok(false);
+        }
+    }
+    Ok(true)
+}
+
+// How many controls, symbols, variables, rules and queries a text of copies has.
+fn counts(alloc: Global, text: &[u8]) -> Result<Option<[usize; 5]>, OutOfMemory> {
+    let Ok(document) = read_system(alloc, text) else {
+        return Ok(None);
+    };
+    if document.weights != WeightsLine::Copy {
+        return Ok(None);
+    }
+    Ok(Some([
+        document.controls.len(),
+        document.symbols.len(),
+        document.items.len(),
+        document.rules.len(),
+        document.queries.len(),
+    ]))
+}
+
+#[test]
+fn a_system_is_read(rt: HostRuntime) -> Result<(), OutOfMemory> {
+    let text = b"wpds 1\nweights copy\ncontrols p q\nsymbols a b c\nvariables x y\nsymbols d\n\
+        query p : a => q : { b d } .*\n# asked twice\nquery p : . => p : .\n";
+    assert!(rt; counts(rt.alloc(), text)? == Some([2, 4, 2, 0, 2]));
+    Ok(())
+}
+
+#[test]
+fn names_that_stand_twice(rt: HostRuntime) -> Result<(), OutOfMemory> {
+    let alloc = rt.alloc();
+    let names = b"controls q/controls r q\nsymbols b b";
+    assert!(rt; each_is_refused(alloc, b"reach", names, Kind::Twice)?);
+    assert!(rt; each_is_refused(alloc, b"genkill", b"facts x/facts y x", Kind::Twice)?);
+    assert!(rt; each_is_refused(alloc, b"copy", b"variables x/variables y y", Kind::Twice)?);
+    Ok(())
+}
+
+#[test]
+fn names_without_form(rt: HostRuntime) -> Result<(), OutOfMemory> {
+    let names = b"symbols\nsymbols one\nfacts x";
+    assert!(rt; each_is_refused(rt.alloc(), b"reach", names, Kind::Form)?);
+    Ok(())
+}
+
+#[test]
+fn names_of_other_weights(rt: HostRuntime) -> Result<(), OutOfMemory> {
+    let alloc = rt.alloc();
+    assert!(rt; each_is_refused(alloc, b"copy", b"facts x", Kind::Form)?);
+    assert!(rt; each_is_refused(alloc, b"genkill", b"variables x", Kind::Form)?);
+    assert!(rt; each_is_refused(alloc, b"cost 1", b"variables x", Kind::Form)?);
+    Ok(())
+}
+
+#[test]
+fn more_variables_than_a_relation_has(rt: HostRuntime) -> Result<(), OutOfMemory> {
+    let names = b"variables b c d e f g h i j k l m n o p q r s t u v w x y z";
+    assert!(rt; each_is_refused(rt.alloc(), b"relation", names, Kind::Count)?);
+    Ok(())
+}
+
+#[test]
+fn lines_that_say_something_twice(rt: HostRuntime) -> Result<(), OutOfMemory> {
+    let lines = b"weights reach\nweights cost 0\nquery p : { a a } => q : b";
+    assert!(rt; each_is_refused(rt.alloc(), b"reach", lines, Kind::Twice)?);
+    Ok(())
+}
+
+#[test]
+fn lines_without_form(rt: HostRuntime) -> Result<(), OutOfMemory> {
+    let lines = b"weights cost\ncontrol q\n7\nquery p : a";
+    assert!(rt; each_is_refused(rt.alloc(), b"reach", lines, Kind::Form)?);
+    assert!(rt; each_is_refused(rt.alloc(), b"reach", b"controls q/\xc3", Kind::NotText)?);
+    Ok(())
+}
+
+#[test]
+fn queries_of_what_is_not_declared(rt: HostRuntime) -> Result<(), OutOfMemory> {
+    let lines = b"query p : a => q : a\nquery p : a => p : b";
+    assert!(rt; each_is_refused(rt.alloc(), b"reach", lines, Kind::Unknown)?);
+    Ok(())
+}
+
+#[test]
+fn queries_are_counted(rt: HostRuntime) -> Result<(), OutOfMemory> {
+    let mut text = Vec::new(rt.alloc());
+    text.extend_from_slice(b"wpds 1\nweights reach\ncontrols p\nsymbols a\n")?;
+    for _ in 0..1_000 {
+        text.extend_from_slice(b"query p : a => p : a\n")?;
+    }
+    assert_eq!(rt; refusal(rt.alloc(), &text)?, None);
+    text.extend_from_slice(b"query p : a => p : a\n")?;
+    assert!(rt; is_refused(rt.alloc(), &text, 1_005, Kind::Count)?);
+    Ok(())
+}

@@ -1,0 +1,4 @@
+mod TotalLemmas
+mod ConcatenationLemmas
+mod OpeningLemmas
+mod WalkLemmas

@@ -1,0 +1,9 @@
+//! Runs to print: those of a listing, if they are few and short enough.
+#![tactic(auto)]
+
+mod beginning;
+mod expansion;
+mod opening;
+mod totals;
+
+pub use expansion::{Expanded, Run, RunList, expand};
