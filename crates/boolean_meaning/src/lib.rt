@@ -12,5 +12,5 @@ mod valuation;
 
 pub use moving::is_move;
 pub use state::{Frame, FrameList, State};
-pub use states::start;
+pub use states::{is_state, start};
 pub use stepping::step;

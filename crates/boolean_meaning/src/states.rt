@@ -200,7 +200,7 @@ fn is_held(program: &Program, state: &State) -> bool
 }
 
 /// Whether it is a state of the program. It takes no memory.
-pub(crate) fn is_state(program: &Program, state: &State) -> bool
+pub fn is_state(program: &Program, state: &State) -> bool
     requires { IsRead (program_of program.now) }
     ensures { IsTrue result ↔ IsHeld (program_of program.now) state.now }
 {

@@ -5,7 +5,8 @@ use Rattle.std.specs.List.{find, range_with_len}
 use Rattle.std.specs.Str.Parse.{ParsesUnsigned}
 use Rattle.std.proofs.lemmas.Fmt.{decimal_injective, parse-decimal}
 use Rattle.std.proofs.lemmas.Slice.Eq.{bytes_eq-Decides}
-use Rattle.command_words.specs.Commands.{number_up_to, most_rungs}
+use Rattle.wpds_base.specs.Limits.{most_rungs}
+use Rattle.command_words.specs.Commands.{number_up_to}
 
 -- the first of these numbers that a word writes
 abbrev first_named : List ℕ → ℕ → ℕ → Option ℕ

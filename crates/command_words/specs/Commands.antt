@@ -7,7 +7,7 @@ use Rattle.clap.specs.Simple.{on_top}
 use Rattle.clap.specs.declared.builder.action.ArgAction.TheVariants.{SetTrue}
 use Rattle.clap.specs.declared.error.kind.ErrorKind.{ErrorKind}
 use Rattle.clap.specs.declared.error.kind.ErrorKind.TheVariants.{DisplayHelp, DisplayVersion}
-use Rattle.wpds_base.specs.Limits.{most_seats}
+use Rattle.wpds_base.specs.Limits.{most_rungs, most_seats}
 use Rattle.witness_graph.specs.declared.node.Side.{Side}
 use Rattle.witness_graph.specs.declared.node.Side.TheVariants.{Pre, Post}
 use Rattle.command_words.specs.declared.options.Request.{Request}
@@ -44,9 +44,6 @@ abbrev pub command : App
 command = with_rule (with_rule (with_rule (with_rule (with_rule bare task) size) workers) by) brief
 
 -- ---- what the values say
-
-abbrev pub most_rungs : ℕ
-most_rungs = 10000
 
 -- the number from 1 to the most that these digits write, without a sign or a zero in front
 unfoldable pub number_up_to : ℕ → Text → Option ℕ

@@ -1,7 +1,7 @@
 ghost use Rattle.std.specs.Prelude.{◌≡◌, ◌<◌, ◌≤◌, IfOk, IfSome, map, option_map};
 ghost use Rattle.std.specs.String.{string_bytes};
 ghost use Rattle.clap.specs.Words.{first_of, found_of, rows_of};
-ghost use Rattle.wpds_base.specs.Limits.{most_seats};
+ghost use Rattle.wpds_base.specs.Limits.{most_rungs, most_seats};
 ghost use Rattle.command_words.specs.Commands as meant;
 
 use crate::command::the_command;
@@ -21,7 +21,7 @@ const MOST_RUNGS: u32 = 10_000;
 
 // The number from 1 to the most that a text writes, without a sign or a zero in front.
 fn number_up_to(most: u32, text: &str) -> Option<u32>
-    requires { most ≤ meant.most_rungs }
+    requires { most ≤ most_rungs }
     ensures value { result ≡ meant.number_up_to most text.now }
     ensures within { IfSome result (λ n. (0 < n) × (n ≤ most)) }
 {

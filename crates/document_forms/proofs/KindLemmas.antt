@@ -6,7 +6,7 @@ use Rattle.wpds_base.specs.Faults.{first_fault}
 use Rattle.wpds_base.specs.Lists.{IsIn}
 use Rattle.document_forms.specs.Forms.{LineForm, OfWeights, OfNames, OfRule, OfQuery}
 use Rattle.wpds_port.specs.declared.Kind.{Kind}
-use Rattle.wpds_port.specs.declared.Kind.TheVariants.{TooLong, NotText, Header, Form, Twice, Unknown, WeightText, Return, Count, NothingAsked, Arity, TooWide, Label, NotBuilt}
+use Rattle.wpds_port.specs.declared.Kind.TheVariants.{TooLong, NotText, Header, Form, Twice, Unknown, WeightText, Return, Count, NothingAsked, Arity, TooWide, Label}
 use Rattle.wpds_port.specs.Refusals.{kind_number}
 use Rattle.document_forms.specs.Above.{Above, above_of}
 use Rattle.document_forms.specs.Kinds.{Conditions, weights_conditions, conditions}
@@ -125,7 +125,7 @@ abbrev kind_of : ℕ → Kind
 kind_of n =
     slice_index_or
     (TooLong ∷ TooLong ∷ NotText ∷ Header ∷ Form ∷ Twice ∷ Unknown ∷ WeightText ∷ Return
-    ∷ Count ∷ NothingAsked ∷ Arity ∷ TooWide ∷ Label ∷ NotBuilt ∷ [])
+    ∷ Count ∷ NothingAsked ∷ Arity ∷ TooWide ∷ Label ∷ [])
     n TooLong
 
 of_number : (k : Kind) → kind_of (kind_number k) ≡ k
@@ -142,7 +142,6 @@ of_number NothingAsked = refl
 of_number Arity = refl
 of_number TooWide = refl
 of_number Label = refl
-of_number NotBuilt = refl
 
 same_kind : (j k : Kind) → kind_number j ≡ kind_number k → j ≡ k
 same_kind j k e = sym (of_number j) ∙ ap kind_of e ∙ of_number k

@@ -2,11 +2,11 @@
 use Rattle.std.proofs.Common.{◌≡◌, ℕ, zero, suc, ◌+◌, ◌*◌, ◌≤◌, List, [], ◌∷◌, ◌++◌, map, length, refl, ap, ◌∙◌, arith, decimal, codes, length-append}
 use Rattle.std.specs.Prelude.{flat_map}
 use Rattle.std.proofs.lemmas.Fmt.{length-decimal-le}
-use Rattle.wpds_base.specs.Limits.{most_bytes}
+use Rattle.wpds_base.specs.Limits.{most_bytes, most_rungs}
 use Rattle.document_forms.specs.Names.{name}
 use Rattle.document_forms.specs.Documents.{Document}
 use Rattle.document_forms.specs.Writing.{spaced, names_lines, weights_text, rule_text, pattern_text, query_text, written_lines, written}
-use Rattle.ladder.specs.Ladders.{most_rungs, symbols_from, rule, rules_from, question, ladder_document}
+use Rattle.ladder.specs.Ladders.{symbols_from, rule, rules_from, question, ladder_document}
 use Rattle.ladder.proofs.NameLemmas.{symbol_count}
 
 -- ---- words of at most ten bytes

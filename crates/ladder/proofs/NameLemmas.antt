@@ -6,12 +6,12 @@ use Rattle.std.proofs.lemmas.Bool.{and_parts, and_from, or_from, or_left, or_rig
 use Rattle.std.proofs.lemmas.List.Elements.{All-nil, All-cons}
 use Rattle.std.proofs.lemmas.Slice.Eq.{bytes_eq-Decides}
 use Rattle.std.proofs.lemmas.Fmt.{decimal_by_steps, decimal_injective, length-decimal-le}
-use Rattle.wpds_base.specs.Limits.{most_symbols}
+use Rattle.wpds_base.specs.Limits.{most_rungs, most_symbols}
 use Rattle.wpds_base.specs.Lists.{IsIn, IsOnce}
 use Rattle.wpds_port.specs.Tokens.{is_digit, begins_name, goes_on_name}
 use Rattle.document_forms.specs.Names.{reserved, is_among, is_reserved}
 use Rattle.document_forms.specs.Lawful.{IsName, AreNames}
-use Rattle.ladder.specs.Ladders.{most_rungs, entry, middle, exit, rung_symbols, symbols_from}
+use Rattle.ladder.specs.Ladders.{entry, middle, exit, rung_symbols, symbols_from}
 
 -- ---- digits
 

@@ -7,7 +7,8 @@ use Rattle.document_forms.specs.declared.document.RuleLine.{RuleLine}
 use Rattle.document_forms.specs.declared.pattern.ItemText.{ItemText}
 use Rattle.document_forms.specs.declared.pattern.SetText.TheVariants.{Listed}
 use Rattle.document_forms.specs.Lawful.{AreBelow, IsRuleLine, IsSetText, IsQueryLine, HasMap, HasSets, HasSymbol, IsName, IsDocument, IsQueryOf}
-use Rattle.ladder.specs.Ladders.{most_rungs, rule, rung_rules, rules_from, question, ladder_document}
+use Rattle.wpds_base.specs.Limits.{most_rungs}
+use Rattle.ladder.specs.Ladders.{rule, rung_rules, rules_from, question, ladder_document}
 use Rattle.ladder.proofs.NameLemmas.{symbol_count, symbols_are_names}
 
 abbrev cap : ℕ

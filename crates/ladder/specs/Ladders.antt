@@ -7,10 +7,6 @@ use Rattle.document_forms.specs.declared.document.RuleLine.{RuleLine}
 use Rattle.document_forms.specs.declared.document.QueryLine.{QueryLine}
 use Rattle.document_forms.specs.Documents.{Document}
 
--- how many rungs a ladder may have
-abbrev pub most_rungs : ℕ
-most_rungs = 10000
-
 -- costs are cut here
 abbrev pub ladder_cap : ℕ
 ladder_cap = 1000000000

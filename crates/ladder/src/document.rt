@@ -1,5 +1,6 @@
 ghost use Rattle.std.specs.Prelude.{◌≡◌, ◌≤◌, ◌∷◌, [], IfOk};
-ghost use Rattle.ladder.specs.Ladders.{most_rungs, question as question_of, ladder_document as document_of};
+ghost use Rattle.wpds_base.specs.Limits.{most_rungs};
+ghost use Rattle.ladder.specs.Ladders.{question as question_of, ladder_document as document_of};
 
 use crate::names::{controls, symbols};
 use crate::rules::rules;

@@ -2,7 +2,8 @@ ghost use Rattle.std.specs.Prelude.{◌≤◌, ℕ};
 ghost use Rattle.document_forms.specs.Documents.{reads_as};
 ghost use Rattle.document_forms.specs.Lawful.{IsDocument};
 ghost use Rattle.document_forms.specs.Writing.{written};
-ghost use Rattle.ladder.specs.Ladders.{most_rungs, ladder_document};
+ghost use Rattle.wpds_base.specs.Limits.{most_rungs};
+ghost use Rattle.ladder.specs.Ladders.{ladder_document};
 
 use document_forms::written_documents_read_back;
 

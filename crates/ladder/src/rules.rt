@@ -1,5 +1,6 @@
 ghost use Rattle.std.specs.Prelude.{◌≡◌, ◌≤◌, ◌<◌, ◌++◌, IfOk, OnOk};
-ghost use Rattle.ladder.specs.Ladders.{most_rungs, rule as rule_of, rung_rules, rules_from};
+ghost use Rattle.wpds_base.specs.Limits.{most_rungs};
+ghost use Rattle.ladder.specs.Ladders.{rule as rule_of, rung_rules, rules_from};
 
 use document_forms::{RuleLine, RuleLines, Symbols, WeightText};
 use std::alloc::Global;

@@ -1,6 +1,7 @@
 ghost use Rattle.std.specs.Prelude.{◌≡◌, ◌≤◌, IfOk};
 ghost use Rattle.document_forms.specs.Writing.{written};
-ghost use Rattle.ladder.specs.Ladders.{most_rungs, ladder_document as document_of};
+ghost use Rattle.wpds_base.specs.Limits.{most_rungs};
+ghost use Rattle.ladder.specs.Ladders.{ladder_document as document_of};
 
 use crate::document::ladder_document;
 use document_writer::write_system;

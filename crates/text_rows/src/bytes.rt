@@ -157,7 +157,6 @@ fn texts(rt: HostRuntime) -> Result<(), Fail> {
         (7, Kind::Arity, "refused: line 7: 11 Arity"),
         (7, Kind::TooWide, "refused: line 7: 12 TooWide"),
         (7, Kind::Label, "refused: line 7: 13 Label"),
-        (7, Kind::NotBuilt, "refused: line 7: 14 NotBuilt"),
         (
             u64::MAX,
             Kind::TooLong,

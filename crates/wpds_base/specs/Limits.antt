@@ -63,3 +63,11 @@ most_depth = 64
 -- seats at a book, one for each worker
 abbrev pub most_seats : ℕ
 most_seats = 64
+
+-- rungs of a ladder
+abbrev pub most_rungs : ℕ
+most_rungs = 10000
+
+-- the size of the runs that are written: of each the number of its rules, and one more
+abbrev pub most_traced : ℕ
+most_traced = 100000

@@ -2,7 +2,7 @@
 use Rattle.std.specs.Prelude.{ℕ, List, ◌++◌, codes}
 use Rattle.std.specs.Fmt.{decimal}
 use Rattle.wpds_port.specs.declared.refusal.Kind.{Kind}
-use Rattle.wpds_port.specs.declared.refusal.Kind.TheVariants.{TooLong, NotText, Header, Form, Twice, Unknown, WeightText, Return, Count, NothingAsked, Arity, TooWide, Label, NotBuilt}
+use Rattle.wpds_port.specs.declared.refusal.Kind.TheVariants.{TooLong, NotText, Header, Form, Twice, Unknown, WeightText, Return, Count, NothingAsked, Arity, TooWide, Label}
 use Rattle.wpds_port.specs.declared.refusal.Refusal.{Refusal}
 
 -- the order in which the kinds of one line count, and the numbers under which they are printed
@@ -20,7 +20,6 @@ kind_number NothingAsked = 10
 kind_number Arity = 11
 kind_number TooWide = 12
 kind_number Label = 13
-kind_number NotBuilt = 14
 
 abbrev pub kind_name : Kind → List ℕ
 kind_name TooLong = codes "TooLong"
@@ -36,7 +35,6 @@ kind_name NothingAsked = codes "NothingAsked"
 kind_name Arity = codes "Arity"
 kind_name TooWide = codes "TooWide"
 kind_name Label = codes "Label"
-kind_name NotBuilt = codes "NotBuilt"
 
 abbrev pub refusal : ℕ → Kind → Refusal
 refusal n k = record { line = n; kind = k }

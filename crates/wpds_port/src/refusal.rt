@@ -37,8 +37,6 @@ pub enum Kind {
     TooWide,
     /// A program's label is not one that the line may name.
     Label,
-    /// The document asks for what is not built yet.
-    NotBuilt,
 }
 
 impl Kind {
@@ -60,7 +58,6 @@ impl Kind {
             Kind::Arity => 11,
             Kind::TooWide => 12,
             Kind::Label => 13,
-            Kind::NotBuilt => 14,
         }
     }
 
@@ -82,7 +79,6 @@ impl Kind {
             Kind::Arity => "Arity",
             Kind::TooWide => "TooWide",
             Kind::Label => "Label",
-            Kind::NotBuilt => "NotBuilt",
         }
     }
 }
