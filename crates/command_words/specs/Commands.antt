@@ -1,5 +1,5 @@
 -- What the words of the command line ask for.
-use Rattle.std.specs.Prelude.{ℕ, ◌<◌, ◌≤◌, Bool, true, false, List, [], ◌∷◌, Option, Some, None, option_map, option_and_then, is_some, codes, bytes_eq, decimal, if◌then◌else◌}
+use Rattle.std.specs.Prelude.{ℕ, ◌<◌, ◌≤◌, Bool, true, false, ◌||◌, List, [], ◌∷◌, Option, Some, None, option_map, option_and_then, is_some, codes, bytes_eq, decimal, if◌then◌else◌}
 use Rattle.std.specs.List.{find, range_with_len}
 use Rattle.std.specs.Option.{option_map_or}
 use Rattle.clap.specs.Words.{Rule, Row, App, Text, new_rule, new_app, with_rule, first_of, matches_of, fault_of, Kinds}
@@ -33,15 +33,22 @@ abbrev pub by : Rule
 by = option (codes "by") (codes "pre")
 
 -- an option without a value
+abbrev pub flag : Text → Rule
+flag name = record (new_rule name) { long = Some name; action = Some SetTrue }
+
 abbrev pub brief : Rule
-brief = record (new_rule (codes "brief")) { long = Some (codes "brief"); action = Some SetTrue }
+brief = flag (codes "brief")
+
+abbrev pub traces : Rule
+traces = flag (codes "traces")
 
 -- The words begin behind the program's name. It has a version.
 abbrev pub bare : App
 bare = on_top (λ s. record s { no_binary_name = true; has_version = true }) (new_app (codes "wpds"))
 
 abbrev pub command : App
-command = with_rule (with_rule (with_rule (with_rule (with_rule bare task) size) workers) by) brief
+command =
+    with_rule (with_rule (with_rule (with_rule (with_rule (with_rule bare task) size) workers) by) brief) traces
 
 -- ---- what the values say
 
@@ -62,19 +69,25 @@ module _ (rows : List Row) where
   direction = option_and_then side_named (first_of (codes "by") rows)
 
   -- a flag that is given has the value `true`, and else `false`
+  abbrev pub is_set : Text → Bool
+  is_set name = option_map_or (bytes_eq (codes "true")) (first_of name rows) false
+
   abbrev pub is_brief : Bool
-  is_brief = option_map_or (bytes_eq (codes "true")) (first_of (codes "brief") rows) false
+  is_brief = is_set (codes "brief")
+
+  abbrev pub has_traces : Bool
+  has_traces = is_set (codes "traces")
 
   -- of `check`, which takes no size
   abbrev pub checking : Option Request
   checking =
       if is_some (first_of (codes "size") rows) then None
-      else option_and_then (λ side. option_map (λ n. Check (record { brief = is_brief; by = side; workers = n })) worker_count) direction
+      else option_and_then (λ side. option_map (λ n. Check (record { brief = is_brief; traces = has_traces; by = side; workers = n })) worker_count) direction
 
-  -- of `gen`, which needs one, and has no listing to leave out
+  -- of `gen`, which needs one, and has neither a listing to leave out nor runs to write
   abbrev pub generating : Option Request
   generating =
-      if is_brief then None
+      if is_brief || has_traces then None
       else option_and_then (λ rungs. option_and_then (λ side. option_map (λ n. Generate (record { rungs = rungs; by = side; workers = n })) worker_count) direction)
       (option_and_then (number_up_to most_rungs) (first_of (codes "size") rows))
 

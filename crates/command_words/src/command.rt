@@ -1,6 +1,6 @@
 ghost use Rattle.std.specs.Prelude.{◌≡◌, IfOk, false};
 ghost use Rattle.clap.specs.Words.{app_of, rule_of};
-ghost use Rattle.command_words.specs.Commands.{bare, command, task, size, workers, by, brief};
+ghost use Rattle.command_words.specs.Commands.{bare, command, task, size, workers, by, brief, traces};
 
 use clap::{Arg, ArgAction, Command};
 use std::alloc::{AllocError, Global};
@@ -58,6 +58,16 @@ fn bare_command<'a>(alloc: Global) -> Command<'a>
         .version("1")
 }
 
+// Whether the runs are written, too.
+fn traces_argument<'a>(alloc: Global) -> Arg<'a>
+    ensures rule { rule_of result ≡ traces }
+    ensures local { result.global ≡ false }
+{
+    Arg::new(alloc, "traces")
+        .long("traces")
+        .action(ArgAction::SetTrue)
+}
+
 /// The command as `clap` reads it, with help and version as `clap` adds them.
 pub(crate) fn the_command<'a>(alloc: Global) -> Result<Command<'a>, AllocError>
     ensures { IfOk result (λ c. app_of c ≡ command) }
@@ -67,5 +77,6 @@ pub(crate) fn the_command<'a>(alloc: Global) -> Result<Command<'a>, AllocError>
         .arg(size_argument(alloc))?
         .arg(workers_argument(alloc))?
         .arg(by_argument(alloc))?
-        .arg(brief_argument(alloc))
+        .arg(brief_argument(alloc))?
+        .arg(traces_argument(alloc))
 }

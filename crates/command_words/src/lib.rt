@@ -5,5 +5,5 @@ mod command;
 mod options;
 mod reading;
 
-pub use options::{Generation, Options, Request};
+pub use options::{Generation, Request};
 pub use reading::read_words;

@@ -1,15 +1,5 @@
+use report_text::Options;
 use witness_graph::Side;
-
-/// How a document is answered.
-#[derive(Clone, Copy, Debug, PartialEq, Eq)]
-pub struct Options {
-    /// Whether the listings are left out.
-    pub brief: bool,
-    /// Which way the saturation goes.
-    pub by: Side,
-    /// How many workers saturate, from 1 to 64.
-    pub workers: u32,
-}
 
 /// How a ladder is answered that the program makes for itself.
 #[derive(Clone, Copy, Debug, PartialEq, Eq)]

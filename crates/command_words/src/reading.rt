@@ -5,10 +5,11 @@ ghost use Rattle.wpds_base.specs.Limits.{most_rungs, most_seats};
 ghost use Rattle.command_words.specs.Commands as meant;
 
 use crate::command::the_command;
-use crate::{Generation, Options, Request};
+use crate::{Generation, Request};
 use clap::ArgMatches;
 use clap::error::ErrorKind;
 use itoa::Buffer;
+use report_text::Options;
 use std::alloc::Global;
 use witness_graph::Side;
 use wpds_base::OutOfMemory;
@@ -70,14 +71,28 @@ fn direction(matches: &ArgMatches<'_>) -> Option<Side>
     side_named(given(matches, "by")?)
 }
 
+// Whether a flag is given.
+fn is_set(matches: &ArgMatches<'_>, flag: &str) -> bool
+    ensures { result ≡ meant.is_set (rows_of (found_of matches.now)) flag.now }
+{
+    match given(matches, flag) {
+        Some(text) => text == "true",
+        None => false,
+    }
+}
+
 // Whether the listings are left out.
 fn is_brief(matches: &ArgMatches<'_>) -> bool
     ensures { result ≡ meant.is_brief (rows_of (found_of matches.now)) }
 {
-    match given(matches, "brief") {
-        Some(text) => text == "true",
-        None => false,
-    }
+    is_set(matches, "brief")
+}
+
+// Whether the runs are written, too.
+fn has_traces(matches: &ArgMatches<'_>) -> bool
+    ensures { result ≡ meant.has_traces (rows_of (found_of matches.now)) }
+{
+    is_set(matches, "traces")
 }
 
 // What `check` asks for, which takes no size.
@@ -90,16 +105,20 @@ fn checking(matches: &ArgMatches<'_>) -> Option<Request>
     }
     let by = direction(matches)?;
     let workers = worker_count(matches)?;
-    let brief = is_brief(matches);
-    Some(Request::Check(Options { brief, by, workers }))
+    Some(Request::Check(Options {
+        brief: is_brief(matches),
+        traces: has_traces(matches),
+        by,
+        workers,
+    }))
 }
 
-// What `gen` asks for, which needs a size, and has no listing to leave out.
+// What `gen` asks for, which needs a size, and has neither a listing to leave out nor runs to write.
 fn generating(matches: &ArgMatches<'_>) -> Option<Request>
     ensures request { result ≡ meant.generating (rows_of (found_of matches.now)) }
     ensures within { IfSome result meant.IsWithin }
 {
-    if is_brief(matches) {
+    if is_brief(matches) || has_traces(matches) {
         return None;
     }
     let rungs = number_up_to(MOST_RUNGS, given(matches, "size")?)?;
@@ -136,8 +155,8 @@ fn asked_instead(kind: ErrorKind) -> Option<Request>
 /// is refused only when out of memory.
 ///
 /// The command has a task, `check` or `gen`, and a size, which `gen` needs and `check` does not take. The
-/// options may stand anywhere: `--workers N`, from 1 to 64, `--by pre` or `--by post`, and `--brief`, which
-/// `gen` does not take. A number has no sign and no zero in front. `--help` or `--version` is asked for
+/// options may stand anywhere: `--workers N`, from 1 to 64, `--by pre` or `--by post`, and `--brief` and
+/// `--traces`, which `gen` does not take. A number has no sign and no zero in front. `--help` or `--version` is asked for
 /// where `clap` meets it before a fault.
 pub fn read_words(alloc: Global, words: &[String]) -> Result<Option<Request>, OutOfMemory>
     ensures request { IfOk result (λ r. r ≡ meant.request_of (map string_bytes words.now)) }

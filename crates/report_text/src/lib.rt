@@ -2,7 +2,11 @@
 #![tactic(auto)]
 
 mod listing;
+mod options;
+mod report;
 mod traces;
 
 pub use listing::{listing_text, query_line};
+pub use options::Options;
+pub use report::{MOST_TRACED, listed, query_text, traced};
 pub use traces::traces_text;

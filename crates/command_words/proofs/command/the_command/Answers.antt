@@ -9,4 +9,5 @@ returns c =
     let second = c.in_ok-arg-2.ensures.shape c.size_argument.ensures.local ∙ ap₂ with_rule first c.size_argument.ensures.rule in
     let third = c.in_ok-arg-3.ensures.shape c.workers_argument.ensures.local ∙ ap₂ with_rule second c.workers_argument.ensures.rule in
     let fourth = c.in_ok-arg-4.ensures.shape c.by_argument.ensures.local ∙ ap₂ with_rule third c.by_argument.ensures.rule in
-    IfOk-weaker c.arg-5.result _ _ (λ r h. h.shape c.brief_argument.ensures.local ∙ ap₂ with_rule fourth c.brief_argument.ensures.rule) c.arg-5.ensures
+    let fifth = c.in_ok-arg-5.ensures.shape c.brief_argument.ensures.local ∙ ap₂ with_rule fourth c.brief_argument.ensures.rule in
+    IfOk-weaker c.arg-6.result _ _ (λ r h. h.shape c.traces_argument.ensures.local ∙ ap₂ with_rule fifth c.traces_argument.ensures.rule) c.arg-6.ensures
