@@ -1,6 +1,7 @@
 //! A program with its lowering, and the patterns between which its queries ask.
 
 ghost use Rattle.std.specs.Prelude.{◌≡◌, ◌<◌, IfOk};
+ghost use Rattle.pattern_openings.specs.PatternOpenings.{IsOver};
 ghost use Rattle.boolean_programs.specs.Lines.{first_line};
 ghost use Rattle.boolean_programs.specs.Programs.{program_of};
 ghost use Rattle.program_laws.specs.ReadPrograms.{IsProgram, IsPoint};
@@ -101,7 +102,9 @@ impl<'p> Asked<'p> {
     // The stack of main's first line alone.
     fn entry_pattern(&self, alloc: Global) -> Result<Pattern, OutOfMemory>
         requires { IsAsked self.now }
-        ensures { IfOk result (λ x. x ≡ entry_pattern (program_in self.now)) }
+        ensures value { IfOk result (λ x. x ≡ entry_pattern (program_in self.now)) }
+        ensures over { let system = self.now.lowering.system in
+            IfOk result (IsOver system.controls system.symbols) }
     {
         let symbol = self.symbol(self.entry());
         alone(alloc, self.lowering.system.symbols(), symbol)
@@ -111,7 +114,9 @@ impl<'p> Asked<'p> {
     fn point_pattern(&self, alloc: Global, point: Point) -> Result<Pattern, OutOfMemory>
         requires asked { IsAsked self.now }
         requires point { IsPoint (program_in self.now) point }
-        ensures { IfOk result (λ x. x ≡ point_pattern (program_in self.now) point) }
+        ensures value { IfOk result (λ x. x ≡ point_pattern (program_in self.now) point) }
+        ensures over { let system = self.now.lowering.system in
+            IfOk result (IsOver system.controls system.symbols) }
     {
         let symbol = self.symbol(point);
         on_top(alloc, self.lowering.system.symbols(), symbol)
@@ -121,7 +126,9 @@ impl<'p> Asked<'p> {
     pub(crate) fn opened(&self, alloc: Global, point: Point) -> Result<Pattern, OutOfMemory>
         requires asked { IsAsked self.now }
         requires point { IsPoint (program_in self.now) point }
-        ensures { IfOk result (λ x. x ≡ opened self.now point) }
+        ensures value { IfOk result (λ x. x ≡ opened self.now point) }
+        ensures over { let system = self.now.lowering.system in
+            IfOk result (IsOver system.controls system.symbols) }
     {
         match self.options.by {
             Side::Pre => self.point_pattern(alloc, point),
@@ -133,7 +140,9 @@ impl<'p> Asked<'p> {
     pub(crate) fn summed(&self, alloc: Global, point: Point) -> Result<Pattern, OutOfMemory>
         requires asked { IsAsked self.now }
         requires point { IsPoint (program_in self.now) point }
-        ensures { IfOk result (λ x. x ≡ summed self.now point) }
+        ensures value { IfOk result (λ x. x ≡ summed self.now point) }
+        ensures over { let system = self.now.lowering.system in
+            IfOk result (IsOver system.controls system.symbols) }
     {
         match self.options.by {
             Side::Pre => self.entry_pattern(alloc),

@@ -3,7 +3,7 @@
 ghost use Rattle.std.specs.Prelude.{◌≡◌, ◌++◌, IfOk};
 ghost use Rattle.report_text.specs.Listings as listings;
 ghost use Rattle.report_text.specs.Reports as reports;
-ghost use Rattle.program_reports.specs.private.Asked.{verdict};
+ghost use Rattle.program_reports.specs.private.Verdicts.{verdict};
 
 use report_text::{Options, listed, query_line};
 use std::alloc::Global;

@@ -1,8 +1,7 @@
 -- What the answers to a program's queries stand on.
-use Rattle.std.specs.Prelude.{◌≡◌, ℕ, Option, None, Some, length, codes, List}
+use Rattle.std.specs.Prelude.{◌≡◌, ℕ, length}
 use Rattle.pushdown_rules.specs.Pushdown.{IsSystem}
 use Rattle.config_patterns.specs.Membership.{PatternValue}
-use Rattle.witness_graph.specs.declared.listing.Listing.{Listing}
 use Rattle.relation_laws.specs.Building.{Parts}
 use Rattle.relation_weights.specs.declared.rel_map.RelMap.{RelMap}
 use Rattle.relation_weights.specs.Relations.{relation_operations}
@@ -39,8 +38,3 @@ pub record Serves (a : Asked) (point : Point) (s : Saturation ℕ Parts RelMap) 
   pub finished : IsFinished s
   pub system : saturated_system s ≡ a.lowering.system
   pub saturated : IsSaturated relation_operations a.lowering.system a.options.by a.options.workers (opened a point) s
-
--- what is told of a point by the listing of its answer
-abbrev pub verdict : Option Listing → List ℕ
-verdict None = codes "unreachable"
-verdict (Some l) = codes "reachable"
