@@ -1,6 +1,6 @@
-use Rattle.std.proofs.Common.{sym, ap, subst}
-use Rattle.std.specs.Prelude.{unwrap_or}
-use Rattle.boolean_programs.specs.Programs.{Procedure, Program}
+use Rattle.std.proofs.Common.{[], sym, subst}
+use Rattle.std.specs.Prelude.{Option, unwrap_or}
+use Rattle.boolean_programs.specs.Programs.{Procedure}
 use Rattle.boolean_programs.specs.Lines.{first_line}
 use Rattle.boolean_machine.specs.Machine.{at_line}
 use Rattle.boolean_machine.specs.Lawful.{IsPointOf}
@@ -13,6 +13,6 @@ returns-clause-symbols c = λ p point is. point_symbol p is.0 point is.1
 pub returns-clause-entry : goal.returns-clause-entry
 returns-clause-entry c = λ p lawful. (
   p.main,
-  subst (λ o. IsPointOf p p.main (at_line (first_line (unwrap_or o (record { params = 0; locals = 0; returns = 0; body = [] })).body)))
-  (sym lawful.found) lawful.begins,
+  subst (λ (o : Option Procedure). IsPointOf p p.main (at_line (first_line (unwrap_or {T = Procedure} o (record { params = 0; locals = 0; returns = 0; body = [] })).body)))
+      (sym lawful.found) lawful.begins,
 )
