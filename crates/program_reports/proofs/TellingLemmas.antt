@@ -20,6 +20,10 @@ use Rattle.report_text.specs.Reports.{listed, shown}
 use Rattle.program_reports.specs.ProgramReports.{TellsPoint}
 use Rattle.program_reports.specs.private.Verdicts.{verdict}
 
+-- one exactly where the second, and the second exactly where the third
+pub through : {A B C : Type 0} → (A ↔ B) → (B ↔ C) → A ↔ C
+through first second = ((λ a. second.0 (first.0 a)), (λ c. first.1 (second.1 c)))
+
 nothing_listed : (b : Bool) → (if b then [] else shown None) ≡ []
 nothing_listed true = refl
 nothing_listed false = refl
