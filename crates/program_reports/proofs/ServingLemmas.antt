@@ -51,6 +51,15 @@ module _ (n : ℕ) where
         sets = All-cons IsBelow (record { set = g ∷ []; star = false }) (any ∷ []) (one_below g low) (All-cons IsBelow any [] all (All-nil IsBelow));
       }
 
+-- both patterns of a query have the one control
+pub opened_within : (by : Side) (p : Program) (point : Point) (controls : ℕ) → controls ≡ 1 → (opened_of by (entry_pattern p) (point_pattern p point)).control < controls
+opened_within Pre p point controls one = omega arith
+opened_within Post p point controls one = omega arith
+
+pub summed_within : (by : Side) (p : Program) (point : Point) (controls : ℕ) → controls ≡ 1 → (summed_of by (entry_pattern p) (point_pattern p point)).control < controls
+summed_within Pre p point controls one = omega arith
+summed_within Post p point controls one = omega arith
+
 -- ---- saturations
 
 -- forwards what serves one point serves every point
