@@ -1,7 +1,6 @@
 -- Main's first line, and the symbols of points.
-use Rattle.std.proofs.Common.{◌≡◌, ◌≢◌, ℕ, ◌<◌, Bool, true, false, List, [], ◌∷◌, length, map, refl, sym, ap, ◌∙◌, subst}
-use Rattle.std.specs.Prelude.{Some, None, Option, slice_get, unwrap_or, if◌then◌else◌}
-use Rattle.std.proofs.lemmas.Option.{slice_get_within}
+use Rattle.std.proofs.Common.{◌≡◌, ◌≢◌, ℕ, List, [], map, sym, ap, ◌∙◌}
+use Rattle.std.specs.Prelude.{Some, slice_get, unwrap_or}
 use Rattle.boolean_programs.specs.declared.program.Proc.{Proc}
 use Rattle.boolean_programs.specs.declared.point.Point.{Point}
 use Rattle.boolean_programs.specs.Programs.{Program, main_of, procedure_of}

@@ -1,13 +1,13 @@
 -- The items of the patterns are not refused.
-use Rattle.std.proofs.Common.{◌≡◌, ℕ, zero, suc, ◌+◌, ◌*◌, ◌<◌, ◌≤◌, Bool, true, false, ◌||◌, List, [], ◌∷◌, ◌++◌, length, refl, ap, ◌∙◌, arith}
-use Rattle.std.specs.Prelude.{nat_eq, nat_le, nat_lt, None, if◌then◌else◌}
+use Rattle.std.proofs.Common.{◌≡◌, ℕ, zero, suc, ◌+◌, ◌*◌, ◌<◌, ◌≤◌, true, false, [], ◌∷◌, ◌++◌, length, refl, ap, ◌∙◌, arith}
+use Rattle.std.specs.Prelude.{nat_eq, nat_le, nat_lt, None}
 use Rattle.std.specs.List.{list_any, range_with_len}
 use Rattle.std.proofs.lemmas.Bool.Decides.{nat_tests}
 use Rattle.std.proofs.lemmas.List.FromFn.{length-range_with_len}
 use Rattle.config_patterns.specs.declared.item.Item.{Item}
 use Rattle.config_patterns.specs.Edges.{edges_of}
 use Rattle.config_patterns.specs.Fault.{item_fault}
-use Rattle.config_patterns.specs.Membership.{PatternValue, has_symbol}
+use Rattle.config_patterns.specs.Membership.{has_symbol}
 use Rattle.config_patterns.specs.Validity.{is_set}
 use Rattle.config_patterns.proofs.CallerLemmas.{count_push}
 use Rattle.program_reports.specs.private.Patterns.{alone}

@@ -1,5 +1,5 @@
 -- The patterns of a query, and the saturations that serve it.
-use Rattle.std.proofs.Common.{◌≡◌, ℕ, ◌<◌, ◌≤◌, zero, suc, ◌+◌, true, false, List, [], ◌∷◌, refl, sym, ap, ◌∙◌, subst, arith}
+use Rattle.std.proofs.Common.{◌≡◌, ℕ, ◌<◌, ◌≤◌, zero, suc, ◌+◌, true, false, [], ◌∷◌, sym, ap, ◌∙◌, subst, arith}
 use Rattle.std.specs.Prelude.{All, Result, Ok, Err, IfOk}
 use Rattle.std.specs.List.{range_with_len, AllByRecursion}
 use Rattle.std.proofs.lemmas.List.Elements.{All-from_recursion, All-cons, All-nil}
@@ -13,8 +13,7 @@ use Rattle.witness_graph.specs.declared.node.Side.{Side}
 use Rattle.witness_graph.specs.declared.node.Side.TheVariants.{Pre, Post}
 use Rattle.boolean_programs.specs.declared.point.Point.{Point}
 use Rattle.boolean_programs.specs.Programs.{Program}
-use Rattle.lowering_laws.specs.Lowering.{symbol, symbols}
-use Rattle.lowering_laws.specs.Queries.{entry_point, entry_pattern, point_pattern}
+use Rattle.lowering_laws.specs.Queries.{entry_pattern, point_pattern}
 use Rattle.query_answers.specs.declared.saturation.Saturation.{Saturation}
 use Rattle.query_answers.specs.Answering.{opened_of, summed_of, IsSaturated}
 use Rattle.program_reports.specs.declared.asked.Asked.{Asked}

@@ -1,5 +1,5 @@
 -- What the text of a query tells.
-use Rattle.std.proofs.Common.{◌≡◌, ◌≢◌, ◌↔◌, inl, inr, ℕ, Bool, true, false, List, [], ◌++◌, refl, sym, ap, ◌∙◌, subst, append-nil}
+use Rattle.std.proofs.Common.{◌≡◌, ◌≢◌, ◌↔◌, inl, inr, ℕ, Bool, true, false, List, [], ◌++◌, refl, ap, ◌∙◌, subst, append-nil}
 use Rattle.std.specs.Prelude.{◌⊎◌, Option, Some, None, codes, if◌then◌else◌}
 use Rattle.pushdown_rules.specs.Pushdown.{Pushdown}
 use Rattle.relation_laws.specs.Building.{Parts}

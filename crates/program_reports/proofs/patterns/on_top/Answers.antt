@@ -1,6 +1,5 @@
-use Rattle.std.proofs.Common.{◌≡◌, List, ℕ, true, sym, subst, ap, ◌∙◌}
+use Rattle.std.proofs.Common.{◌≡◌, true, sym, subst, ◌∙◌}
 use Rattle.std.specs.Prelude.{IsTrue, None}
-use Rattle.std.specs.List.{range_with_len}
 use Rattle.config_patterns.specs.Fault.{item_fault}
 use Rattle.config_patterns.specs.Membership.{PatternValue}
 use Rattle.config_patterns.specs.Validity.{is_set}

@@ -18,4 +18,4 @@ returns c =
     let is = c.in_ok-answer.ensures system a.options.by a.options.workers from to within (sym c.in_ok-summed.ensures.value) c.requires.serves.saturated in
     let decided = c.answers_tell_points.ensures p point system a.options.by a.options.workers c.in_ok-answer.answer c.requires.asked.program.read c.requires.point c.requires.asked.valid low is in
     of_ok c.point_lines.result
-        (λ text lines_are. tells a.options a.program.now system c.args.number point text c.in_ok-answer.answer low.semiring is decided lines_are) c.point_lines.ensures
+    (λ text lines_are. tells a.options a.program.now system c.args.number point text c.in_ok-answer.answer low.semiring is decided lines_are) c.point_lines.ensures

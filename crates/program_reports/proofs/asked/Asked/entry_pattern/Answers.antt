@@ -1,4 +1,4 @@
-use Rattle.std.proofs.Common.{◌≡◌, ◌<◌, sym, ap, ap₂, ◌∙◌, subst}
+use Rattle.std.proofs.Common.{◌<◌, sym, ap, ap₂, ◌∙◌, subst}
 use Rattle.lowering_laws.specs.Lowering.{symbol}
 use Rattle.pattern_openings.specs.PatternOpenings.{IsOver}
 use Rattle.program_reports.specs.private.Asked.{program_in}

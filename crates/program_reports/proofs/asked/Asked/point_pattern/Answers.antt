@@ -1,4 +1,4 @@
-use Rattle.std.proofs.Common.{◌≡◌, ◌<◌, sym, ap, ap₂, ◌∙◌, subst}
+use Rattle.std.proofs.Common.{◌<◌, sym, ap, ap₂, ◌∙◌, subst}
 use Rattle.pattern_openings.specs.PatternOpenings.{IsOver}
 use Rattle.program_reports.specs.private.Patterns.{on_top}
 use Rattle.program_reports.proofs.ServingLemmas.{of_ok, on_top_over}

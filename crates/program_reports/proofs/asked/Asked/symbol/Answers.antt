@@ -1,4 +1,4 @@
-use Rattle.std.proofs.Common.{◌≡◌, ◌<◌, length, subst}
+use Rattle.std.proofs.Common.{◌<◌, subst}
 use Rattle.std.proofs.lemmas.Option.{slice_get_within}
 use Rattle.program_reports.specs.private.Asked.{program_in}
 use Rattle.program_reports.proofs.AskedLemmas.{stands, symbol_found}
