@@ -1,7 +1,7 @@
 -- What is written for words alone.
 use Rattle.std.specs.Prelude.{◌≡◌, ℕ, List, ◌++◌, Some, codes}
 use Rattle.command_words.specs.Commands.{request_of}
-use Rattle.command_words.specs.declared.options.Options.{Options}
+use Rattle.report_text.specs.declared.options.Options.{Options}
 use Rattle.command_words.specs.declared.options.Request.{Request}
 use Rattle.command_words.specs.declared.options.Request.TheVariants.{Check}
 
