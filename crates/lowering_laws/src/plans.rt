@@ -10,12 +10,14 @@ ghost use Rattle.boolean_programs.specs.Programs.{Program};
 ghost use Rattle.boolean_programs.specs.Structure.{IsRead};
 ghost use Rattle.boolean_machine.specs.Machine.{action};
 ghost use Rattle.boolean_machine.specs.Lawful.{IsLawful};
-ghost use Rattle.program_laws.specs.ReadPrograms.{points, rules};
+ghost use Rattle.program_laws.specs.ReadPrograms.{points, rules, IsPoint};
 ghost use Rattle.setting_runs.specs.Relations.{Setting};
 ghost use Rattle.lowering_laws.specs.Lowering.{Planned, plan, line_rules, rules_from};
 ghost use Rattle.lowering_laws.specs.Lowering.{first_local, variables, symbols};
-ghost use Rattle.lowering_laws.specs.Lowering.{symbol_of, symbol_points, IsLowered, IsLowering};
+ghost use Rattle.lowering_laws.specs.Lowering.{symbol, symbol_of, symbol_points, IsLowered};
+ghost use Rattle.lowering_laws.specs.Lowering.{IsLowering};
 ghost use Rattle.lowering_laws.specs.Plans.{IsWithin, IsNarrow, AreLowered};
+ghost use Rattle.lowering_laws.specs.Queries.{entry_point};
 
 use program_laws::rules_are_ways;
 use semiring_laws::Semiring;
@@ -52,4 +54,11 @@ pub fn plans_are_made<S: Semiring>()
         → system.controls ≡ 1 → system.symbols ≡ symbols p
         → AreLowered (variables p) relates slots system.rules (plan p)
         → IsLowering relates slots p system }
+{}
+
+/// Each point of a program has a symbol. Main's first line is a point.
+pub fn points_have_symbols()
+    ensures symbols { (p : Program) (point : Point) → IsPoint p point
+        → symbol_of p point ≡ Some (symbol p point) }
+    ensures entry { (p : Program) → IsLawful p → IsPoint p (entry_point p) }
 {}

@@ -1,0 +1,5 @@
+mod AskedLemmas
+mod PartLemmas
+mod PatternLemmas
+mod ServingLemmas
+mod TellingLemmas

@@ -1,0 +1,53 @@
+-- What the text of a query tells.
+use Rattle.std.proofs.Common.{◌≡◌, ◌≢◌, ◌↔◌, inl, inr, ℕ, Bool, true, false, List, [], ◌++◌, refl, sym, ap, ◌∙◌, subst, append-nil}
+use Rattle.std.specs.Prelude.{◌⊎◌, Option, Some, None, codes, if◌then◌else◌}
+use Rattle.pushdown_rules.specs.Pushdown.{Pushdown}
+use Rattle.relation_laws.specs.Building.{Parts}
+use Rattle.relation_weights.specs.declared.rel_map.RelMap.{RelMap}
+use Rattle.relation_weights.specs.Relations.{relation_operations}
+use Rattle.witness_graph.specs.declared.listing.Listing.{Listing}
+use Rattle.boolean_programs.specs.declared.point.Point.{Point}
+use Rattle.boolean_programs.specs.declared.program.Program.{Program as ParsedProgram}
+use Rattle.boolean_programs.specs.Programs.{program_of}
+use Rattle.boolean_machine.specs.Machine.{IsReached}
+use Rattle.lowering_laws.specs.Lowering.{variables}
+use Rattle.lowering_laws.specs.Queries.{entry_pattern, point_pattern}
+use Rattle.path_sum.specs.declared.answer.Answer.{Answer}
+use Rattle.query_answers.specs.Answering.{IsAnswer}
+use Rattle.report_text.specs.declared.options.Options.{Options}
+use Rattle.report_text.specs.Listings.{query_line}
+use Rattle.report_text.specs.Reports.{listed, shown}
+use Rattle.program_reports.specs.ProgramReports.{TellsPoint}
+use Rattle.program_reports.specs.private.Verdicts.{verdict}
+
+nothing_listed : (b : Bool) → (if b then [] else shown None) ≡ []
+nothing_listed true = refl
+nothing_listed false = refl
+
+module _ (i : ℕ) (options : Options) (reached : Type 0) where
+  abbrev lines : Option Listing → List ℕ
+  lines listing = query_line i (verdict listing) ++ listed options listing
+
+  -- the lines tell whether the point is reached, by whether there is a listing
+  told : (text : List ℕ) (listing : Option Listing) → text ≡ lines listing → ((listing ≡ None → ⊥) ↔ reached)
+      → (reached × (text ≡ query_line i (codes "reachable") ++ listed options listing)) ⊎ ((reached → ⊥) × (text ≡ query_line i (codes "unreachable")))
+  told text None is tells =
+      inr ((λ yes. tells.1 yes refl), is ∙ ap (λ l. query_line i (codes "unreachable") ++ l) (nothing_listed options.brief) ∙ append-nil (query_line i (codes "unreachable")))
+  told text (Some l) is tells = inl (tells.0 (λ none. cc), is)
+
+-- the lines of an answer tell of the point
+pub tells : (options : Options) (p : ParsedProgram) (system : Pushdown ℕ Parts RelMap) (i : ℕ) (point : Point) (text : List ℕ) (a : Answer ℕ Parts RelMap)
+    → system.semiring ≡ variables (program_of p)
+    → IsAnswer relation_operations system options.by options.workers (entry_pattern (program_of p)) (point_pattern (program_of p) point) a
+    → (a.value ≢ (relation_operations (variables (program_of p))).zero) ↔ IsReached (program_of p) point
+    → text ≡ query_line i (verdict a.listing) ++ listed options a.listing → TellsPoint options p system i point text
+tells options p system i point text a semiring is decided lines_are =
+    let unlisted : (a.listing ≡ None) ↔ (a.value ≡ (relation_operations (variables (program_of p))).zero) =
+    subst (λ n. (a.listing ≡ None) ↔ (a.value ≡ (relation_operations n).zero)) semiring is.shows.unlisted in
+    record {
+      answer = a;
+      is_answer = is;
+      decided = decided;
+      told = told i options (IsReached (program_of p) point) text a.listing lines_are
+          ((λ some. decided.0 (λ zero. some (unlisted.1 zero))), (λ yes none. decided.1 yes (unlisted.0 none)));
+    }

@@ -1,0 +1,2 @@
+pub mod ProgramReports
+pub mod private

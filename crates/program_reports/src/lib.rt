@@ -1,0 +1,11 @@
+//! The report on a Boolean program: each query's point, as the program's machine reaches it or not.
+#![tactic(auto)]
+
+mod asked;
+mod laws;
+mod lines;
+mod patterns;
+mod report;
+
+pub use laws::answers_tell_points;
+pub use report::report_on_program;

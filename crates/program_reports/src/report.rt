@@ -1,0 +1,139 @@
+//! The report on a program, query by query.
+
+ghost use Rattle.std.specs.Prelude.{◌≡◌, IfOk, IfSome};
+ghost use Rattle.boolean_programs.specs.declared.point.Point.{Point as PointValue};
+ghost use Rattle.program_laws.specs.ReadPrograms.{IsProgram, IsPoint};
+ghost use Rattle.worker_pool.specs.Workers.{IsWorkerCount};
+ghost use Rattle.program_reports.specs.ProgramReports.{TellsPoint, IsProgramReport};
+ghost use Rattle.program_reports.specs.private.Asked.{IsAsked, Serves, program_in};
+
+use crate::answers_tell_points;
+use crate::asked::Asked;
+use crate::lines::point_lines;
+use boolean_programs::{Point, Program};
+use query_answers::{Saturation, answer_over, saturate};
+use relation_weights::Relations;
+use report_text::Options;
+use std::alloc::Global;
+use std::sync::Wait;
+use std::thread::Threads;
+use witness_graph::Side;
+use wpds_base::OutOfMemory;
+use wpds_port::{Gate, Text};
+
+// The saturation for a point.
+fn saturation_for<'s, H: Threads + Wait + Sync, G: Gate>(
+    rt: &H,
+    alloc: Global,
+    asked: &'s Asked<'_>,
+    point: Point,
+    gate: &G,
+) -> Result<Saturation<'s, Relations>, OutOfMemory>
+    requires asked { IsAsked asked.now }
+    requires point { IsPoint (program_in asked.now) point }
+    requires workers { IsWorkerCount asked.now.options.workers }
+    ensures { IfOk result (Serves asked.now point) }
+{
+    let pattern = asked.opened(alloc, point)?;
+    saturate(
+        rt,
+        alloc,
+        &asked.lowering.system,
+        asked.options.by,
+        asked.options.workers,
+        &pattern,
+        gate,
+    )
+}
+
+// The saturation that serves every point, where there is one: forwards all runs begin at main's
+// first line.
+fn shared_saturation<'s, H: Threads + Wait + Sync, G: Gate>(
+    rt: &H,
+    alloc: Global,
+    asked: &'s Asked<'_>,
+    gate: &G,
+) -> Result<Option<Saturation<'s, Relations>>, OutOfMemory>
+    requires asked { IsAsked asked.now }
+    requires workers { IsWorkerCount asked.now.options.workers }
+    ensures { IfOk result (λ o. IfSome o (λ s. (point : PointValue) → Serves asked.now point s)) }
+{
+    match asked.options.by {
+        Side::Pre => Ok(None),
+        Side::Post => Ok(Some(saturation_for(rt, alloc, asked, asked.entry(), gate)?)),
+    }
+}
+
+// The lines of the query for a point with a number, over a saturation for the point.
+fn lines_over(
+    alloc: Global,
+    asked: &Asked<'_>,
+    saturation: &Saturation<'_, Relations>,
+    number: u64,
+    point: Point,
+) -> Result<Text, OutOfMemory>
+    requires asked { IsAsked asked.now }
+    requires point { IsPoint (program_in asked.now) point }
+    requires serves { Serves asked.now point saturation.now }
+    ensures { let a = asked.now in
+        IfOk result (TellsPoint a.options a.program.now a.lowering.system number point) }
+{
+    answers_tell_points();
+    let summed = asked.summed(alloc, point)?;
+    let answer = answer_over(alloc, saturation, &summed)?;
+    point_lines(alloc, number, &answer.listing, asked.options)
+}
+
+// The lines of the query for a point with a number, over the saturation that serves every point, or
+// over one of its own where there is none.
+fn lines_of<H: Threads + Wait + Sync, G: Gate>(
+    rt: &H,
+    alloc: Global,
+    asked: &Asked<'_>,
+    shared: &Option<Saturation<'_, Relations>>,
+    number: u64,
+    point: Point,
+    gate: &G,
+) -> Result<Text, OutOfMemory>
+    requires asked { IsAsked asked.now }
+    requires workers { IsWorkerCount asked.now.options.workers }
+    requires point { IsPoint (program_in asked.now) point }
+    requires serves { IfSome shared.now (λ s. (point : PointValue) → Serves asked.now point s) }
+    ensures { let a = asked.now in
+        IfOk result (TellsPoint a.options a.program.now a.lowering.system number point) }
+{
+    match shared {
+        Some(saturation) => lines_over(alloc, asked, saturation, number, point),
+        None => {
+            let saturation = saturation_for(rt, alloc, asked, point, gate)?;
+            lines_over(alloc, asked, &saturation, number, point)
+        }
+    }
+}
+
+/// The report on a Boolean program: for each query `reachable`, with the listing unless that is
+/// left out, exactly where some state of some run of the program's machine has the query's point on
+/// top, and `unreachable` exactly where none has. Forwards all queries share one saturation;
+/// backwards each has its own. Refused only when out of memory. Two workers or more have a thread
+/// each, and each worker calls the gate between taking a transition and settling it.
+pub fn report_on_program<H: Threads + Wait + Sync, G: Gate>(
+    rt: &H,
+    alloc: Global,
+    program: &Program,
+    options: Options,
+    gate: &G,
+) -> Result<Text, OutOfMemory>
+    requires program { IsProgram program.now }
+    requires workers { IsWorkerCount options.workers }
+    ensures { IfOk result (IsProgramReport options program.now) }
+{
+    let asked = Asked::of(alloc, program, options)?;
+    let shared = shared_saturation(rt, alloc, &asked, gate)?;
+    let mut text = Vec::new(alloc);
+    for (place, point) in program.queries.as_slice().iter().enumerate() {
+        let number = place as u64 + 1;
+        let lines = lines_of(rt, alloc, &asked, &shared, number, *point, gate)?;
+        text.extend_from_slice(lines.as_bytes())?;
+    }
+    Ok(Text::from_vec(text))
+}
