@@ -1,6 +1,6 @@
 -- Texts of a part for each query.
-use Rattle.std.proofs.Common.{◌≡◌, ℕ, ◌+◌, ◌<◌, List, [], ◌∷◌, ◌++◌, length, get_or, take, refl, sym, ap, subst, ◌∙◌, append-nil, append_assoc, arith}
-use Rattle.std.proofs.lemmas.List.{take_more, length-take-le}
+use Rattle.std.proofs.Common.{◌≡◌, ℕ, ◌+◌, ◌<◌, ◌≤◌, List, [], ◌∷◌, ◌++◌, length, get_or, take, refl, sym, ap, subst, ◌∙◌, append-nil, append_assoc, arith}
+use Rattle.std.proofs.lemmas.List.{take_more, take_all, length-take-le}
 use Rattle.report_text.specs.Reports.{ByQuery}
 
 module _ {Q : Type 0} (P : ℕ → Q → List ℕ → Type 0) where
@@ -19,9 +19,13 @@ module _ {Q : Type 0} (P : ℕ → Q → List ℕ → Type 0) where
       )
 
   -- the query at a place more
-  pub one_query_more : (qs : List Q) (place : ℕ) (q : Q) (text part : List ℕ) → place < length qs → q ≡ get_or qs place q → ByQuery P 1 (take place qs) text → P (place + 1) q part
+  pub one_query_more : (qs : List Q) (place : ℕ) (d : Q) (text part : List ℕ) → place < length qs → ByQuery P 1 (take place qs) text → P (place + 1) (get_or qs place d) part
       → ByQuery P 1 (take (place + 1) qs) (text ++ part)
-  one_query_more qs place q text part within at is holds =
-      let more : take (place + 1) qs ≡ take place qs ++ q ∷ [] = take_more qs place q within ∙ ap (λ x. take place qs ++ x ∷ []) (sym at) in
+  one_query_more qs place d text part within is holds =
+      let q = get_or qs place d in
       let count : place + 1 ≡ 1 + length (take place qs) = omega (arith, length-take-le place qs (omega (arith, within))) in
-      subst (λ xs. ByQuery P 1 xs (text ++ part)) (sym more) (one_more 1 (take place qs) text q part is (subst (λ k. P k q part) count holds))
+      subst (λ xs. ByQuery P 1 xs (text ++ part)) (sym (take_more qs place d within)) (one_more 1 (take place qs) text q part is (subst (λ k. P k q part) count holds))
+
+  -- all queries
+  pub all_queries : (qs : List Q) (place : ℕ) (text : List ℕ) → length qs ≤ place → ByQuery P 1 (take place qs) text → ByQuery P 1 qs text
+  all_queries qs place text past is = subst (λ xs. ByQuery P 1 xs text) (take_all place qs past) is

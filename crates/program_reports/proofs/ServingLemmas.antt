@@ -1,5 +1,5 @@
 -- The patterns of a query, and the saturations that serve it.
-use Rattle.std.proofs.Common.{◌≡◌, ℕ, ◌<◌, ◌≤◌, zero, suc, ◌+◌, List, [], ◌∷◌, refl, sym, ap, ◌∙◌, subst, arith}
+use Rattle.std.proofs.Common.{◌≡◌, ℕ, ◌<◌, ◌≤◌, zero, suc, ◌+◌, true, false, List, [], ◌∷◌, refl, sym, ap, ◌∙◌, subst, arith}
 use Rattle.std.specs.Prelude.{All, Result, Ok, Err, IfOk}
 use Rattle.std.specs.List.{range_with_len, AllByRecursion}
 use Rattle.std.proofs.lemmas.List.Elements.{All-from_recursion, All-cons, All-nil}
@@ -50,6 +50,15 @@ module _ (n : ℕ) where
         control = omega arith;
         sets = All-cons IsBelow (record { set = g ∷ []; star = false }) (any ∷ []) (one_below g low) (All-cons IsBelow any [] all (All-nil IsBelow));
       }
+
+-- both patterns of a query have the one control
+pub opened_within : (by : Side) (p : Program) (point : Point) (controls : ℕ) → controls ≡ 1 → (opened_of by (entry_pattern p) (point_pattern p point)).control < controls
+opened_within Pre p point controls one = omega arith
+opened_within Post p point controls one = omega arith
+
+pub summed_within : (by : Side) (p : Program) (point : Point) (controls : ℕ) → controls ≡ 1 → (summed_of by (entry_pattern p) (point_pattern p point)).control < controls
+summed_within Pre p point controls one = omega arith
+summed_within Post p point controls one = omega arith
 
 -- ---- saturations
 

@@ -16,9 +16,15 @@ use Rattle.path_sum.specs.declared.answer.Answer.{Answer}
 use Rattle.query_answers.specs.Answering.{IsAnswer}
 use Rattle.report_text.specs.declared.options.Options.{Options}
 use Rattle.report_text.specs.Listings.{query_line}
-use Rattle.report_text.specs.Reports.{listed, shown}
-use Rattle.program_reports.specs.ProgramReports.{TellsPoint}
+use Rattle.report_text.specs.Reports.{ByQuery, listed, shown}
+use Rattle.program_reports.specs.ProgramReports.{TellsPoint, IsProgramReport}
+use Rattle.program_reports.specs.declared.asked.Asked.{Asked}
+use Rattle.program_reports.specs.private.Asked.{IsAsked}
 use Rattle.program_reports.specs.private.Verdicts.{verdict}
+
+-- one exactly where the second, and the second exactly where the third
+pub through : {A B C : Type 0} → (A ↔ B) → (B ↔ C) → A ↔ C
+through first second = ((λ a. second.0 (first.0 a)), (λ c. first.1 (second.1 c)))
 
 nothing_listed : (b : Bool) → (if b then [] else shown None) ≡ []
 nothing_listed true = refl
@@ -51,3 +57,15 @@ tells options p system i point text a semiring is decided lines_are =
       told = told i options (IsReached (program_of p) point) text a.listing lines_are
           ((λ some. decided.0 (λ zero. some (unlisted.1 zero))), (λ yes none. decided.1 yes (unlisted.0 none)));
     }
+
+-- what is told of each query over a lowering is the report
+pub reported : (a : Asked) (options : Options) (p : ParsedProgram) (text : List ℕ) → IsAsked a → a.program.now ≡ p → a.options ≡ options
+    → ByQuery (TellsPoint a.options a.program.now a.lowering.system) 1 a.program.now.queries text → IsProgramReport options p text
+reported a options p text is program_is options_are told =
+    let report : IsProgramReport a.options a.program.now text = record {
+      system = a.lowering.system;
+      is_system = is.valid;
+      lowering = is.lowering;
+      told = told;
+    } in
+    subst (λ q. IsProgramReport options q text) program_is (subst (λ o. IsProgramReport o a.program.now text) options_are report)

@@ -4,6 +4,7 @@ ghost use Rattle.std.specs.Prelude.{◌≡◌, IfOk, IfSome};
 ghost use Rattle.boolean_programs.specs.declared.point.Point.{Point as PointValue};
 ghost use Rattle.program_laws.specs.ReadPrograms.{IsProgram, IsPoint};
 ghost use Rattle.worker_pool.specs.Workers.{IsWorkerCount};
+ghost use Rattle.report_text.specs.Reports.{ByQuery};
 ghost use Rattle.program_reports.specs.ProgramReports.{TellsPoint, IsProgramReport};
 ghost use Rattle.program_reports.specs.private.Asked.{IsAsked, Serves, program_in};
 
@@ -111,6 +112,29 @@ fn lines_of<H: Threads + Wait + Sync, G: Gate>(
     }
 }
 
+// The lines of all queries, in order.
+fn all_lines<H: Threads + Wait + Sync, G: Gate>(
+    rt: &H,
+    alloc: Global,
+    asked: &Asked<'_>,
+    shared: &Option<Saturation<'_, Relations>>,
+    gate: &G,
+) -> Result<Text, OutOfMemory>
+    requires asked { IsAsked asked.now }
+    requires workers { IsWorkerCount asked.now.options.workers }
+    requires serves { IfSome shared.now (λ s. (point : PointValue) → Serves asked.now point s) }
+    ensures { let a = asked.now in let tells = TellsPoint a.options a.program.now a.lowering.system in
+        IfOk result (ByQuery tells 1 a.program.now.queries) }
+{
+    let mut text = Vec::new(alloc);
+    for (place, point) in asked.program.queries.as_slice().iter().enumerate() {
+        let number = place as u64 + 1;
+        let lines = lines_of(rt, alloc, asked, shared, number, *point, gate)?;
+        text.extend_from_slice(lines.as_bytes())?;
+    }
+    Ok(Text::from_vec(text))
+}
+
 /// The report on a Boolean program: for each query `reachable`, with the listing unless that is
 /// left out, exactly where some state of some run of the program's machine has the query's point on
 /// top, and `unreachable` exactly where none has. Forwards all queries share one saturation;
@@ -129,11 +153,5 @@ pub fn report_on_program<H: Threads + Wait + Sync, G: Gate>(
 {
     let asked = Asked::of(alloc, program, options)?;
     let shared = shared_saturation(rt, alloc, &asked, gate)?;
-    let mut text = Vec::new(alloc);
-    for (place, point) in program.queries.as_slice().iter().enumerate() {
-        let number = place as u64 + 1;
-        let lines = lines_of(rt, alloc, &asked, &shared, number, *point, gate)?;
-        text.extend_from_slice(lines.as_bytes())?;
-    }
-    Ok(Text::from_vec(text))
+    all_lines(rt, alloc, &asked, &shared, gate)
 }
