@@ -1,6 +1,6 @@
 -- An input is accepted or refused, and not both.
 use Rattle.std.proofs.Common.{◌≡◌, inl, inr, ℕ, Bool, true, false, List, [], ◌∷◌, refl, sym, ◌∙◌}
-use Rattle.std.specs.Prelude.{Option, None, Some, option_map, option_and_then, unwrap_or}
+use Rattle.std.specs.Prelude.{Result, Ok, Err, Option, None, Some, option_map, option_and_then, unwrap_or}
 use Rattle.wpds_port.specs.declared.Word.{Word}
 use Rattle.wpds_port.specs.declared.refusal.Refusal.{Refusal}
 use Rattle.wpds_port.specs.declared.refusal.Kind.TheVariants.{Header}
@@ -10,11 +10,11 @@ use Rattle.document_forms.specs.Documents.{Document, reads_as}
 use Rattle.document_forms.specs.FirstRefusal.{Counted, FirstRefusal, AreAccepted, all_symbols, counted_lines, is_header_line, missing}
 use Rattle.document_forms.specs.Forms.{is_header}
 use Rattle.document_forms.specs.Languages.{language_named, language_on}
-use Rattle.document_forms.specs.declared.language.Language.TheVariants.{System as SystemLanguage, Program}
+use Rattle.document_forms.specs.declared.language.Language.TheVariants.{System as SystemLanguage, Program as ProgramLanguage}
 use Rattle.wpds_app.specs.declared.input.Input.{Input}
-use Rattle.wpds_app.specs.declared.input.Input.TheVariants.{System}
+use Rattle.wpds_app.specs.declared.input.Input.TheVariants.{System, Program}
 use Rattle.program_forms.specs.Programs.{read_as}
-use Rattle.wpds_app.specs.Running.{Means, IsProgram, IsRefusalOf, IsRefused, IsUnread}
+use Rattle.wpds_app.specs.Running.{Means, IsProgram, IsRefused, IsUnread}
 
 -- what the law on documents says
 abbrev pub NeverBoth : Type 0
@@ -37,16 +37,18 @@ first_named all (h ∷ ls) accepted whole = named h.words (go (is_header_line h)
 no_program : (input : List ℕ) (d : Document) → reads_as input d → IsProgram input → ⊥
 no_program input d is program =
     let system = first_named (all_symbols (counted_lines input)) (counted_lines input) is.accepted is.whole in
-    let both : Some SystemLanguage ≡ Some Program = sym system ∙ program.1 in
+    let both : Some SystemLanguage ≡ Some ProgramLanguage = sym system ∙ program.1 in
     cc
 
 pub accepted_not_refused : NeverBoth → (input : List ℕ) (meaning : Input) (r : Refusal) → Means input meaning → IsRefused input r → ⊥
 accepted_not_refused both input (System d) r means (inl program) = no_program input d means program.0
 accepted_not_refused both input (System d) r means (inr system) = both input d r means system.1
+accepted_not_refused both input (Program p) r means (inl program) = let bad : Ok p ≡ Err r = sym means.1 ∙ program.1 in cc
+accepted_not_refused both input (Program p) r means (inr system) = system.0 means.0
 
 -- ---- why an input is not read
 
-pub unread_program : (input : List ℕ) (fault : ReadFaultValue) → IsProgram input → ((r : Refusal) → fault ≡ Refused r → IsRefusalOf (read_as input) r) → IsUnread input fault
+pub unread_program : (input : List ℕ) (fault : ReadFaultValue) → IsProgram input → ((r : Refusal) → fault ≡ Refused r → read_as input ≡ Err r) → IsUnread input fault
 unread_program input (Refused r) program refused = inl (program, refused r refl)
 unread_program input Memory program refused = tt
 

@@ -6,10 +6,11 @@ use Rattle.std.proofs.lemmas.Option.{slice_get_cases, slice_get_read, get_or_fro
 use Rattle.document_forms.specs.Documents.{Document}
 use Rattle.document_forms.specs.declared.document.QueryLine.{QueryLine}
 use Rattle.document_systems.specs.Kinds.{Kind}
-use Rattle.command_words.specs.declared.options.Options.{Options}
-use Rattle.wpds_app.specs.Reports.{ByQuery, TellsQuery}
+use Rattle.report_text.specs.declared.options.Options.{Options}
+use Rattle.report_text.specs.Reports.{ByQuery}
+use Rattle.wpds_app.specs.Reports.{TellsQuery}
 use Rattle.wpds_app.specs.private.Kept.{TellsAt, AreKept}
-use Rattle.wpds_app.proofs.PartLemmas.{one_more}
+use Rattle.report_text.proofs.CallerLemmas.{one_more}
 
 -- what stands at a place after a change of one place
 changed : {X : Type 0} (xs : List X) (i k : ℕ) (y z : X) → slice_get (set xs i y) k ≡ Some z → ((k ≡ i) × (z ≡ y)) ⊎ (slice_get xs k ≡ Some z)

@@ -1,7 +1,6 @@
 mod InputLemmas
 mod KeptLemmas
 mod LadderLemmas
-mod PartLemmas
 mod QueryLemmas
 mod ReplyLemmas
 mod ReportLemmas

@@ -16,8 +16,9 @@ use Rattle.config_patterns.specs.Membership.{PatternValue, has_member}
 use Rattle.witness_graph.specs.declared.listing.Listing.{Listing}
 use Rattle.document_systems.specs.Weights.{cost_text}
 use Rattle.report_text.specs.Listings.{query_line}
-use Rattle.command_words.specs.declared.options.Options.{Options}
-use Rattle.wpds_app.specs.Reports.{shown, query_text, IsCheapest, TellsCost}
+use Rattle.report_text.specs.declared.options.Options.{Options}
+use Rattle.report_text.specs.Reports.{shown, shown_runs, below, query_text}
+use Rattle.wpds_app.specs.Reports.{IsCheapest, TellsCost}
 
 -- ---- a line tells its value
 
@@ -55,14 +56,16 @@ pub clean_unreachable : IsClean (codes "unreachable")
 clean_unreachable = (refl, (refl, (refl, (refl, (refl, (refl, (refl, (refl, (refl, (refl, (refl, tt)))))))))))
 
 pub told_unreachable : (i : ℕ) (options : Options) (w text : List ℕ) (listing : Option Listing) → text ≡ query_text i options w listing → text ≡ query_line i (codes "unreachable") → w ≡ codes "unreachable"
-told_unreachable i options w text listing told e = same_line i w (codes "unreachable") (if options.brief then [] else shown listing) clean_unreachable (sym told ∙ e)
+told_unreachable i options w text listing told e = same_line i w (codes "unreachable") (below options listing) clean_unreachable (sym told ∙ e)
 
 pub unlisted_line : (i : ℕ) (options : Options) (w : List ℕ) (listing : Option Listing) → listing ≡ None → query_text i options w listing ≡ query_line i w
-unlisted_line i options w listing none = go options.brief
+unlisted_line i options w listing none = ap (λ l. query_line i w ++ below options l) none ∙ go options.brief options.traces
   where
-    go : (brief : Bool) → query_line i w ++ (if brief then [] else shown listing) ≡ query_line i w
-    go true = append-nil (query_line i w)
-    go false = ap (λ l. query_line i w ++ shown l) none ∙ append-nil (query_line i w)
+    go : (brief traces : Bool) → query_line i w ++ ((if brief then [] else shown None) ++ (if traces then shown_runs None else [])) ≡ query_line i w
+    go true true = append-nil (query_line i w)
+    go true false = append-nil (query_line i w)
+    go false true = append-nil (query_line i w)
+    go false false = append-nil (query_line i w)
 
 -- ---- costs
 
@@ -113,7 +116,7 @@ module _ (p : Pushdown ℕ (Option ℕ) NoMap) (from to : PatternValue) where
           let same = eqb-true n p.semiring is in
           inr (inr (
             subst (IsCheapest p from to) same cheap,
-            (if options.brief then [] else shown listing),
+            below options listing,
             told ∙ ap (λ b. query_text i options (decimal n ++ (if b then codes " or more" else codes "")) listing) is
                 ∙ ap (λ k. query_text i options (decimal k ++ codes " or more") listing) same,
           ))
@@ -125,7 +128,7 @@ module _ (p : Pushdown ℕ (Option ℕ) NoMap) (from to : PatternValue) where
               | inr more ↦ (let f : true ≡ false = sym (eq-eqb n p.semiring (omega (arith, low, more))) ∙ is in cc)
             ],
             cheap,
-            (if options.brief then [] else shown listing),
+            below options listing,
             told ∙ ap (λ b. query_text i options (decimal n ++ (if b then codes " or more" else codes "")) listing) is
                 ∙ ap (λ l. query_text i options l listing) (append-nil (decimal n)),
           ))

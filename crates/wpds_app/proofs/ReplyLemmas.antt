@@ -7,7 +7,7 @@ use Rattle.std.proofs.lemmas.List.{take_all}
 use Rattle.wpds_port.specs.Refusals.{refusal_text}
 use Rattle.wpds_port.specs.declared.refusal.Refusal.{Refusal}
 use Rattle.wpds_app.specs.declared.input.Input.{Input}
-use Rattle.command_words.specs.declared.options.Options.{Options}
+use Rattle.report_text.specs.declared.options.Options.{Options}
 use Rattle.wpds_app.specs.declared.status.Status.{Status}
 use Rattle.wpds_app.specs.declared.status.Status.TheVariants.{Answered, WordsRefused, ReadFault, WriteFault, DocumentRefused, OutOfMemory}
 use Rattle.wpds_app.specs.declared.reply.Reply.{Reply}

@@ -23,10 +23,11 @@ use Rattle.pushdown_rules.specs.Configuration.{Configuration}
 use Rattle.document_systems.specs.Weights.{reach_kind, reach_text, reach_weight}
 use Rattle.document_systems.specs.Systems.{rule_of, system_of, side_of}
 use Rattle.path_sum.specs.Answers.{listed_runs}
-use Rattle.command_words.specs.declared.options.Options.{Options}
-use Rattle.wpds_app.specs.Reports.{ByQuery, shown, query_text, IsQueryText, BySemiring, IsReported, IsReport, LeadsOn, IsReachable, TellsReachability}
+use Rattle.report_text.specs.declared.options.Options.{Options}
+use Rattle.report_text.specs.Reports.{ByQuery, below, query_text}
+use Rattle.wpds_app.specs.Reports.{IsQueryText, BySemiring, IsReported, IsReport, LeadsOn, IsReachable, TellsReachability}
 use Rattle.wpds_app.proofs.QueryLemmas.{unlisted_line}
-use Rattle.wpds_app.proofs.PartLemmas.{of_each}
+use Rattle.report_text.proofs.CallerLemmas.{of_each}
 
 -- ---- with reachability a run has the value one exactly where each of its rules has
 
@@ -201,7 +202,7 @@ module _ (d : Document) where
         go true e =
             inl (
               reached (listed_runs is.answer.listing) is.is_answer.shows.answers.lead (sym e ∙ is.is_answer.shows.answers.combined),
-              (if options.brief then [] else shown is.answer.listing),
+              below options is.answer.listing,
               is.told ∙ ap (λ v. query_text i options (reach_text v) is.answer.listing) e,
             )
         go false e =

@@ -23,8 +23,9 @@ use Rattle.witness_graph.specs.declared.node.Side.{Side}
 use Rattle.witness_graph.specs.declared.node.Side.TheVariants.{Pre, Post}
 use Rattle.document_systems.specs.Systems.{side_of}
 use Rattle.wpds_app.specs.private.Kept.{opened_text, summed_text}
-use Rattle.command_words.specs.declared.options.Options.{Options}
-use Rattle.wpds_app.specs.Reports.{ByQuery, shown, query_text, IsQueryText, IsReported, BySemiring, IsInfeasible, TellsFeasibilityOver}
+use Rattle.report_text.specs.declared.options.Options.{Options}
+use Rattle.report_text.specs.Reports.{ByQuery, shown, shown_runs, traced, query_text}
+use Rattle.wpds_app.specs.Reports.{IsQueryText, IsReported, BySemiring, IsBrief, IsInfeasible, TellsFeasibilityOver}
 
 -- ---- the sides of a query, by direction
 
@@ -106,8 +107,10 @@ by_weights d options report Relation items reach cost facts copy relation named 
 -- ---- reports without listings
 
 -- without listings the text of a query has its value alone
-pub brief_text : (i : ℕ) (options : Options) (value : List ℕ) (listing : Option Listing) → options.brief ≡ true → query_text i options value listing ≡ query_line i value ++ []
-brief_text i options value listing is = ap (λ b. query_line i value ++ (if b then [] else shown listing)) is
+pub brief_text : (i : ℕ) (options : Options) (value : List ℕ) (listing : Option Listing) → IsBrief options → query_text i options value listing ≡ query_line i value ++ []
+brief_text i options value listing is =
+    ap (λ b. query_line i value ++ ((if b then [] else shown listing) ++ traced options listing)) is.0
+    ∙ ap (λ b. query_line i value ++ (if b then shown_runs listing else [])) is.1
 
 -- two reports over this semiring are equal
 abbrev pub AgreeOver : {S W Map : Type 0} → Kind S W Map → S → Document → Options → Options → List ℕ → List ℕ → Type 0

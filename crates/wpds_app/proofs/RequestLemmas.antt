@@ -3,7 +3,7 @@ use Rattle.std.proofs.Common.{◌≡◌, ◌≢◌, ◌↔◌, ◌⊎◌, ℕ, t
 use Rattle.wpds_port.specs.Writing.{AppendsPart}
 use Rattle.std.specs.Io.KnownBytes.{Appends}
 use Rattle.command_words.specs.Commands.{request_of}
-use Rattle.command_words.specs.declared.options.Options.{Options}
+use Rattle.report_text.specs.declared.options.Options.{Options}
 use Rattle.command_words.specs.declared.options.Request.{Request}
 use Rattle.command_words.specs.declared.options.Request.TheVariants.{Help, Version, Check, Generate}
 use Rattle.wpds_app.specs.declared.status.Status.{Status}

@@ -1,7 +1,7 @@
 -- What is written for words alone.
 use Rattle.std.specs.Prelude.{◌≡◌, ℕ, List, ◌++◌, Some, codes}
 use Rattle.command_words.specs.Commands.{request_of}
-use Rattle.command_words.specs.declared.options.Options.{Options}
+use Rattle.report_text.specs.declared.options.Options.{Options}
 use Rattle.command_words.specs.declared.options.Request.{Request}
 use Rattle.command_words.specs.declared.options.Request.TheVariants.{Check}
 
@@ -23,15 +23,17 @@ version_text = codes "wpds 0.1.0\n"
 
 abbrev pub help_text : List ℕ
 help_text =
-    codes "Says what the runs of a pushdown system are worth, with runs that show it.\n\n"
-    ++ codes "usage: wpds check [--workers N] [--by pre|post] [--brief]\n"
+    codes "Says what the runs of a pushdown system are worth, or which points of a Boolean program\n"
+    ++ codes "are reached, with runs that show it.\n\n"
+    ++ codes "usage: wpds check [--workers N] [--by pre|post] [--brief] [--traces]\n"
     ++ codes "usage: wpds gen N [--workers N] [--by pre|post]\n\n"
     ++ codes "check            answers the queries of the document on standard input\n"
     ++ codes "gen N            answers a ladder of N rungs, from 1 to 10000, that it makes itself\n\n"
     ++ codes "--workers N      how many workers saturate, from 1 to 64 (1 if it is not given)\n"
     ++ codes "--by pre|post    backwards from where runs end, or forwards from where they begin\n"
     ++ codes "                 (pre if it is not given)\n"
-    ++ codes "--brief          values alone, without the runs that they combine; not with gen\n"
+    ++ codes "--brief          without the listing of the runs that a value combines; not with gen\n"
+    ++ codes "--traces         these runs rule by rule, or of a program the states of one; not with gen\n"
     ++ codes "-h, --help       writes this text\n"
     ++ codes "-V, --version    writes the version\n\n"
     ++ codes "example: wpds check --by post --brief < examples/cost.wpds\n"

@@ -1,5 +1,5 @@
 -- The report on a document.
-use Rattle.std.specs.Prelude.{◌≡◌, ◌≢◌, ◌⊎◌, ◌↔◌, ℕ, ◌+◌, ◌<◌, ◌≤◌, Bool, List, [], ◌∷◌, ◌++◌, length, Option, None, Some, IfSome, codes, decimal, slice_get, if◌then◌else◌}
+use Rattle.std.specs.Prelude.{◌≡◌, ◌≢◌, ◌⊎◌, ◌↔◌, ℕ, ◌+◌, ◌<◌, ◌≤◌, Bool, false, IsTrue, List, [], ◌∷◌, ◌++◌, length, Option, None, Some, IfSome, codes, decimal, slice_get}
 use Rattle.std.specs.List.{AllByRecursion}
 use Rattle.semiring_laws.specs.declared.reach.NoMap.{NoMap}
 use Rattle.semiring_laws.specs.declared.reach.Reach.{Reach as ReachValue}
@@ -17,7 +17,6 @@ use Rattle.pushdown_rules.specs.Pushdown.{Pushdown}
 use Rattle.pushdown_rules.specs.Values.{value_of}
 use Rattle.pushdown_rules.specs.Answers.{Leads, HasNoFeasibleRun}
 use Rattle.config_patterns.specs.Membership.{PatternValue, has_member}
-use Rattle.witness_graph.specs.declared.listing.Listing.{Listing}
 use Rattle.document_forms.specs.Documents.{Document}
 use Rattle.document_forms.specs.declared.document.QueryLine.{QueryLine}
 use Rattle.document_forms.specs.declared.weight.WeightText.TheVariants.{Zero}
@@ -29,23 +28,11 @@ use Rattle.document_systems.specs.FactWeights.{genkill_kind}
 use Rattle.document_systems.specs.RelationWeights.{relation_kind}
 use Rattle.document_systems.specs.Weights.{reach_kind, cost_kind}
 use Rattle.document_systems.specs.Systems.{system_of, side_of}
-use Rattle.report_text.specs.Listings.{query_line, listing_text}
+use Rattle.report_text.specs.declared.options.Options.{Options}
+use Rattle.report_text.specs.Listings.{query_line}
+use Rattle.report_text.specs.Reports.{ByQuery, query_text}
 use Rattle.path_sum.specs.declared.answer.Answer.{Answer}
 use Rattle.query_answers.specs.Answering.{IsAnswer}
-use Rattle.command_words.specs.declared.options.Options.{Options}
-
--- The text is a part for each query, one after the other, numbered from here on, and this holds of each number, query and part.
-abbrev pub ByQuery : (ℕ → QueryLine → List ℕ → Type 0) → ℕ → List QueryLine → List ℕ → Type 0
-ByQuery holds i [] text = text ≡ []
-ByQuery holds i (q ∷ qs) text = (part : List ℕ) × (rest : List ℕ) × (text ≡ part ++ rest) × holds i q part × ByQuery holds (i + 1) qs rest
-
-abbrev pub shown : Option Listing → List ℕ
-shown None = []
-shown (Some l) = listing_text l.side l.nodes
-
--- the lines of a query: its value, and its listing unless that is left out
-abbrev pub query_text : ℕ → Options → List ℕ → Option Listing → List ℕ
-query_text i options value listing = query_line i value ++ (if options.brief then [] else shown listing)
 
 module _ {S W Map : Type 0} (kind : Kind S W Map) (options : Options) where
   -- The text tells an answer to the query with a number, for runs of a system from a pattern to a pattern.
@@ -80,6 +67,10 @@ ByDocument holds d = BySemiring holds d.weights (length d.items)
 abbrev pub IsReport : Options → Document → List ℕ → Type 0
 IsReport options d report =
     ByDocument (λ S W Map kind semiring. IsReported kind options semiring d report) d
+
+-- values alone are written
+abbrev pub IsBrief : Options → Type 0
+IsBrief options = IsTrue options.brief × (options.traces ≡ false)
 
 -- ---- what the text of a query tells
 

@@ -2,14 +2,12 @@
 use Rattle.std.specs.Prelude.{◌≡◌, ℕ, ◌+◌, ◌<◌, ◌≤◌, ◌⊎◌, ◌↔◌, IsTrue, List, [], ◌∷◌, ◌++◌, Option, None, Some, Result, Ok, Err, length}
 use Rattle.std.specs.Io.KnownBytes.{Appends, Consumes, IsAtEnd}
 use Rattle.wpds_port.specs.Writing.{AppendsPart}
-use Rattle.wpds_port.specs.Refusals.{refusal, refusal_text}
+use Rattle.wpds_port.specs.Refusals.{refusal_text}
 use Rattle.wpds_port.specs.declared.refusal.Refusal.{Refusal}
-use Rattle.wpds_port.specs.declared.refusal.Kind.TheVariants.{NotBuilt}
 use Rattle.document_forms.specs.Documents.{reads_as}
 use Rattle.document_forms.specs.FirstRefusal.{FirstRefusal, is_short}
 use Rattle.document_forms.specs.Languages.{language_of}
 use Rattle.document_forms.specs.declared.language.Language.TheVariants.{Program as ProgramLanguage}
-use Rattle.boolean_programs.specs.declared.program.Program.{Program}
 use Rattle.program_forms.specs.Programs.{read_as}
 use Rattle.wpds_port.specs.declared.refusal.ReadFault.{ReadFault as ReadFaultValue}
 use Rattle.wpds_port.specs.declared.refusal.ReadFault.TheVariants.{Refused, Memory}
@@ -19,10 +17,11 @@ use Rattle.command_words.specs.declared.options.Request.{Request}
 use Rattle.command_words.specs.declared.options.Request.TheVariants.{Help, Version, Check, Generate}
 use Rattle.wpds_app.specs.Commands.{usage_text, help_text, version_text}
 use Rattle.wpds_app.specs.Generating.{IsLadderAnswer}
+use Rattle.program_reports.specs.ProgramReports.{IsProgramReport}
 use Rattle.wpds_app.specs.Reports.{IsReport}
 use Rattle.wpds_app.specs.declared.input.Input.{Input}
-use Rattle.wpds_app.specs.declared.input.Input.TheVariants.{System}
-use Rattle.command_words.specs.declared.options.Options.{Options}
+use Rattle.wpds_app.specs.declared.input.Input.TheVariants.{System, Program}
+use Rattle.report_text.specs.declared.options.Options.{Options}
 use Rattle.wpds_app.specs.declared.status.Status.{Status}
 use Rattle.wpds_app.specs.declared.status.Status.TheVariants.{Answered, WordsRefused, ReadFault, WriteFault, DocumentRefused, OutOfMemory}
 
@@ -32,22 +31,18 @@ pub record IsInput (left_before left_now : Option (List ℕ)) (input : List ℕ)
   pub limit : length input ≤ most_bytes + 1
   pub whole : length input < most_bytes + 1 → IsAtEnd left_now
 
--- what an input means that is read
-abbrev pub Means : List ℕ → Input → Type 0
-Means input (System d) = reads_as input d
-
 -- the input is a program, by its header
 abbrev pub IsProgram : List ℕ → Type 0
 IsProgram input = IsTrue (is_short input) × (language_of input ≡ Some ProgramLanguage)
 
--- The refusal of what is read as a program: its own, and of a program that is accepted that none is answered yet.
-abbrev pub IsRefusalOf : Result Program Refusal → Refusal → Type 0
-IsRefusalOf (Ok p) r = r ≡ refusal 0 NotBuilt
-IsRefusalOf (Err first) r = r ≡ first
+-- what an input means that is read
+abbrev pub Means : List ℕ → Input → Type 0
+Means input (System d) = reads_as input d
+Means input (Program p) = IsProgram input × (read_as input ≡ Ok p)
 
 -- what is refused as a program
 abbrev pub IsRefusedProgram : List ℕ → Refusal → Type 0
-IsRefusedProgram input r = IsProgram input × IsRefusalOf (read_as input) r
+IsRefusedProgram input r = IsProgram input × (read_as input ≡ Err r)
 
 -- what is refused as a system
 abbrev pub IsRefusedSystem : List ℕ → Refusal → Type 0
@@ -65,6 +60,7 @@ IsUnread input Memory = Unit {0}
 -- the report on an input
 abbrev pub IsReportOn : Options → Input → List ℕ → Type 0
 IsReportOn options (System d) report = IsReport options d report
+IsReportOn options (Program p) report = IsProgramReport options p report
 
 -- the reply to an input
 abbrev pub IsReply : List ℕ → Options → Status → List ℕ → Type 0

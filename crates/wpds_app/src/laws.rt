@@ -1,4 +1,4 @@
-ghost use Rattle.std.specs.Prelude.{◌≡◌, ◌↔◌, IsTrue, ℕ, List, Option, codes};
+ghost use Rattle.std.specs.Prelude.{◌≡◌, ◌↔◌, ℕ, List, Option, codes};
 ghost use Rattle.semiring_laws.specs.declared.reach.NoMap.{NoMap as NoMapValue};
 ghost use Rattle.pushdown_rules.specs.Pushdown.{Pushdown, IsSystem};
 ghost use Rattle.pushdown_rules.specs.Answers.{HasNoFeasibleRun};
@@ -9,8 +9,9 @@ ghost use Rattle.report_text.specs.Listings.{query_line};
 ghost use Rattle.document_forms.specs.Documents.{Document};
 ghost use Rattle.document_forms.specs.Lawful.{IsDocument};
 ghost use Rattle.document_forms.specs.declared.weight.WeightsLine.TheVariants.{Reach as ReachLine, Cost as CostLine};
-ghost use Rattle.command_words.specs.declared.options.Options.{Options as OptionsValue};
-ghost use Rattle.wpds_app.specs.Reports.{ByQuery, IsReport, IsReported, IsQueryText, TellsFeasibility, TellsFeasibilityOver, TellsReachability, TellsCost, TellsCosts};
+ghost use Rattle.report_text.specs.declared.options.Options.{Options as OptionsValue};
+ghost use Rattle.report_text.specs.Reports.{ByQuery};
+ghost use Rattle.wpds_app.specs.Reports.{IsReport, IsReported, IsQueryText, IsBrief, TellsFeasibility, TellsFeasibilityOver, TellsReachability, TellsCost, TellsCosts};
 
 use copy_weights::CopyConst;
 use cost_weights::{Cost, below_is_no_dearer};
@@ -85,21 +86,21 @@ pub fn reports_tell_feasibility()
     reports_over_tell_feasibility::<Relations>();
 }
 
-// Over one semiring two reports without listings are equal, whatever their directions.
+// Over one semiring two reports of values alone are equal, whatever their directions.
 fn brief_reports_over_agree<S: DocumentWeights>()
     ensures { (s : S) (d : Document) (one other : OptionsValue) (report text : List ℕ)
         → S.kind.named s → IsDocument d → AreTaken S.kind s d
-        → IsTrue one.brief → IsTrue other.brief
+        → IsBrief one → IsBrief other
         → IsReported S.kind one s d report → IsReported S.kind other s d text → report ≡ text }
 {
     answers_agree::<S>();
     documents_are_systems::<S>();
 }
 
-/// Two reports without listings on a document are equal: backwards and forwards the same values are written.
+/// Two reports of values alone on a document are equal: backwards and forwards the same values are written.
 pub fn brief_reports_agree()
     ensures { (d : Document) (one other : OptionsValue) (report text : List ℕ)
-        → IsDocument d → IsTrue one.brief → IsTrue other.brief
+        → IsDocument d → IsBrief one → IsBrief other
         → IsReport one d report → IsReport other d text → report ≡ text }
 {
     brief_reports_over_agree::<Reach>();

@@ -6,7 +6,7 @@ ghost use Rattle.wpds_port.specs.Causes.{Rose};
 ghost use Rattle.wpds_port.specs.Reading.{ConsumesPart};
 ghost use Rattle.wpds_port.specs.Writing.{AppendsPart};
 ghost use Rattle.wpds_app.specs.Running.{Replies, IsCutShort, IsDecided, IsDecidedBy};
-ghost use Rattle.command_words.specs.declared.options.Options.{Options};
+ghost use Rattle.report_text.specs.declared.options.Options.{Options};
 ghost use Rattle.wpds_app.specs.Commands.{IsCheck, IsCommand};
 
 use crate::Status;

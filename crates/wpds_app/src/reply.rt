@@ -5,15 +5,18 @@ ghost use Rattle.wpds_port.specs.Reading.{ConsumesPart};
 ghost use Rattle.wpds_port.specs.Refusals.{refusal_text};
 ghost use Rattle.document_forms.specs.Documents.{reads_as};
 ghost use Rattle.worker_pool.specs.Workers.{IsWorkerCount};
-ghost use Rattle.wpds_app.specs.Running.{HasReply, IsReply};
+ghost use Rattle.wpds_app.specs.Running.{HasReply, IsReply, Means};
 
 use crate::crew::Crew;
 use crate::input::{MOST_BYTES, meaning_of};
 use crate::report::report;
 use crate::{Input, Status};
-use command_words::Options;
+use boolean_programs::Program;
 use document_forms::{Document, documents_are_lawful};
 use document_systems::Names;
+use program_laws::read_programs_are_lawful;
+use program_reports::report_on_program;
+use report_text::Options;
 use std::alloc::Global;
 use std::sync::Wait;
 use std::thread::Threads;
@@ -60,6 +63,26 @@ fn reply_on_system<H: Threads + Wait + Sync, G: Gate>(
     })
 }
 
+// What is answered to a Boolean program.
+fn reply_on_program<H: Threads + Wait + Sync, G: Gate>(
+    crew: &Crew<'_, H, G>,
+    alloc: Global,
+    input: &[u8],
+    program: &Program,
+    options: Options,
+) -> Result<Reply, OutOfMemory>
+    requires program { Means input.now (Input.Program program.now) }
+    requires workers { IsWorkerCount options.workers }
+    ensures { IfOk result (λ r. IsReply input.now options r.status r.text) }
+{
+    read_programs_are_lawful();
+    let text = report_on_program(crew.rt, alloc, program, options, crew.gate)?;
+    Ok(Reply {
+        status: Status::Answered,
+        text,
+    })
+}
+
 // What is answered to an input.
 fn reply_to<H: Threads + Wait + Sync, G: Gate>(
     crew: &Crew<'_, H, G>,
@@ -72,6 +95,7 @@ fn reply_to<H: Threads + Wait + Sync, G: Gate>(
 {
     match meaning_of(alloc, input) {
         Ok(Input::System(document)) => reply_on_system(crew, alloc, input, &document, options),
+        Ok(Input::Program(program)) => reply_on_program(crew, alloc, input, &program, options),
         Err(ReadFault::Refused(refusal)) => refused(alloc, refusal),
         Err(ReadFault::Memory) => Err(OutOfMemory),
     }

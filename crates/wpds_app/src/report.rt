@@ -9,12 +9,12 @@ ghost use Rattle.document_systems.specs.RelationWeights.{relation_kind};
 ghost use Rattle.document_systems.specs.Systems.{system_of, side_of, AreTaken};
 ghost use Rattle.worker_pool.specs.Workers.{IsWorkerCount};
 ghost use Rattle.query_answers.specs.Answering.{IsFinished, IsSaturated, saturated_system};
-ghost use Rattle.wpds_app.specs.Reports.{query_text, TellsQuery, IsReported, IsReport};
+ghost use Rattle.report_text.specs.Reports.{query_text as text_of_query};
+ghost use Rattle.wpds_app.specs.Reports.{TellsQuery, IsReported, IsReport};
 ghost use Rattle.wpds_app.specs.private.Kept.{AreKept, TellsAt, opened_text, summed_text};
 
 use crate::alike::same_pattern;
 use crate::crew::Crew;
-use command_words::Options;
 use copy_weights::CopyConst;
 use cost_weights::Cost;
 use document_forms::{Document, PatternText, QueryLine, WeightsLine};
@@ -24,7 +24,7 @@ use path_sum::Answer;
 use pushdown_rules::System;
 use query_answers::{Saturation, answer_over, saturate};
 use relation_weights::Relations;
-use report_text::{listing_text, query_line};
+use report_text::{Options, query_text};
 use semiring_laws::Reach;
 use std::alloc::Global;
 use std::sync::Wait;
@@ -43,18 +43,10 @@ fn answer_lines<S: DocumentWeights>(
     options: Options,
 ) -> Result<Text, OutOfMemory>
     ensures { let value = S.kind.written semiring.now items.now answer.now.value in
-        IfOk result (λ t. t ≡ query_text number options value answer.now.listing) }
+        IfOk result (λ t. t ≡ text_of_query number options value answer.now.listing) }
 {
     let value = semiring.text_of(alloc, items, &answer.value)?;
-    let line = query_line(alloc, number, &value)?;
-    if options.brief {
-        return Ok(line);
-    }
-    let mut text = line.into_vec();
-    if let Some(listing) = &answer.listing {
-        text.extend_from_slice(listing_text(alloc, listing)?.as_bytes())?;
-    }
-    Ok(Text::from_vec(text))
+    query_text(alloc, number, &value, &answer.listing, options)
 }
 
 // The pattern of a query that a saturation starts from.

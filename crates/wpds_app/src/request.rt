@@ -3,7 +3,7 @@ ghost use Rattle.wpds_base.specs.Limits.{most_bytes};
 ghost use Rattle.wpds_port.specs.Causes.{Rose};
 ghost use Rattle.wpds_port.specs.Reading.{ConsumesPart};
 ghost use Rattle.command_words.specs.Commands.{IsWithin};
-ghost use Rattle.command_words.specs.declared.options.Options.{Options};
+ghost use Rattle.report_text.specs.declared.options.Options.{Options};
 ghost use Rattle.command_words.specs.declared.options.Request.TheVariants.{Check as CheckOf};
 ghost use Rattle.wpds_app.specs.Running.{IsOutcome};
 

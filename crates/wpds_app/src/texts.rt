@@ -8,9 +8,11 @@ const USAGE: &str =
 
 const VERSION: &str = "wpds 0.1.0\n";
 
-const HELP: &str = "Says what the runs of a pushdown system are worth, with runs that show it.
+const HELP: &str =
+    "Says what the runs of a pushdown system are worth, or which points of a Boolean program
+are reached, with runs that show it.
 
-usage: wpds check [--workers N] [--by pre|post] [--brief]
+usage: wpds check [--workers N] [--by pre|post] [--brief] [--traces]
 usage: wpds gen N [--workers N] [--by pre|post]
 
 check            answers the queries of the document on standard input
@@ -19,7 +21,8 @@ gen N            answers a ladder of N rungs, from 1 to 10000, that it makes its
 --workers N      how many workers saturate, from 1 to 64 (1 if it is not given)
 --by pre|post    backwards from where runs end, or forwards from where they begin
                  (pre if it is not given)
---brief          values alone, without the runs that they combine; not with gen
+--brief          without the listing of the runs that a value combines; not with gen
+--traces         these runs rule by rule, or of a program the states of one; not with gen
 -h, --help       writes this text
 -V, --version    writes the version
 

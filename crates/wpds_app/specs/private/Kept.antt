@@ -6,7 +6,7 @@ use Rattle.document_forms.specs.declared.pattern.PatternText.{PatternText}
 use Rattle.document_systems.specs.Kinds.{Kind}
 use Rattle.witness_graph.specs.declared.node.Side.{Side}
 use Rattle.witness_graph.specs.declared.node.Side.TheVariants.{Pre, Post}
-use Rattle.command_words.specs.declared.options.Options.{Options}
+use Rattle.report_text.specs.declared.options.Options.{Options}
 use Rattle.wpds_app.specs.Reports.{TellsQuery}
 
 -- the pattern of a query that a saturation starts from, and the one that is summed over

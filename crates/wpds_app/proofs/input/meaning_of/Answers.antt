@@ -1,10 +1,7 @@
 use Rattle.std.proofs.Common.{ap, ◌∙◌}
 use Rattle.std.specs.Prelude.{Err}
-use Rattle.wpds_app.proofs.InputLemmas.{unread, unread_program}
+use Rattle.wpds_app.proofs.InputLemmas.{unread}
 use Rattle.wpds_app.proofs.input.meaning_of.Goals as goal
-
-pub returns-then-is_program : goal.returns-then-is_program
-returns-then-is_program c = unread_program c.args.input.now c.fault_of.result (c.is_program.ensures.0 c.if-is_program.true) c.fault_of.ensures
 
 pub returns-in-Err : goal.returns-in-Err
 returns-in-Err c =

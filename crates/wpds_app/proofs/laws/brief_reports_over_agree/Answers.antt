@@ -4,7 +4,7 @@ use Rattle.document_systems.specs.Systems.{system_of, side_of}
 use Rattle.path_sum.specs.Answers.{listed_runs}
 use Rattle.query_answers.specs.Answering.{IsAnswer}
 use Rattle.report_text.specs.Listings.{query_line}
-use Rattle.wpds_app.proofs.PartLemmas.{same_parts}
+use Rattle.report_text.proofs.CallerLemmas.{same_parts}
 use Rattle.wpds_app.proofs.ReportingLemmas.{brief_text}
 use Rattle.wpds_app.proofs.laws.brief_reports_over_agree.Goals as goal
 

@@ -4,7 +4,7 @@ use Rattle.config_patterns.specs.Membership.{has_member}
 use Rattle.pushdown_rules.specs.Answers.{HasNoFeasibleRun}
 use Rattle.document_systems.specs.Systems.{system_of, side_of}
 use Rattle.report_text.specs.Listings.{query_line}
-use Rattle.wpds_app.proofs.PartLemmas.{of_each}
+use Rattle.report_text.proofs.CallerLemmas.{of_each}
 use Rattle.wpds_app.proofs.laws.reports_over_tell_feasibility.Goals as goal
 
 pub returns : goal.returns

@@ -4,7 +4,7 @@ use Rattle.document_systems.specs.Weights.{cost_kind}
 use Rattle.document_systems.specs.Systems.{system_of, side_of}
 use Rattle.document_systems.proofs.CallerLemmas.{all_taken}
 use Rattle.wpds_app.specs.Reports.{BySemiring, IsReported}
-use Rattle.wpds_app.proofs.PartLemmas.{of_each}
+use Rattle.report_text.proofs.CallerLemmas.{of_each}
 use Rattle.wpds_app.proofs.laws.reports_tell_costs.Goals as goal
 
 pub returns : goal.returns

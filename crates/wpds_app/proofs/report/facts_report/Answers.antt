@@ -6,7 +6,7 @@ use Rattle.genkill_weights.proofs.CallerLemmas.{width_1, width_2, width_4, width
 use Rattle.document_forms.specs.Documents.{Document}
 use Rattle.document_systems.specs.FactWeights.{genkill_kind}
 use Rattle.document_systems.proofs.CallerLemmas.{all_taken}
-use Rattle.command_words.specs.declared.options.Options.{Options}
+use Rattle.report_text.specs.declared.options.Options.{Options}
 use Rattle.wpds_app.specs.Reports.{IsReported}
 use Rattle.wpds_app.proofs.report.facts_report.Goals as goal
 

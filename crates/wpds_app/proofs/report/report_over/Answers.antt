@@ -2,7 +2,8 @@ use Rattle.std.proofs.Common.{◌≡◌, ◌+◌, ◌<◌, ◌++◌, List, lengt
 use Rattle.std.specs.Prelude.{ℕ, Option}
 use Rattle.std.proofs.Math.Seq.{take-append_seam}
 use Rattle.pushdown_rules.specs.Pushdown.{Pushdown}
-use Rattle.wpds_app.specs.Reports.{ByQuery, TellsQuery}
+use Rattle.report_text.specs.Reports.{ByQuery}
+use Rattle.wpds_app.specs.Reports.{TellsQuery}
 use Rattle.wpds_app.specs.private.Kept.{TellsAt, AreKept}
 use Rattle.wpds_app.proofs.KeptLemmas.{nothing_kept, one_query_more}
 use Rattle.wpds_app.proofs.report.report_over.Goals as goal

@@ -1,5 +1,6 @@
 use Rattle.std.proofs.Common.{◌≡◌, length, take}
-use Rattle.wpds_app.specs.Reports.{ByQuery, TellsQuery}
+use Rattle.report_text.specs.Reports.{ByQuery}
+use Rattle.wpds_app.specs.Reports.{TellsQuery}
 use Rattle.wpds_app.specs.private.Kept.{AreKept}
 use Rattle.wpds_app.proofs.report.report_over.Given as goal
 

@@ -1,16 +1,15 @@
--- Texts of a part for each query.
+-- Texts of a part for each query, for the crates above.
 use Rattle.std.proofs.Common.{◌≡◌, ℕ, ◌+◌, List, [], ◌∷◌, ◌++◌, length, refl, sym, ap, ap₂, subst, ◌∙◌, append-nil, append_assoc, arith}
-use Rattle.document_forms.specs.declared.document.QueryLine.{QueryLine}
-use Rattle.wpds_app.specs.Reports.{ByQuery}
+use Rattle.report_text.specs.Reports.{ByQuery}
 
 -- what follows of each part follows of the text
-pub of_each : {P Q : ℕ → QueryLine → List ℕ → Type 0} → ((i : ℕ) (q : QueryLine) (part : List ℕ) → P i q part → Q i q part)
-    → (i : ℕ) (qs : List QueryLine) (text : List ℕ) → ByQuery P i qs text → ByQuery Q i qs text
+pub of_each : {Query : Type 0} {P Q : ℕ → Query → List ℕ → Type 0} → ((i : ℕ) (q : Query) (part : List ℕ) → P i q part → Q i q part)
+    → (i : ℕ) (qs : List Query) (text : List ℕ) → ByQuery P i qs text → ByQuery Q i qs text
 of_each follows i [] text is = is
 of_each follows i (q ∷ qs) text is = (is.0, is.1, is.2, follows i q is.0 is.3, of_each follows (i + 1) qs is.1 is.4)
 
 -- one query more
-pub one_more : (P : ℕ → QueryLine → List ℕ → Type 0) (i : ℕ) (qs : List QueryLine) (text : List ℕ) (q : QueryLine) (part : List ℕ)
+pub one_more : {Query : Type 0} (P : ℕ → Query → List ℕ → Type 0) (i : ℕ) (qs : List Query) (text : List ℕ) (q : Query) (part : List ℕ)
     → ByQuery P i qs text → P (i + length qs) q part → ByQuery P i (qs ++ q ∷ []) (text ++ part)
 one_more P i [] text q part is holds =
     let same : i + 0 ≡ i = omega arith in
@@ -25,7 +24,7 @@ one_more P i (r ∷ qs) text q part is holds =
     )
 
 -- texts of which each part of the one is that of the other are the same
-pub same_parts : {holds says : ℕ → QueryLine → List ℕ → Type 0} → ((i : ℕ) (q : QueryLine) (t u : List ℕ) → holds i q t → says i q u → t ≡ u) → (i : ℕ) (qs : List QueryLine) (text other : List ℕ)
+pub same_parts : {Query : Type 0} {holds says : ℕ → Query → List ℕ → Type 0} → ((i : ℕ) (q : Query) (t u : List ℕ) → holds i q t → says i q u → t ≡ u) → (i : ℕ) (qs : List Query) (text other : List ℕ)
     → ByQuery holds i qs text → ByQuery says i qs other → text ≡ other
 same_parts same i [] text other h k = h ∙ sym k
 same_parts same i (q ∷ qs) text other (part, rest, is, here, later) (part', rest', is', here', later') =
