@@ -21,8 +21,7 @@ use relation_weights::Relations;
 
 /// The answer over the lowering of a program, from main's first line to a point: its value is not
 /// the empty relation exactly where some state of some run of the program's machine has the point
-/// on top, whatever the direction and the number of workers. There is no listing exactly where none
-/// has.
+/// on top, whatever the direction and the number of workers.
 pub fn answers_tell_points()
     ensures { (p : ProgramValue) (point : PointValue) (system : Pushdown ℕ Parts RelMap)
         (by : SideValue) (workers : ℕ) (a : AnswerValue ℕ Parts RelMap)
