@@ -123,7 +123,8 @@ fn all_lines<H: Threads + Wait + Sync, G: Gate>(
     requires asked { IsAsked asked.now }
     requires workers { IsWorkerCount asked.now.options.workers }
     requires serves { IfSome shared.now (λ s. (point : PointValue) → Serves asked.now point s) }
-    ensures { let a = asked.now in let tells = TellsPoint a.options a.program.now a.lowering.system in
+    ensures { let a = asked.now in
+        let tells = TellsPoint a.options a.program.now a.lowering.system in
         IfOk result (ByQuery tells 1 a.program.now.queries) }
 {
     let mut text = Vec::new(alloc);
