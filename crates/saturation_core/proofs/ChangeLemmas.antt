@@ -33,13 +33,7 @@ module _ {S W Map : Type 0} {s : Operations W Map} (laws : IsSemiring s) where
   pub kept_weight : (x : Place) (ts : List (Entry S W Map)) (n : ℕ) → AreKept s ts n → Fits s (weight_at s x ts)
   kept_weight x ts n kept = (kept_of x ts n kept (entry_at x ts) refl).0
 
-  -- the node of a rule alone may stand next
-  pub rule_node : (x : Place) (ts : List (Entry S W Map)) (n : ℕ) (rule : ℕ) (o : Option ℕ) → AreKept s ts n → o ≡ option_map node_of (entry_at x ts) → IsNodeAt n (Lower o (Some rule) None None)
-  rule_node x ts n rule o kept is =
-      let P : Option ℕ → Type 0 = λ i. IfSome i (λ k. k < n) in
-      record { orderly = orderly_from n (Lower o (Some rule) None None) (subst P (sym is) (kept_of x ts n kept (entry_at x ts) refl).1, tt, tt); part = refl }
-
-  -- and so may that of a change
+  -- the node of a change may stand next
   pub change_node : (c : Change W) (ts : List (Entry S W Map)) (n : ℕ) (o : Option ℕ) → AreKept s ts n → IsFitChange s n c → o ≡ option_map node_of (entry_at c.goal ts) → IsNodeAt n (Lower o c.rule c.first c.second)
   change_node c ts n o kept fit is =
       let P : Option ℕ → Type 0 = λ i. IfSome i (λ k. k < n) in

@@ -12,7 +12,7 @@ ghost use Rattle.saturation_laws.specs.Openings.{with_edges, pops_at, pops_from,
 ghost use Rattle.saturation_core.specs.private.Plans.{put, put_all, AreNodesFrom};
 ghost use Rattle.saturation_core.specs.private.Steps.{Becomes, IsKept, HasRoomFor, IsFitChange, rule_change, change_by};
 
-use crate::change::{changed_at, node_at, node_now, queue_up, weight_after, weight_now};
+use crate::change::{changed_at, node_at, queue_up};
 use crate::parts::{Parts, parts_of};
 use crate::place_queue::PlaceQueue;
 use crate::plan::{Plan, Planned};
@@ -144,20 +144,12 @@ impl<S: Semiring> Found<S> {
         ensures kept { OnOk result (IsKept (S.operations semiring.now) self.new) }
         ensures side { self.new.graph.side ≡ self.old.graph.side }
     {
-        let old = weight_now(alloc, semiring, &self.transitions, place)?;
-        let Some(new) = weight_after(alloc, semiring, &old, weight)? else {
-            return Ok(());
-        };
-        let node = Node::Lower {
-            before: node_now(&self.transitions, place),
+        let parts = Parts {
             rule: Some(rule),
             first: None,
             second: None,
         };
-        let number = self.graph.push_node(alloc, node)?;
-        self.transitions.lower(alloc, place, new, number)?;
-        queue_up(&mut self.waiting, place)?;
-        Ok(())
+        self.apply_change(alloc, semiring, place, weight, parts)
     }
 
     // Combines a weight into a place, whose runs get these parts. The place is looked up once.

@@ -25,7 +25,7 @@ pub fn saturate_alone<'s, S: Semiring, D: Direction<S>, G: Gate>(
 {
     let mut book = book;
     book.system();
-    while !book.is_closed() {
+    'turns: while !book.is_closed() {
         gate.between(0);
         book = book.turn_alone(alloc, 0)?;
     }
