@@ -1,7 +1,7 @@
 -- What a change of a place keeps.
-use Rattle.std.proofs.Common.{◌≡◌, inl, inr, ℕ, ◌<◌, ◌≤◌, true, false, List, refl, sym, ap, ◌∙◌, subst, arith}
+use Rattle.std.proofs.Common.{◌≡◌, inl, inr, ℕ, ◌<◌, ◌≤◌, true, false, List, length, refl, sym, ap, ◌∙◌, subst, arith}
 use Rattle.std.specs.Prelude.{Option, None, Some, IfSome, cond, option_map, option_and_then, slice_get}
-use Rattle.std.proofs.lemmas.Option.{same_Some}
+use Rattle.std.proofs.lemmas.Option.{same_Some, slice_get_within}
 use Rattle.semiring_laws.specs.Semiring.{Operations, IsSemiring, Fits}
 use Rattle.weighted_automata.specs.declared.place.Place.{Place}
 use Rattle.weighted_automata.specs.declared.transitions.Entry.{Entry}
@@ -13,6 +13,9 @@ use Rattle.witness_graph.proofs.CallerLemmas.{orderly_from}
 use Rattle.saturation_laws.specs.Jobs.{node_of}
 use Rattle.saturation_laws.specs.States.{CoreState, Change, weight_of, weight_at, lower_state, apply}
 use Rattle.saturation_laws.specs.Openings.{AreKept, changed_weight}
+use Rattle.saturation_core.specs.private.Steps.{IsFitChange}
+use Rattle.saturation_laws.proofs.CallerLemmas.{indexed}
+use Rattle.weighted_automata.specs.Entries.{index_at}
 
 module _ {S W Map : Type 0} {s : Operations W Map} (laws : IsSemiring s) where
   -- the entry that a search found
@@ -30,11 +33,12 @@ module _ {S W Map : Type 0} {s : Operations W Map} (laws : IsSemiring s) where
   pub kept_weight : (x : Place) (ts : List (Entry S W Map)) (n : ℕ) → AreKept s ts n → Fits s (weight_at s x ts)
   kept_weight x ts n kept = (kept_of x ts n kept (entry_at x ts) refl).0
 
-  -- the node of a rule alone may stand next
-  pub rule_node : (x : Place) (ts : List (Entry S W Map)) (n : ℕ) (rule : ℕ) (o : Option ℕ) → AreKept s ts n → o ≡ option_map node_of (entry_at x ts) → IsNodeAt n (Lower o (Some rule) None None)
-  rule_node x ts n rule o kept is =
+  -- the node of a change may stand next
+  pub change_node : (c : Change W) (ts : List (Entry S W Map)) (n : ℕ) (o : Option ℕ) → AreKept s ts n → IsFitChange s n c → o ≡ option_map node_of (entry_at c.goal ts) → IsNodeAt n (Lower o c.rule c.first c.second)
+  change_node c ts n o kept fit is =
       let P : Option ℕ → Type 0 = λ i. IfSome i (λ k. k < n) in
-      record { orderly = orderly_from n (Lower o (Some rule) None None) (subst P (sym is) (kept_of x ts n kept (entry_at x ts) refl).1, tt, tt); part = refl }
+      let before = subst P (sym is) (kept_of c.goal ts n kept (entry_at c.goal ts) refl).1 in
+      record { orderly = orderly_from n (Lower o c.rule c.first c.second) (before, fit.first, fit.second); part = fit.part }
 
   pub kept_lowered : (x : Place) (w : W) (k n m : ℕ) (ts : List (Entry S W Map)) → AreKept s ts n → Fits s w → k < m → n ≤ m → AreKept s (lowered x w k ts) m
   kept_lowered x w k n m ts kept fit within more = record {
@@ -87,3 +91,8 @@ module _ {W Map : Type 0} {s : Operations W Map} (laws : IsSemiring s) where
         | true ↦ λ h. cc
         | false ↦ λ h. let P : W → Type 0 = Fits s in subst P (same_Some new w h) (laws.fits-combine old weight fo fw)
       ] changed
+
+-- what a search finds is there
+pub found_within : {S W Map : Type 0} (x : Place) (ts : List (Entry S W Map)) (o : Option ℕ) → o ≡ index_at x ts → IfSome o (λ k. k < length ts)
+found_within x ts None is = tt
+found_within x ts (Some k) is = let there = indexed x ts k (sym is) in slice_get_within ts k there.0 there.1

@@ -10,6 +10,7 @@ mod PutPlan
 mod GoalLemmas
 mod PlanEqualsApply
 mod SettleBook
+mod TurnBook
 mod AllPush
 mod Examples
 pub mod CallerLemmas

@@ -18,6 +18,7 @@ use Rattle.saturation_laws.specs.Jobs.{Tables, node_of}
 use Rattle.saturation_laws.specs.States.{CoreState, Change, weight_at, lower_state, apply, apply_all, change_of, apply_jobs}
 use Rattle.saturation_laws.specs.Openings.{AreKept, changed_weight}
 use Rattle.saturation_core.specs.private.Plans.{change_with, changes_with, put, put_all, put_from, AreNodesFrom, goal_of, HaveRoom, lowering_of, plan_of}
+use Rattle.saturation_core.specs.private.Steps.{IsFitChange}
 use Rattle.saturation_core.proofs.ChangeLemmas.{kept_of, kept_lowered, kept_more, changed_fits}
 
 pub next_and : (n m : ℕ) → suc n + m ≡ n + suc m
@@ -120,13 +121,6 @@ module _ {S W Map : Type 0} (s : Operations W Map) where
       → all ≡ plan ++ plan_of s (changes_with (drop i js) (drop i ws)) (n + length plan) (put_from n plan ts) → plan ≡ all
   plan_ends js ws i n ts plan all past was =
       sym (was ∙ ap (λ cs. plan ++ plan_of s cs (n + length plan) (put_from n plan ts)) (at_drop_all (λ xs. changes_with xs (drop i ws)) js i past) ∙ append-nil plan)
-
--- A change with a weight of the semiring, whose parts are earlier nodes.
-pub record IsFitChange {W Map : Type 0} (s : Operations W Map) (m : ℕ) (c : Change W) : Type 0 where
-  pub weight : Fits s c.weight
-  pub first : IfSome c.first (λ k. k < m)
-  pub second : IfSome c.second (λ k. k < m)
-  pub part : IsTrue (is_some c.rule || (is_some c.first || is_some c.second))
 
 pub earlier_more : (m n : ℕ) → m ≤ n → (o : Option ℕ) → IfSome o (λ k. k < m) → IfSome o (λ k. k < n)
 earlier_more m n le None _ = tt

@@ -24,11 +24,11 @@ use Rattle.saturation_laws.specs.Directions.{AgreeOn, HaveSameCandidates}
 use Rattle.saturation_laws.specs.Books.{BookValue, opened_by, Makes, IsBook}
 use Rattle.saturation_core.specs.Seats.{hands_out}
 use Rattle.saturation_core.specs.private.Plans.{changes_with, put_all, AreNodesFrom, plan_of}
-use Rattle.saturation_core.specs.private.Steps.{with_hands, Becomes}
+use Rattle.saturation_core.specs.private.Steps.{with_hands, Becomes, IsFitChange}
 use Rattle.saturation_core.specs.DoneValue.{DoneValue}
 use Rattle.saturation_core.specs.Settled.{jobs_of, jobs_out, IsWorked, CanSettle}
 use Rattle.saturation_laws.proofs.CallerLemmas.{worth_fits, change_fits, job_sound, opening_fits, book_works}
-use Rattle.saturation_core.proofs.PutPlan.{IsFitChange, nodes_added, plan_is, apply_jobs_is, plan_nodes}
+use Rattle.saturation_core.proofs.PutPlan.{nodes_added, plan_is, apply_jobs_is, plan_nodes}
 use Rattle.saturation_core.proofs.HandLemmas.{hands_out-freed, seat_within}
 use Rattle.saturation_laws.specs.Ways.{Way, IsLawful, HasOneCandidate}
 
@@ -143,7 +143,7 @@ module _ {S W Map D : Type 0} (operations : S → Operations W Map) (laws : (x :
       record { each = λ t there. let sound = is.lock.sound t there in (subst P (sym sound.are_runs.weight) (worth_fits law (value_of (operations b.system.semiring) b.system) (value_fits is.system law) _), sound.node) }
 
   -- the jobs of a hand that is out change places by weights that fit and nodes of the graph
-  changes_fit : (b : BookValue S W Map D) → IsBook operations way b → (seat : ℕ) (h : Holding S W Map) → hand_at seat b.state.hands ≡ Some h
+  pub changes_fit : (b : BookValue S W Map D) → IsBook operations way b → (seat : ℕ) (h : Holding S W Map) → hand_at seat b.state.hands ≡ Some h
       → (js : List (Job S W Map)) → ((j : Job S W Map) → IsIn j js → IsIn j h.jobs)
       → AllByRecursion (IsFitChange (operations b.system.semiring) (length b.state.nodes)) (changes_with js (map (way.tables b.direction b.system).candidate js))
   changes_fit b is seat h at [] within = tt

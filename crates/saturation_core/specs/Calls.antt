@@ -2,7 +2,7 @@
 use Rattle.std.specs.Prelude.{◌≡◌, ℕ, []}
 use Rattle.semiring_laws.specs.Semiring.{Operations}
 use Rattle.weighted_automata.specs.declared.place.Place.{Place}
-use Rattle.saturation_laws.specs.declared.event.Event.TheVariants.{Take}
+use Rattle.saturation_laws.specs.declared.event.Event.TheVariants.{Take, Settle}
 use Rattle.saturation_core.specs.declared.hand.Taken.{Taken}
 use Rattle.saturation_core.specs.declared.hand.Taken.TheVariants.{Idle, Closed}
 use Rattle.saturation_core.specs.declared.hand.Taken.TheVariants.{Hand as InHand}
@@ -24,3 +24,8 @@ module _ {S W Map D : Type 0} (operations : S → Operations W Map) (way : Way S
   HandWorks b (InHand h) = CanWork operations way b h.jobs
   HandWorks b (Idle seats) = Unit {0}
   HandWorks b Closed = Unit {0}
+
+  -- the seat takes the transition that waits longest, and settles what it gives
+  abbrev pub TakesAndSettles : ℕ → BookValue S W Map D → BookValue S W Map D → Type 0
+  TakesAndSettles seat old new =
+      (x : Place) × (mid : BookValue S W Map D) × Makes operations way old (Take seat x) mid × Makes operations way mid (Settle seat) new

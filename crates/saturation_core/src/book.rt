@@ -1,11 +1,11 @@
-ghost use Rattle.std.specs.Prelude.{◌≡◌, ◌↔◌, ◌<◌, ◌+◌, [], ◌∷◌, ◌++◌, IsTrue, IfOk, IfErr, OnOk, OnErr, IsSome, is_some, length};
+ghost use Rattle.std.specs.Prelude.{◌≡◌, ◌≢◌, ◌↔◌, ◌<◌, ◌+◌, [], ◌∷◌, ◌++◌, IsTrue, IfOk, IfErr, OnOk, OnErr, IsSome, is_some, length};
 ghost use Rattle.wpds_base.specs.Limits.{most_seats};
 ghost use Rattle.saturation_laws.specs.declared.event.Event.TheVariants.{Take, Settle, GiveBack};
 ghost use Rattle.saturation_laws.specs.States.{hand_at};
 ghost use Rattle.saturation_laws.specs.Ways.{start_of};
 ghost use Rattle.saturation_laws.specs.Bound.{takes, takes_of};
-ghost use Rattle.saturation_laws.specs.Books.{IsBook, Makes, IsClosed};
-ghost use Rattle.saturation_core.specs.Calls.{AnswersTake, HandWorks};
+ghost use Rattle.saturation_laws.specs.Books.{IsBook, Makes, IsClosed, NoHand};
+ghost use Rattle.saturation_core.specs.Calls.{AnswersTake, HandWorks, TakesAndSettles};
 ghost use Rattle.saturation_core.specs.Settled.{CanSettle};
 
 use crate::found::Found;
@@ -192,6 +192,28 @@ impl<'s, S: Semiring, D: Direction<S>> Book<'s, S, D> {
                 Ok(Taken::Hand(Hand { seat, jobs }))
             }
         }
+    }
+
+    /// Takes the transition that waits longest, works out its jobs, and settles them in place, all for one seat: the same
+    /// as `take`, `work` and `settle`, but without a hand. It is refused only when out of memory, and then the book is
+    /// gone.
+    pub fn turn_alone(self, alloc: Global, seat: u32) -> Result<Book<'s, S, D>, OutOfMemory>
+        requires seat { seat < most_seats }
+        requires free { NoHand self }
+        requires waits { self.state.queue ≢ [] }
+        ensures { IfOk result (TakesAndSettles S.operations D.way seat self.entry) }
+    {
+        let mut book = self;
+        let (system, direction) = (book.system, book.direction);
+        let Some(place) = book.found.waiting.pop() else {
+            unreachable!()
+        };
+        book.journal.take(seat, place)?;
+        let jobs = list_jobs(alloc, &direction, system, &book.found.transitions, place)?;
+        book.found
+            .apply_jobs(alloc, &direction, system, jobs.as_slice())?;
+        book.journal.settle(seat);
+        Ok(book)
     }
 
     /// Whether the book can settle this hand: the seat's hand lists its jobs, its side is the book's, and so are the

@@ -1,9 +1,9 @@
-ghost use Rattle.std.specs.Prelude.{◌≡◌, ℕ, IfOk, OnOk, option_map};
+ghost use Rattle.std.specs.Prelude.{◌≡◌, ◌<◌, ℕ, IfOk, IfSome, OnOk, length, option_and_then, option_map, slice_get};
 ghost use Rattle.semiring_laws.specs.Semiring.{Fits};
 ghost use Rattle.weighted_automata.specs.Entries.{entry_at};
 ghost use Rattle.saturation_laws.specs.Jobs.{node_of};
 ghost use Rattle.saturation_laws.specs.Queues.{queued};
-ghost use Rattle.saturation_laws.specs.States.{weight_at};
+ghost use Rattle.saturation_laws.specs.States.{weight_at, weight_of};
 ghost use Rattle.saturation_laws.specs.Openings.{AreKept, changed_weight};
 
 use crate::place_queue::PlaceQueue;
@@ -64,4 +64,40 @@ pub fn weight_after<S: Semiring>(
         return Ok(None);
     }
     Ok(Some(sum))
+}
+
+/// What a weight makes of that of the transition with a number, and of zero where there is none, where it changes it.
+pub(crate) fn changed_at<S: Semiring>(
+    alloc: Global,
+    semiring: &S,
+    transitions: &Transitions<S>,
+    at: Option<u64>,
+    weight: &S::W,
+) -> Result<Option<S::W>, OutOfMemory>
+    requires at { IfSome at (λ k. k < length transitions.now.transitions) }
+    requires kept { (n : ℕ) × AreKept (S.operations semiring.now) transitions.now.transitions n }
+    requires weight { Fits (S.operations semiring.now) weight.now }
+    ensures { let s = S.operations semiring.now in
+        let found = option_and_then (slice_get transitions.now.transitions) at in
+        IfOk result (λ o. o ≡ changed_weight s (weight_of s found) weight.now) }
+{
+    match at {
+        Some(k) => weight_after(alloc, semiring, &transitions.entry(k).weight, weight),
+        None => {
+            let zero = semiring.zero(alloc)?;
+            weight_after(alloc, semiring, &zero, weight)
+        }
+    }
+}
+
+/// The node of the transition with a number.
+pub(crate) fn node_at<S: Semiring>(transitions: &Transitions<S>, at: Option<u64>) -> Option<u64>
+    requires { IfSome at (λ k. k < length transitions.now.transitions) }
+    ensures { let found = option_and_then (slice_get transitions.now.transitions) at in
+        result ≡ option_map node_of found }
+{
+    match at {
+        Some(k) => Some(transitions.entry(k).node),
+        None => None,
+    }
 }

@@ -1,19 +1,23 @@
-ghost use Rattle.std.specs.Prelude.{◌≡◌, ◌<◌, ◌≤◌, ◌+◌, ◌^◌, [], ◌∷◌, IfOk, OnOk, IsTrue, length};
+ghost use Rattle.std.specs.Prelude.{◌≡◌, ◌<◌, ◌≤◌, ◌+◌, ◌^◌, [], ◌∷◌, IfOk, OnOk, IsTrue, All, length};
 ghost use Rattle.wpds_base.specs.Limits.{most_seats};
 ghost use Rattle.semiring_laws.specs.Semiring.{Fits};
 ghost use Rattle.weighted_automata.specs.declared.place.Place.{Place as PlaceValue};
 ghost use Rattle.weighted_automata.specs.Places.{has_place};
 ghost use Rattle.witness_graph.specs.declared.node.Node.TheVariants.{Start};
 ghost use Rattle.witness_graph.specs.Nodes.{IsNodeAt};
-ghost use Rattle.saturation_laws.specs.States.{apply, apply_all};
+ghost use Rattle.saturation_laws.specs.Jobs.{row_of, InputsFit};
+ghost use Rattle.saturation_laws.specs.States.{apply, apply_all, apply_jobs, change_of};
+ghost use Rattle.saturation_laws.specs.Ways.{AreRows, HaveFitInputs};
 ghost use Rattle.saturation_laws.specs.Openings.{with_edges, pops_at, pops_from, pops};
 ghost use Rattle.saturation_core.specs.private.Plans.{put, put_all, AreNodesFrom};
-ghost use Rattle.saturation_core.specs.private.Steps.{Becomes, IsKept, HasRoomFor, rule_change};
+ghost use Rattle.saturation_core.specs.private.Steps.{Becomes, IsKept, HasRoomFor, IsFitChange, rule_change, change_by};
 
-use crate::change::{node_now, queue_up, weight_after, weight_now};
+use crate::change::{changed_at, node_at, queue_up};
+use crate::parts::{Parts, parts_of};
 use crate::place_queue::PlaceQueue;
 use crate::plan::{Plan, Planned};
 use pushdown_rules::System;
+use saturation_laws::{Direction, Job};
 use semiring_laws::Semiring;
 use std::alloc::Global;
 use std::collections::VecDeque;
@@ -140,19 +144,96 @@ impl<S: Semiring> Found<S> {
         ensures kept { OnOk result (IsKept (S.operations semiring.now) self.new) }
         ensures side { self.new.graph.side ≡ self.old.graph.side }
     {
-        let old = weight_now(alloc, semiring, &self.transitions, place)?;
-        let Some(new) = weight_after(alloc, semiring, &old, weight)? else {
-            return Ok(());
-        };
-        let node = Node::Lower {
-            before: node_now(&self.transitions, place),
+        let parts = Parts {
             rule: Some(rule),
             first: None,
             second: None,
         };
+        self.apply_change(alloc, semiring, place, weight, parts)
+    }
+
+    // Combines a weight into a place, whose runs get these parts. The place is looked up once.
+    fn apply_change(
+        &mut self,
+        alloc: Global,
+        semiring: &S,
+        place: Place,
+        weight: &S::W,
+        parts: Parts,
+    ) -> Result<(), OutOfMemory>
+        requires kept { IsKept (S.operations semiring.now) self.old }
+        requires fit { IsFitChange (S.operations semiring.now) (length self.old.graph.nodes)
+            (change_by place weight.now parts) }
+        ensures state { OnOk result (Becomes self.old
+            (apply (S.operations semiring.now) (change_by place weight.now parts)) self.new) }
+        ensures kept { OnOk result (IsKept (S.operations semiring.now) self.new) }
+        ensures nodes { OnOk result
+            (length self.old.graph.nodes ≤ length self.new.graph.nodes) }
+        ensures side { self.new.graph.side ≡ self.old.graph.side }
+    {
+        let at = self.transitions.find(place);
+        let Some(new) = changed_at(alloc, semiring, &self.transitions, at, weight)? else {
+            return Ok(());
+        };
+        let node = Node::Lower {
+            before: node_at(&self.transitions, at),
+            rule: parts.rule,
+            first: parts.first,
+            second: parts.second,
+        };
         let number = self.graph.push_node(alloc, node)?;
         self.transitions.lower(alloc, place, new, number)?;
         queue_up(&mut self.waiting, place)?;
+        Ok(())
+    }
+
+    // Works out a job, and combines what it is worth into its goal.
+    fn apply_job<D: Direction<S>>(
+        &mut self,
+        alloc: Global,
+        direction: &D,
+        system: &System<S>,
+        job: &Job<S>,
+    ) -> Result<(), OutOfMemory>
+        requires row { IsTrue ((D.way.tables direction.now system.now).rows (row_of job.now)) }
+        requires inputs { InputsFit (S.operations system.now.semiring) job.now }
+        requires kept { IsKept (S.operations system.now.semiring) self.old }
+        requires fit { let s = S.operations system.now.semiring in
+            IsFitChange s (length self.old.graph.nodes)
+            (change_of s (D.way.tables direction.now system.now) job.now) }
+        ensures state { let s = S.operations system.now.semiring in OnOk result (Becomes self.old
+            (apply s (change_of s (D.way.tables direction.now system.now) job.now)) self.new) }
+        ensures kept { OnOk result (IsKept (S.operations system.now.semiring) self.new) }
+        ensures nodes { OnOk result
+            (length self.old.graph.nodes ≤ length self.new.graph.nodes) }
+        ensures side { self.new.graph.side ≡ self.old.graph.side }
+    {
+        let weight = direction.candidate(alloc, system, job)?;
+        let parts = parts_of(job);
+        self.apply_change(alloc, system.semiring(), job.goal, &weight, parts)
+    }
+
+    /// Works out jobs, and combines what they are worth into their goals, one after another.
+    pub(crate) fn apply_jobs<D: Direction<S>>(
+        &mut self,
+        alloc: Global,
+        direction: &D,
+        system: &System<S>,
+        jobs: &[Job<S>],
+    ) -> Result<(), OutOfMemory>
+        requires rows { AreRows D.way direction.now system.now jobs.now }
+        requires inputs { HaveFitInputs S.operations system.now jobs.now }
+        requires kept { IsKept (S.operations system.now.semiring) self.old }
+        requires fit { let s = S.operations system.now.semiring in
+            All (λ j. IsFitChange s (length self.old.graph.nodes)
+            (change_of s (D.way.tables direction.now system.now) j)) jobs.now }
+        ensures state { let s = S.operations system.now.semiring in OnOk result (Becomes self.old
+            (apply_jobs s (D.way.tables direction.now system.now) jobs.now) self.new) }
+        ensures side { self.new.graph.side ≡ self.old.graph.side }
+    {
+        for job in jobs {
+            self.apply_job(alloc, direction, system, job)?;
+        }
         Ok(())
     }
 

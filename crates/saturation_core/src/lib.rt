@@ -10,6 +10,7 @@ mod hand;
 mod hands;
 mod journal;
 mod laws;
+mod parts;
 mod place_queue;
 mod plan;
 mod queue;

@@ -3,7 +3,7 @@ ghost use Rattle.semiring_laws.specs.Semiring.{Fits};
 ghost use Rattle.weighted_automata.specs.declared.transitions.Entry.{Entry as EntryValue};
 ghost use Rattle.weighted_automata.specs.Entries.{entry_at, index_where};
 ghost use Rattle.weighted_automata.specs.Places.{same_place, AreAmong};
-ghost use Rattle.saturation_laws.specs.Jobs.{node_of, named_rule as rule_named, named_first};
+ghost use Rattle.saturation_laws.specs.Jobs.{node_of};
 ghost use Rattle.saturation_laws.specs.States.{weight_at};
 ghost use Rattle.saturation_laws.specs.Openings.{AreKept};
 ghost use Rattle.saturation_core.specs.private.Plans.{change_with, changes_with, put_from, lowering_of, plan_of, goal_of};
@@ -12,12 +12,13 @@ ghost use Rattle.saturation_core.specs.private.Finding.{found_at};
 
 use crate::change::{node_now, weight_after, weight_now};
 use crate::found::Found;
+use crate::parts::{first_node, input_node, named_rule};
 use key_rows::KeyRows;
-use saturation_laws::{Job, JobKind};
+use saturation_laws::Job;
 use semiring_laws::Semiring;
 use std::alloc::Global;
 use std::marker::Model;
-use weighted_automata::{Entry, Place, Transitions};
+use weighted_automata::{Place, Transitions};
 use witness_graph::Node;
 use wpds_base::OutOfMemory;
 
@@ -164,50 +165,6 @@ fn node_in<S: Semiring>(
     match plan.last_at(place) {
         Some(k) => Some(nodes + k),
         None => node_now(transitions, place),
-    }
-}
-
-// The rule that a job's node names.
-fn named_rule<S: Semiring>(job: &Job<S>) -> Option<u32>
-    ensures { result ≡ rule_named job.now }
-{
-    match job.kind {
-        JobKind::PostLeave => None,
-        JobKind::PreStep
-        | JobKind::PrePushControl
-        | JobKind::PrePushOther
-        | JobKind::PostStep
-        | JobKind::PostPopMiddle
-        | JobKind::PostPopOther
-        | JobKind::PostEnter
-        | JobKind::PostGlue => job.rule,
-    }
-}
-
-// The node that a job's node names first.
-fn first_node<S: Semiring>(job: &Job<S>) -> Option<u64>
-    ensures { result ≡ option_map node_of (named_first job.now) }
-{
-    match job.kind {
-        JobKind::PostEnter => None,
-        JobKind::PreStep
-        | JobKind::PrePushControl
-        | JobKind::PrePushOther
-        | JobKind::PostStep
-        | JobKind::PostPopMiddle
-        | JobKind::PostPopOther
-        | JobKind::PostLeave
-        | JobKind::PostGlue => input_node(&job.first),
-    }
-}
-
-// The node of an input.
-fn input_node<S: Semiring>(input: &Option<Entry<S>>) -> Option<u64>
-    ensures { result ≡ option_map node_of input.now }
-{
-    match input {
-        Some(entry) => Some(entry.node),
-        None => None,
     }
 }
 

@@ -1,6 +1,6 @@
 -- What a turn of one worker makes of a book.
 use Rattle.std.proofs.Common.{◌≡◌, inl, inr, ℕ, ◌+◌, ◌-◌, ◌*◌, ◌<◌, ◌≤◌, List, [], ◌∷◌, ◌++◌, length, get_or, set, refl, sym, ap, ap₂, subst, ◌∙◌, arith}
-use Rattle.std.specs.Prelude.{true, ◌&&◌, nat_lt, IfSome, Option, Some, None, option_map, is_none}
+use Rattle.std.specs.Prelude.{◌≢◌, ◌↔◌, Bool, true, false, IsTrue, ◌&&◌, nat_lt, IfSome, Option, Some, None, option_map, is_none}
 use Rattle.std.specs.List.{AllByRecursion}
 use Rattle.std.proofs.lemmas.Bool.{and_parts, cond_both, cases_eq, cases_lt, ltb-true}
 use Rattle.std.proofs.lemmas.Option.{same_Some}
@@ -18,11 +18,12 @@ use Rattle.saturation_laws.specs.States.{CoreState, Change, hand_at, weight_at, 
 use Rattle.saturation_laws.specs.Openings.{pops, with_edge, with_edges, bare, opening_state}
 use Rattle.saturation_laws.specs.Directions.{AgreeOn}
 use Rattle.saturation_laws.specs.Bound.{takes, gives}
-use Rattle.saturation_laws.specs.Books.{BookValue, NoHand, Makes, IsBook, opened_by}
+use Rattle.saturation_laws.specs.Books.{BookValue, NoHand, IsClosed, Makes, IsBook, opened_by}
 use Rattle.saturation_core.specs.DoneValue.{DoneValue}
 use Rattle.saturation_core.specs.Settled.{jobs_of, jobs_out, CanSettle}
 use Rattle.saturation_laws.proofs.CallerLemmas.{none_out, event_keeps, book_takes}
-use Rattle.worker_pool.specs.Alone.{HasTurned, HasBase, IsAlone, turns_of}
+use Rattle.worker_pool.specs.Alone.{HasBase, IsAlone, turns_of}
+use Rattle.saturation_core.specs.Calls.{TakesAndSettles}
 use Rattle.worker_pool.proofs.AloneLemmas.{took}
 use Rattle.saturation_laws.specs.Ways.{Way, IsLawful}
 
@@ -111,26 +112,17 @@ falls : (n m t u : ℕ) → m ≡ n → u ≡ t + 1 → u ≤ m → m + 1 - u < 
 falls n m t u same more within = omega arith
 
 module _ {S W Map D : Type 0} (operations : S → Operations W Map) (way : Way S W Map D) where
-  -- a book can settle what was worked out of the hand that it gave last
-  pub can_settle : (old mid : BookValue S W Map D) (x : Place) → Makes operations way old (Take 0 x) mid → (w : DoneValue S W Map D) → w.seat ≡ 0
-      → w.jobs ≡ jobs_at (operations old.system.semiring) (way.tables old.direction old.system) (entry_at x old.state.transitions) old.state.transitions
-      → w.system ≡ mid.system → w.direction ≡ mid.direction → CanSettle way mid w
-  can_settle old mid x made w seat jobs system direction =
-      let P : Pushdown S W Map → Type 0 = λ p. AllByRecursion (AgreeOn mid.system p) w.jobs in
-      record {
-        hand = ap (λ k. jobs_out k mid.state.hands) seat ∙ ap (λ (b : BookValue S W Map D). jobs_out 0 b.state.hands) made.2
-            ∙ ap (option_map jobs_of) (hand_taken (operations old.system.semiring) (way.tables old.direction old.system) 0 x old.state made.0 made.1) ∙ ap Some (sym jobs);
-        side = ap₂ (λ f p. (way.tables f p).side) direction system;
-        semiring = ap (λ (p : Pushdown S W Map). p.semiring) (sym system);
-        rules = All-from_recursion (AgreeOn mid.system w.system) w.jobs (subst P (sym system) (agrees mid.system w.jobs));
-      }
-
   -- where no hand was out, none is after a turn
-  pub turned_free : (old mid new : BookValue S W Map D) (x : Place) → Makes operations way old (Take 0 x) mid → Makes operations way mid (Settle 0) new → NoHand old → NoHand new
-  turned_free old mid new x taken settled free =
+  pub turned_free : (old new : BookValue S W Map D) → TakesAndSettles operations way 0 old new → NoHand old → NoHand new
+  turned_free old new turned free =
       let P : BookValue S W Map D → Type 0 = λ b. Makes operations way b (Settle 0) new in
-      let settled' = subst P taken.2 settled in
-      subst NoHand (sym settled'.2) (turn_frees (operations old.system.semiring) (way.tables old.direction old.system) x old.state taken.0 settled'.0 taken.1 settled'.1 free)
+      let taken = turned.2 in
+      let settled = subst P taken.2 turned.3 in
+      subst NoHand (sym settled.2) (turn_frees (operations old.system.semiring) (way.tables old.direction old.system) turned.0 old.state taken.0 settled.0 taken.1 settled.1 free)
+
+  -- a book that is not closed has something in its queue
+  pub still_waits : (b : BookValue S W Map D) (r : Bool) → IsTrue r ↔ IsClosed b → r ≡ false → NoHand b → b.state.queue ≢ []
+  still_waits b r test still free none = let h : r ≡ true = test.1 (none, free) in let e : true ≡ false = sym h ∙ still in cc
 
 module _ {S W Map D : Type 0} (operations : S → Operations W Map) (way : Way S W Map D) where
   -- What holds between the turns that begin with a book.
@@ -163,7 +155,7 @@ module _ {S W Map D : Type 0} (operations : S → Operations W Map) (way : Way S
 
   module _ (laws : (x : S) → IsSemiring (operations x))
       (direction : IsLawful operations way)
-      (entry old new : BookValue S W Map D) (under : IsUnderWay entry old) (free : NoHand new) (turned : HasTurned operations way true old new) where
+      (entry old new : BookValue S W Map D) (under : IsUnderWay entry old) (turned : TakesAndSettles operations way 0 old new) where
     abbrev x : Place
     x = turned.0
 
@@ -191,7 +183,7 @@ module _ {S W Map D : Type 0} (operations : S → Operations W Map) (way : Way S
         opening = ap (λ (b : BookValue S W Map D). b.opening) new_is ∙ under.base.opening;
       };
       alone = (under.alone.0 ++ x ∷ [], journal_is);
-      free = free;
+      free = turned_free operations way old new turned under.free;
       book = book_after;
     }
 

@@ -1,11 +1,14 @@
 -- What was found so far, as a state, and how it changes.
-use Rattle.std.specs.Prelude.{◌≡◌, ℕ, ◌≤◌, List, Option, None, Some, length}
-use Rattle.semiring_laws.specs.Semiring.{Operations}
+use Rattle.std.specs.Prelude.{◌≡◌, ℕ, ◌≤◌, ◌<◌, List, Option, None, Some, IfSome, IsTrue, is_some, ◌||◌, option_map, length}
+use Rattle.semiring_laws.specs.Semiring.{Operations, Fits}
 use Rattle.weighted_automata.specs.declared.place.Place.{Place}
+use Rattle.saturation_laws.specs.declared.job.Job.{Job}
 use Rattle.saturation_laws.specs.declared.holding.Holding.{Holding}
+use Rattle.saturation_laws.specs.Jobs.{node_of, named_rule, named_first}
 use Rattle.saturation_laws.specs.States.{CoreState, Change}
 use Rattle.saturation_laws.specs.Openings.{AreKept}
 use Rattle.saturation_core.specs.declared.found.Found.{Found}
+use Rattle.saturation_core.specs.declared.parts.Parts.{Parts}
 use Rattle.saturation_core.specs.declared.plan.Planned.{Planned}
 use Rattle.saturation_core.specs.private.Plans.{HaveRoom}
 
@@ -31,3 +34,18 @@ module _ {S W Map : Type 0} where
 -- the weight of a rule for a place, whose runs get the rule alone
 abbrev pub rule_change : {W : Type 0} → Place → W → ℕ → Change W
 rule_change place weight rule = record { goal = place; weight = weight; rule = Some rule; first = None; second = None }
+
+-- a weight for a place, whose runs are made of these parts
+abbrev pub change_by : {W : Type 0} → Place → W → Parts → Change W
+change_by place weight parts = record { goal = place; weight = weight; rule = parts.rule; first = parts.first; second = parts.second }
+
+-- the parts that a job's node names
+abbrev pub named_parts : {S W Map : Type 0} → Job S W Map → Parts
+named_parts j = record { rule = named_rule j; first = option_map node_of (named_first j); second = option_map node_of j.second }
+
+-- A change with a weight of the semiring, whose parts are earlier nodes.
+pub record IsFitChange {W Map : Type 0} (s : Operations W Map) (m : ℕ) (c : Change W) : Type 0 where
+  pub weight : Fits s c.weight
+  pub first : IfSome c.first (λ k. k < m)
+  pub second : IfSome c.second (λ k. k < m)
+  pub part : IsTrue (is_some c.rule || (is_some c.first || is_some c.second))
