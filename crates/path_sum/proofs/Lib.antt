@@ -12,6 +12,7 @@ mod ReadyLemmas
 mod LoopLemmas
 mod ItemLemmas
 mod RowLemmas
+mod ListedLemmas
 mod LookupLemmas
 mod PlaceLemmas
 mod RoundLemmas

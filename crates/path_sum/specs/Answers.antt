@@ -53,3 +53,16 @@ module _ {S W Map : Type 0} where
     pub listing : IsListingOf side nodes added (entry_at answer_place state.transitions) a.listing
     -- how many nodes are added at most
     pub few : length state.nodes ≤ length nodes + (ways.states * length (states_of ways.control ts) + 1) * (s.top_rank + 1)
+
+  -- What is shown of an answer: its value, and all of it where its listing is asked for.
+  pub record IsShown (listed : Bool) (a shown : Answer S W Map) : Type 0 where
+    pub value : shown.value ≡ a.value
+    pub whole : IsTrue listed → shown ≡ a
+
+  -- an answer of which this holds is shown so
+  abbrev pub Shows : Bool → (Answer S W Map → Type 0) → Answer S W Map → Type 0
+  Shows listed holds shown = (a : Answer S W Map) × holds a × IsShown listed a shown
+
+  -- it is the value of an answer of which this holds
+  abbrev pub IsValueOf : (Answer S W Map → Type 0) → W → Type 0
+  IsValueOf holds value = (a : Answer S W Map) × holds a × (value ≡ a.value)

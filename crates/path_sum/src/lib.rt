@@ -10,4 +10,4 @@ mod sum_input;
 mod summing;
 
 pub use answer::Answer;
-pub use summing::{sum, sum_parts};
+pub use summing::{sum, sum_parts, sum_value};

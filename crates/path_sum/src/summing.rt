@@ -4,8 +4,9 @@ ghost use Rattle.weighted_automata.specs.Entries.{entry_at};
 ghost use Rattle.saturation_laws.specs.Books.{IsClosed};
 ghost use Rattle.saturation_laws.specs.Openings.{AreKept};
 ghost use Rattle.path_sum.specs.Sums.{answer_place};
-ghost use Rattle.path_sum.specs.private.Growing.{IsListedOver, BeginsBehind, begun_of, state_of};
+ghost use Rattle.path_sum.specs.private.Growing.{IsShownOver, BeginsBehind, begun_of, state_of};
 ghost use Rattle.path_sum.specs.Saturated.{IsSaturatedAutomaton};
+ghost use Rattle.path_sum.specs.Answers.{Shows, IsValueOf};
 ghost use Rattle.path_sum.specs.Results.{IsSumOver, IsSumOf};
 
 use crate::Answer;
@@ -51,16 +52,23 @@ fn start<'g, S: Semiring>(
     })
 }
 
-// The listing of the answer's node, made shorter.
-fn list_answer<S: Semiring>(alloc: Global, sum: &Growing<S>) -> Result<Option<Listing>, OutOfMemory>
+// The listing of the answer's node, made shorter, where it is asked for.
+fn list_answer<S: Semiring>(
+    alloc: Global,
+    sum: &Growing<S>,
+    listed: bool,
+) -> Result<Option<Listing>, OutOfMemory>
     requires kept { (s : Operations S.W S.Ret)
         × AreKept s sum.now.pairs.transitions (length sum.now.nodes.nodes) }
     requires begins { BeginsBehind sum.now.nodes.graph.nodes sum.now.nodes.nodes }
-    ensures { IfOk result (IsListedOver sum.now.nodes
+    ensures { IfOk result (IsShownOver listed sum.now.nodes
         (entry_at answer_place sum.now.pairs.transitions)) }
 {
     let graph = sum.nodes.graph();
     let added = sum.nodes.added();
+    if !listed {
+        return Ok(None);
+    }
     match sum.pairs.find(ANSWER) {
         Some(k) => {
             let node = sum.pairs.entry(k).node;
@@ -77,7 +85,7 @@ fn list_answer<S: Semiring>(alloc: Global, sum: &Growing<S>) -> Result<Option<Li
 /// transitions are those of a finished saturation from the opening, and the nodes theirs. What is listed are the sum's
 /// own nodes made shorter (`short_listings`). Refused only when out of memory. The graph is not copied; beside it at most
 /// so many nodes are made as there are pairs and one, times the top rank and one, and each transition is looked at once
-/// for each time that a pair of its source waits.
+/// for each time that a pair of its source waits. Where no listing is asked for none is made.
 pub fn sum_parts<S: Semiring, D: Direction<S>>(
     alloc: Global,
     system: &System<S>,
@@ -86,13 +94,14 @@ pub fn sum_parts<S: Semiring, D: Direction<S>>(
     transitions: &Transitions<S>,
     graph: &Graph,
     pattern: &Pattern,
+    listed: bool,
 ) -> Result<Answer<S>, OutOfMemory>
     requires automaton { IsSaturatedAutomaton S.operations D.way system.now direction.now
         opening.now transitions.now.transitions graph.now.nodes }
     requires side { graph.now.side ≡ (D.way.tables direction.now system.now).side }
     requires pattern { pattern.now.control < system.now.controls }
-    ensures { IfOk result (IsSumOver S.operations D.way system.now direction.now opening.now
-        transitions.now.transitions graph.now.nodes pattern.now) }
+    ensures { IfOk result (Shows listed (IsSumOver S.operations D.way system.now direction.now
+        opening.now transitions.now.transitions graph.now.nodes pattern.now)) }
 {
     let semiring = system.semiring();
     let side = direction.side();
@@ -102,20 +111,20 @@ pub fn sum_parts<S: Semiring, D: Direction<S>>(
         sum.draw(alloc, &input, place)?;
     }
     let value = weight_now(alloc, semiring, &sum.pairs, ANSWER)?;
-    let listing = list_answer(alloc, &sum)?;
+    let listing = list_answer(alloc, &sum, listed)?;
     Ok(Answer { value, listing })
 }
 
-/// The weight of all runs between a pattern and the opening of a closed book, as [`sum_parts`] says. Refused only when
-/// out of memory.
-pub fn sum<S: Semiring, D: Direction<S>>(
+// The sum over a closed book, with its listing where that is asked for.
+fn sum_book<S: Semiring, D: Direction<S>>(
     alloc: Global,
     book: &Book<'_, S, D>,
     pattern: &Pattern,
+    listed: bool,
 ) -> Result<Answer<S>, OutOfMemory>
     requires closed { IsClosed book.now }
     requires pattern { pattern.now.control < book.now.system.controls }
-    ensures { IfOk result (IsSumOf S.operations D.way book.now pattern.now) }
+    ensures { IfOk result (Shows listed (IsSumOf S.operations D.way book.now pattern.now)) }
 {
     let system = book.system();
     let direction = book.direction();
@@ -130,5 +139,33 @@ pub fn sum<S: Semiring, D: Direction<S>>(
         transitions,
         graph,
         pattern,
+        listed,
     )
+}
+
+/// The weight of all runs between a pattern and the opening of a closed book, as [`sum_parts`] says, with its listing.
+/// Refused only when out of memory.
+pub fn sum<S: Semiring, D: Direction<S>>(
+    alloc: Global,
+    book: &Book<'_, S, D>,
+    pattern: &Pattern,
+) -> Result<Answer<S>, OutOfMemory>
+    requires closed { IsClosed book.now }
+    requires pattern { pattern.now.control < book.now.system.controls }
+    ensures { IfOk result (IsSumOf S.operations D.way book.now pattern.now) }
+{
+    sum_book(alloc, book, pattern, true)
+}
+
+/// The weight that [`sum`] answers, without making a listing. Refused only when out of memory.
+pub fn sum_value<S: Semiring, D: Direction<S>>(
+    alloc: Global,
+    book: &Book<'_, S, D>,
+    pattern: &Pattern,
+) -> Result<S::W, OutOfMemory>
+    requires closed { IsClosed book.now }
+    requires pattern { pattern.now.control < book.now.system.controls }
+    ensures { IfOk result (IsValueOf (IsSumOf S.operations D.way book.now pattern.now)) }
+{
+    Ok(sum_book(alloc, book, pattern, false)?.value)
 }

@@ -1,4 +1,4 @@
 -- What crates above may cite.
-pub use Rattle.witness_graph.proofs.ListingLemmas.{listing_runs, listing_tight}
+pub use Rattle.witness_graph.proofs.ListingLemmas.{listing_is, listing_runs, listing_tight}
 pub use Rattle.witness_graph.proofs.NodeLemmas.{each_earlier, nodes_push, orderly_from}
 pub use Rattle.witness_graph.proofs.RunLemmas.{runs_of-push_new, runs_of-push_old}

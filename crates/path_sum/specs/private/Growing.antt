@@ -1,5 +1,5 @@
 -- A sum while it grows, as a state, and its steps.
-use Rattle.std.specs.Prelude.{◌≡◌, ℕ, List, ◌∷◌, ◌++◌, length, Option, None, Some, IsSome}
+use Rattle.std.specs.Prelude.{◌≡◌, ℕ, Bool, IsTrue, List, ◌∷◌, ◌++◌, length, Option, None, Some, IsSome}
 use Rattle.saturation_laws.specs.Openings.{AreKept, found_so_far}
 use Rattle.saturation_laws.specs.States.{CoreState, Change}
 use Rattle.semiring_laws.specs.Semiring.{Operations}
@@ -56,3 +56,7 @@ module _ {S W Map : Type 0} where
   abbrev pub IsListedOver : Overlaid → Option (Entry S W Map) → Option Listing → Type 0
   IsListedOver o e listing = (added : List Node) × (o.nodes ≡ o.graph.nodes ++ added)
       × IsListingOf o.graph.side o.graph.nodes added e listing
+
+  -- the same of what is shown of it: all where it is asked for
+  abbrev pub IsShownOver : Bool → Overlaid → Option (Entry S W Map) → Option Listing → Type 0
+  IsShownOver listed o e shown = (listing : Option Listing) × IsListedOver o e listing × (IsTrue listed → shown ≡ listing)

@@ -9,6 +9,7 @@ use Rattle.path_sum.specs.Sums.{answer_place}
 use Rattle.path_sum.specs.private.Growing.{IsListedOver}
 use Rattle.path_sum.specs.Answers.{IsListingOf}
 use Rattle.path_sum.proofs.EntryLemmas.{found_here, present_here}
+use Rattle.path_sum.proofs.ListedLemmas.{listed_over}
 use Rattle.path_sum.proofs.summing.list_answer.Goals as goal
 
 pub entry-requires : goal.entry-requires
@@ -30,10 +31,16 @@ shorter-requires g c =
       root = subst (λ ns. c.entry.result.now.node < length ns) all root;
     }
 
+pub returns-then-listed : goal.returns-then-listed
+returns-then-listed g c =
+    let o = c.args.sum.now.nodes in
+    let l = listed_over c.requires.kept.0 o c.args.sum.now.pairs.transitions c.requires.kept.1 c.added-added.ensures.nodes c.requires.begins in
+    (l.0, l.1, λ asked. cc (asked, c.if-listed.false))
+
 pub returns-in_ok-listing-in-Some : goal.returns-in_ok-listing-in-Some
 returns-in_ok-listing-in-Some g c =
     let at = found_here answer_place c.args.sum.now.pairs.transitions c.in-Some.k c.find.result c.entry.result.now c.find.ensures.entry c.in-Some.is c.entry.ensures.entry in
     let l = c.in_ok-listing-in-Some in
     let added = c.added-added.result.now in
     let short = subst (λ (v : Nodes). IsListingOf v.side v.nodes added (Some c.entry.result.now) (Some l.listing)) c.graph-graph.ensures (l.listing, refl, l.ensures.side, l.ensures.nodes, l.ensures.runs) in
-    subst (λ o. IsListedOver c.args.sum.now.nodes o (Some l.listing)) (sym at) (added, c.added-added.ensures.added, short)
+    (Some l.listing, subst (λ o. IsListedOver c.args.sum.now.nodes o (Some l.listing)) (sym at) (added, c.added-added.ensures.added, short), λ asked. refl)

@@ -1,17 +1,10 @@
-use Rattle.std.proofs.Common.{sym}
-use Rattle.std.specs.Prelude.{IfOk}
-use Rattle.path_sum.specs.Results.{IsSumOver}
-use Rattle.path_sum.specs.Saturated.{IsSaturatedAutomaton}
-use Rattle.path_sum.proofs.BookLemmas.{book_saturated, moved}
+use Rattle.std.proofs.Common.{refl, sym, subst}
+use Rattle.std.proofs.lemmas.Result.{IfOk-weaker}
+use Rattle.path_sum.specs.Results.{IsSumOf}
 use Rattle.path_sum.proofs.summing.sum.Goals as goal
-
-pub sum_parts-requires-clause-automaton : goal.sum_parts-requires-clause-automaton
-sum_parts-requires-clause-automaton g c =
-    moved (IsSaturatedAutomaton g.S.Semiring.operations g.D.Direction.way) (sym c.system-system.ensures.value) (sym c.direction-direction.ensures)
-    (sym c.opening-opening.ensures) (sym c.transitions-transitions.ensures) (sym c.graph-graph.ensures.nodes)
-    (book_saturated g.S.Semiring.operations g.S.Semiring.laws g.D.Direction.way g.met.D.Direction.laws c.args.book.now c.system-system.ensures.book c.requires.closed)
 
 pub returns : goal.returns
 returns g c =
-    moved (λ p d o ts ns. IfOk c.sum_parts.result (IsSumOver g.S.Semiring.operations g.D.Direction.way p d o ts ns c.args.pattern.now))
-    c.system-system.ensures.value c.direction-direction.ensures c.opening-opening.ensures c.transitions-transitions.ensures c.graph-graph.ensures.nodes c.sum_parts.ensures
+    let b = c.args.book.now in
+    let holds = IsSumOf g.S.Semiring.operations g.D.Direction.way b c.args.pattern.now in
+    IfOk-weaker c.sum_book.result _ _ (λ r shows. subst holds (sym (shows.2.whole refl)) shows.1) c.sum_book.ensures

@@ -1,8 +1,9 @@
-use Rattle.std.proofs.Common.{length, sym, ap, ◌∙◌, subst}
+use Rattle.std.proofs.Common.{length, refl, sym, ap, ◌∙◌, subst}
 use Rattle.weighted_automata.specs.Entries.{entry_at}
 use Rattle.saturation_laws.specs.Openings.{AreKept}
 use Rattle.saturation_laws.specs.States.{weight_at}
 use Rattle.path_sum.specs.Sums.{answer_place, ways_of}
+use Rattle.path_sum.specs.declared.answer.Answer.{Answer}
 use Rattle.path_sum.specs.Answers.{IsListingOf}
 use Rattle.path_sum.specs.private.Growing.{IsListedOver, BeginsBehind, state_of}
 use Rattle.path_sum.proofs.AddedLemmas.{grown_begins}
@@ -94,7 +95,15 @@ returns g c =
     let sums = g.met.D.Direction.sums d p c.args.opening.now valid c.requires.automaton.fits in
     let value = c.in_ok-value.ensures ∙ ap (λ m. weight_at (g.S.Semiring.operations m) answer_place c.rounds.sum.pairs.transitions) c.semiring-semiring.ensures.value in
     let answer = entry_at answer_place c.rounds.sum.pairs.transitions in
-    let over = subst (λ (v : Nodes). IsListedOver (record { graph = v; nodes = c.rounds.sum.nodes.nodes }) answer c.in_ok-listing.listing) c.rounds.invariant.1 c.in_ok-listing.ensures in
-    let listing = subst (λ sd. IsListingOf sd c.args.graph.now.nodes over.0 answer c.in_ok-listing.listing) c.requires.side over.2 in
-    answer_sums g.S.Semiring.laws valid c.requires.automaton sums c.args.pattern.now c.requires.pattern
-    (state_of c.rounds.sum) c.rounds.invariant.0 c.in_default.ensures.place (record { value = c.in_ok-value.value; listing = c.in_ok-listing.listing }) value over.0 over.1 listing
+    let made = c.in_ok-listing.ensures in
+    let over = subst (λ (v : Nodes). IsListedOver (record { graph = v; nodes = c.rounds.sum.nodes.nodes }) answer made.0) c.rounds.invariant.1 made.1 in
+    let listing = subst (λ sd. IsListingOf sd c.args.graph.now.nodes over.0 answer made.0) c.requires.side over.2 in
+    let a : Answer _ _ _ = record { value = c.in_ok-value.value; listing = made.0 } in (
+      a,
+      answer_sums g.S.Semiring.laws valid c.requires.automaton sums c.args.pattern.now c.requires.pattern
+          (state_of c.rounds.sum) c.rounds.invariant.0 c.in_default.ensures.place a value over.0 over.1 listing,
+      record {
+        value = refl;
+        whole = λ asked. ap (λ l. let shown : Answer _ _ _ = record { value = c.in_ok-value.value; listing = l } in shown) (made.2 asked);
+      },
+    )
