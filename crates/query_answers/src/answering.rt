@@ -1,5 +1,6 @@
 ghost use Rattle.std.specs.Prelude.{◌≡◌, ◌<◌, ℕ, IfOk};
 ghost use Rattle.config_patterns.specs.Membership.{PatternValue};
+ghost use Rattle.path_sum.specs.Answers.{IsValueOf};
 ghost use Rattle.pattern_openings.specs.PatternOpenings.{IsOver};
 ghost use Rattle.pushdown_rules.specs.Pushdown.{Pushdown};
 ghost use Rattle.witness_graph.specs.declared.node.Side.{Side as SideValue};
@@ -8,7 +9,7 @@ ghost use Rattle.query_answers.specs.Answering.{opened_of, summed_of, saturated_
 
 use crate::Saturation;
 use config_patterns::Pattern;
-use path_sum::{Answer, sum};
+use path_sum::{Answer, sum, sum_value};
 use pattern_openings::openings_read_members;
 use poststar::post_opening;
 use prestar::pre_opening;
@@ -21,6 +22,18 @@ use witness_graph::Side;
 use worker_pool::saturate as saturate_book;
 use wpds_base::OutOfMemory;
 use wpds_port::Gate;
+
+// Of the patterns where runs begin and where they end, the one that a saturation starts from, and the one that is summed
+// over.
+fn by_side<'p>(side: Side, from: &'p Pattern, to: &'p Pattern) -> (&'p Pattern, &'p Pattern)
+    ensures opened { result.0.now ≡ opened_of side from.now to.now }
+    ensures summed { result.1.now ≡ summed_of side from.now to.now }
+{
+    match side {
+        Side::Pre => (to, from),
+        Side::Post => (from, to),
+    }
+}
 
 /// The finished saturation from a pattern, by so many workers: backwards from where runs end, or forwards from where they
 /// begin. Refused only when out of memory. Two workers or more have a thread each, and each worker calls the gate between
@@ -78,6 +91,26 @@ pub fn answer_over<S: Semiring>(
     }
 }
 
+/// The value of the answer that [`answer_over`] gives, without making a listing. Refused only when out of memory.
+pub fn value_over<S: Semiring>(
+    alloc: Global,
+    saturation: &Saturation<'_, S>,
+    summed: &Pattern,
+) -> Result<S::W, OutOfMemory>
+    requires finished { IsFinished saturation.now }
+    requires control { summed.now.control < (saturated_system saturation.now).controls }
+    ensures { (p : Pushdown S S.W S.Ret) (side : SideValue) (workers : ℕ) (from to : PatternValue)
+        → (opened_of side from to).control < p.controls → summed_of side from to ≡ summed.now
+        → IsSaturated S.operations p side workers (opened_of side from to) saturation.now
+        → IfOk result (IsValueOf (IsAnswer S.operations p side workers from to)) }
+{
+    openings_read_members();
+    match saturation {
+        Saturation::Backward(book) => sum_value(alloc, book, summed),
+        Saturation::Forward(book) => sum_value(alloc, book, summed),
+    }
+}
+
 /// The answer to the query for runs from a pattern to a pattern, by so many workers: backwards from the second, and then
 /// the sum over the paths that read the first, or forwards from the first, and then the sum over those that read the
 /// second. Refused only when out of memory.
@@ -101,10 +134,34 @@ pub fn answer<
     requires workers { IsWorkerCount workers }
     ensures { IfOk result (IsAnswer S.operations system.now side workers from.now to.now) }
 {
-    let (opened, summed) = match side {
-        Side::Pre => (to, from),
-        Side::Post => (from, to),
-    };
+    let (opened, summed) = by_side(side, from, to);
     let saturation = saturate(rt, alloc, system, side, workers, opened, gate)?;
     answer_over(alloc, &saturation, summed)
+}
+
+/// The value of the answer that [`answer`] gives, without making a listing. Refused only when out of memory.
+pub fn value<
+    H: Threads + Wait + Sync,
+    S: Semiring<W: Send + Sync, Ret: Send + Sync> + Send + Sync,
+    G: Gate,
+>(
+    rt: &H,
+    alloc: Global,
+    system: &System<S>,
+    side: Side,
+    workers: u32,
+    from: &Pattern,
+    to: &Pattern,
+    gate: &G,
+) -> Result<S::W, OutOfMemory>
+    requires opened { let opened = opened_of side from.now to.now in
+        IsOver system.now.controls system.now.symbols opened }
+    requires summed { (summed_of side from.now to.now).control < system.now.controls }
+    requires workers { IsWorkerCount workers }
+    ensures { let asked = IsAnswer S.operations system.now side workers from.now to.now in
+        IfOk result (IsValueOf asked) }
+{
+    let (opened, summed) = by_side(side, from, to);
+    let saturation = saturate(rt, alloc, system, side, workers, opened, gate)?;
+    value_over(alloc, &saturation, summed)
 }

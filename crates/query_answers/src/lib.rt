@@ -4,5 +4,5 @@
 mod answering;
 mod saturation;
 
-pub use answering::{answer, answer_over, saturate};
+pub use answering::{answer, answer_over, saturate, value, value_over};
 pub use saturation::Saturation;

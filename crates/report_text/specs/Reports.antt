@@ -1,5 +1,5 @@
 -- How the answers to queries are laid out in a report.
-use Rattle.std.specs.Prelude.{◌≡◌, ℕ, ◌+◌, List, [], ◌∷◌, ◌++◌, Option, None, Some, if◌then◌else◌}
+use Rattle.std.specs.Prelude.{◌≡◌, ℕ, ◌+◌, false, IsTrue, List, [], ◌∷◌, ◌++◌, Option, None, Some, if◌then◌else◌}
 use Rattle.wpds_base.specs.Limits.{most_traced}
 use Rattle.witness_graph.specs.declared.listing.Listing.{Listing}
 use Rattle.report_text.specs.declared.options.Options.{Options}
@@ -10,6 +10,10 @@ use Rattle.report_text.specs.Traces.{traces_text}
 abbrev pub ByQuery : {Q : Type 0} → (ℕ → Q → List ℕ → Type 0) → ℕ → List Q → List ℕ → Type 0
 ByQuery holds i [] text = text ≡ []
 ByQuery holds i (q ∷ qs) text = (part : List ℕ) × (rest : List ℕ) × (text ≡ part ++ rest) × holds i q part × ByQuery holds (i + 1) qs rest
+
+-- values alone are written
+abbrev pub IsBrief : Options → Type 0
+IsBrief options = IsTrue options.brief × (options.traces ≡ false)
 
 -- the lines of a listing, if there is one
 abbrev pub shown : Option Listing → List ℕ

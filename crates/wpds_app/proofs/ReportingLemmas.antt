@@ -1,5 +1,5 @@
 -- Reports over one semiring, and over that of a document.
-use Rattle.std.proofs.Common.{◌≡◌, ℕ, Bool, true, false, cond, List, length, Some, None, refl, ap, subst, ◌∙◌}
+use Rattle.std.proofs.Common.{◌≡◌, ◌<◌, ℕ, Bool, true, false, cond, List, length, Some, None, refl, sym, ap, ap₂, subst, ◌∙◌, arith, append-nil}
 use Rattle.std.specs.Prelude.{Result, Ok, Err, IfOk, Option, ◌↔◌, [], ◌++◌, if◌then◌else◌, codes, nat_le, unwrap_or}
 use Rattle.witness_graph.specs.declared.listing.Listing.{Listing}
 use Rattle.genkill_weights.specs.Widths.{width_for}
@@ -17,15 +17,16 @@ use Rattle.document_systems.specs.FactWeights.{genkill_kind}
 use Rattle.document_systems.specs.RelationWeights.{relation_kind}
 use Rattle.document_systems.specs.Weights.{reach_kind, cost_kind}
 use Rattle.report_text.specs.Listings.{query_line}
+use Rattle.path_sum.specs.Answers.{IsValueOf}
 use Rattle.path_sum.specs.declared.answer.Answer.{Answer}
 use Rattle.query_answers.specs.Answering.{IsAnswer, opened_of, summed_of}
 use Rattle.witness_graph.specs.declared.node.Side.{Side}
 use Rattle.witness_graph.specs.declared.node.Side.TheVariants.{Pre, Post}
-use Rattle.document_systems.specs.Systems.{side_of}
+use Rattle.document_systems.specs.Systems.{system_of, side_of}
 use Rattle.wpds_app.specs.private.Kept.{opened_text, summed_text}
 use Rattle.report_text.specs.declared.options.Options.{Options}
-use Rattle.report_text.specs.Reports.{ByQuery, shown, shown_runs, traced, query_text}
-use Rattle.wpds_app.specs.Reports.{IsQueryText, IsReported, BySemiring, IsBrief, IsInfeasible, TellsFeasibilityOver}
+use Rattle.report_text.specs.Reports.{ByQuery, IsBrief, shown, shown_runs, traced, query_text}
+use Rattle.wpds_app.specs.Reports.{IsQueryText, IsReported, BySemiring, IsInfeasible, TellsFeasibilityOver}
 
 -- ---- the sides of a query, by direction
 
@@ -45,6 +46,21 @@ pub summed_lawful : (by : Side) (d : Document) (q : QueryLine) → IsQueryOf d q
 summed_lawful Pre d q is = is.from
 summed_lawful Post d q is = is.to
 
+-- the pattern that a query opens is over the system's controls
+pub opened_below : {S W Map : Type 0} (kind : Kind S W Map) (by : Side) (p : Pushdown S W Map) (d : Document) (q : QueryLine) → p ≡ system_of kind p.semiring d → IsQueryOf d q
+    → (opened_of by (side_of d q.from) (side_of d q.to)).control < p.controls
+opened_below kind by p d q system is =
+    let count : p.controls ≡ length d.controls = ap (λ (s : Pushdown _ _ _). s.controls) system in
+    let opened = opened_lawful by d q is in
+    let within : (opened_text by q).control < p.controls = omega (arith, count, opened.control) in
+    subst (λ (x : PatternValue). x.control < p.controls) (sym (opened_side by d q)) within
+
+-- without listings the text of a query has its value alone
+pub brief_text : (i : ℕ) (options : Options) (value : List ℕ) (listing : Option Listing) → IsBrief options → query_text i options value listing ≡ query_line i value ++ []
+brief_text i options value listing is =
+    ap (λ b. query_line i value ++ ((if b then [] else shown listing) ++ traced options listing)) is.0
+    ∙ ap (λ b. query_line i value ++ (if b then shown_runs listing else [])) is.1
+
 -- the lines of an answer are the text of its query
 pub lines_told : {S W Map E : Type 0} (kind : Kind S W Map) (options : Options) (p : Pushdown S W Map) (items : List (List ℕ)) (i : ℕ) (from to : PatternValue) (a : Answer S W Map) (r : Result (List ℕ) E)
     (kept : S) → IsAnswer kind.operations p options.by options.workers from to a → kept ≡ p.semiring → IfOk r (λ t. t ≡ query_text i options (kind.written kept items a.value) a.listing)
@@ -52,6 +68,20 @@ pub lines_told : {S W Map E : Type 0} (kind : Kind S W Map) (options : Options) 
 lines_told kind options p items i from to a (Ok t) kept is same text =
     record { answer = a; is_answer = is; told = text ∙ ap (λ s. query_text i options (kind.written s items a.value) a.listing) same }
 lines_told kind options p items i from to a (Err e) kept is same text = tt
+
+-- and so is the line of its value where values alone are written
+pub line_told : {S W Map E : Type 0} (kind : Kind S W Map) (options : Options) (p : Pushdown S W Map) (items : List (List ℕ)) (i : ℕ) (from to : PatternValue) (v : W) (r : Result (List ℕ) E)
+    (kept : S) → IsBrief options → IsValueOf (IsAnswer kind.operations p options.by options.workers from to) v → kept ≡ p.semiring → IfOk r (λ t. t ≡ query_line i (kind.written kept items v))
+    → IfOk r (IsQueryText kind options p items i from to)
+line_told kind options p items i from to v (Ok t) kept brief (a, is, value) same text = record {
+  answer = a;
+  is_answer = is;
+  told =
+      text
+      ∙ ap₂ (λ s w. query_line i (kind.written s items w)) same value
+      ∙ sym (brief_text i options (kind.written p.semiring items a.value) a.listing brief ∙ append-nil (query_line i (kind.written p.semiring items a.value)));
+}
+line_told kind options p items i from to v (Err e) kept brief is same text = tt
 
 -- ---- what a report says of feasibility
 
@@ -105,12 +135,6 @@ by_weights d options report Copy items reach cost facts copy relation named repo
 by_weights d options report Relation items reach cost facts copy relation named reported = relation refl reported
 
 -- ---- reports without listings
-
--- without listings the text of a query has its value alone
-pub brief_text : (i : ℕ) (options : Options) (value : List ℕ) (listing : Option Listing) → IsBrief options → query_text i options value listing ≡ query_line i value ++ []
-brief_text i options value listing is =
-    ap (λ b. query_line i value ++ ((if b then [] else shown listing) ++ traced options listing)) is.0
-    ∙ ap (λ b. query_line i value ++ (if b then shown_runs listing else [])) is.1
 
 -- two reports over this semiring are equal
 abbrev pub AgreeOver : {S W Map : Type 0} → Kind S W Map → S → Document → Options → Options → List ℕ → List ℕ → Type 0

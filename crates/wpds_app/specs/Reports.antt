@@ -1,5 +1,5 @@
 -- The report on a document.
-use Rattle.std.specs.Prelude.{◌≡◌, ◌≢◌, ◌⊎◌, ◌↔◌, ℕ, ◌+◌, ◌<◌, ◌≤◌, Bool, false, IsTrue, List, [], ◌∷◌, ◌++◌, length, Option, None, Some, IfSome, codes, decimal, slice_get}
+use Rattle.std.specs.Prelude.{◌≡◌, ◌≢◌, ◌⊎◌, ◌↔◌, ℕ, ◌+◌, ◌<◌, ◌≤◌, Bool, List, [], ◌∷◌, ◌++◌, length, Option, None, Some, IfSome, codes, decimal, slice_get}
 use Rattle.std.specs.List.{AllByRecursion}
 use Rattle.semiring_laws.specs.declared.reach.NoMap.{NoMap}
 use Rattle.semiring_laws.specs.declared.reach.Reach.{Reach as ReachValue}
@@ -67,10 +67,6 @@ ByDocument holds d = BySemiring holds d.weights (length d.items)
 abbrev pub IsReport : Options → Document → List ℕ → Type 0
 IsReport options d report =
     ByDocument (λ S W Map kind semiring. IsReported kind options semiring d report) d
-
--- values alone are written
-abbrev pub IsBrief : Options → Type 0
-IsBrief options = IsTrue options.brief × (options.traces ≡ false)
 
 -- ---- what the text of a query tells
 

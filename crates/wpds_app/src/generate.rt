@@ -8,7 +8,7 @@ use crate::report::costs;
 use command_words::Generation;
 use document_systems::{DocumentWeights, pattern_from, system_from};
 use ladder::{LADDER_CAP, ladder_document, ladders_are_documents};
-use query_answers::answer;
+use query_answers::value;
 use std::alloc::Global;
 use std::sync::Wait;
 use std::thread::Threads;
@@ -43,9 +43,7 @@ pub(crate) fn answer_ladder<H: Threads + Wait + Sync, G: Gate>(
     let query = &document.queries.as_slice()[0];
     let from = pattern_from(alloc, &system, &query.from)?;
     let to = pattern_from(alloc, &system, &query.to)?;
-    let answer = answer(crew.rt, alloc, &system, by, workers, &from, &to, crew.gate)?;
-    let value = system
-        .semiring()
-        .text_of(alloc, &document.items, &answer.value)?;
-    ladder_line(alloc, rungs, document.rules.len(), &value)
+    let cost = value(crew.rt, alloc, &system, by, workers, &from, &to, crew.gate)?;
+    let text = system.semiring().text_of(alloc, &document.items, &cost)?;
+    ladder_line(alloc, rungs, document.rules.len(), &text)
 }

@@ -10,8 +10,8 @@ ghost use Rattle.document_forms.specs.Documents.{Document};
 ghost use Rattle.document_forms.specs.Lawful.{IsDocument};
 ghost use Rattle.document_forms.specs.declared.weight.WeightsLine.TheVariants.{Reach as ReachLine, Cost as CostLine};
 ghost use Rattle.report_text.specs.declared.options.Options.{Options as OptionsValue};
-ghost use Rattle.report_text.specs.Reports.{ByQuery};
-ghost use Rattle.wpds_app.specs.Reports.{IsReport, IsReported, IsQueryText, IsBrief, TellsFeasibility, TellsFeasibilityOver, TellsReachability, TellsCost, TellsCosts};
+ghost use Rattle.report_text.specs.Reports.{ByQuery, IsBrief};
+ghost use Rattle.wpds_app.specs.Reports.{IsReport, IsReported, IsQueryText, TellsFeasibility, TellsFeasibilityOver, TellsReachability, TellsCost, TellsCosts};
 
 use copy_weights::CopyConst;
 use cost_weights::{Cost, below_is_no_dearer};

@@ -9,6 +9,7 @@ ghost use Rattle.document_systems.specs.RelationWeights.{relation_kind};
 ghost use Rattle.document_systems.specs.Systems.{system_of, side_of, AreTaken};
 ghost use Rattle.worker_pool.specs.Workers.{IsWorkerCount};
 ghost use Rattle.query_answers.specs.Answering.{IsFinished, IsSaturated, saturated_system};
+ghost use Rattle.report_text.specs.Listings.{query_line as line_of_query};
 ghost use Rattle.report_text.specs.Reports.{query_text as text_of_query};
 ghost use Rattle.wpds_app.specs.Reports.{TellsQuery, IsReported, IsReport};
 ghost use Rattle.wpds_app.specs.private.Kept.{AreKept, TellsAt, opened_text, summed_text};
@@ -22,9 +23,9 @@ use document_systems::{DocumentWeights, Names, pattern_from, system_from};
 use genkill_weights::with_width;
 use path_sum::Answer;
 use pushdown_rules::System;
-use query_answers::{Saturation, answer_over, saturate};
+use query_answers::{Saturation, answer_over, saturate, value_over};
 use relation_weights::Relations;
-use report_text::{Options, query_text};
+use report_text::{Options, query_line, query_text};
 use semiring_laws::Reach;
 use std::alloc::Global;
 use std::sync::Wait;
@@ -47,6 +48,21 @@ fn answer_lines<S: DocumentWeights>(
 {
     let value = semiring.text_of(alloc, items, &answer.value)?;
     query_text(alloc, number, &value, &answer.listing, options)
+}
+
+// The line of the value of the query with a number.
+fn value_line<S: DocumentWeights>(
+    alloc: Global,
+    semiring: &S,
+    items: &Names,
+    number: u64,
+    value: &S::W,
+) -> Result<Text, OutOfMemory>
+    ensures { let value = S.kind.written semiring.now items.now value.now in
+        IfOk result (λ t. t ≡ line_of_query number value) }
+{
+    let value = semiring.text_of(alloc, items, value)?;
+    query_line(alloc, number, &value)
 }
 
 // The pattern of a query that a saturation starts from.
@@ -90,6 +106,10 @@ fn query_lines<S: DocumentWeights>(
 {
     let system = saturation.system();
     let summed = pattern_from(alloc, system, summed_text(options.by, query))?;
+    if options.is_brief() {
+        let value = value_over(alloc, saturation, &summed)?;
+        return value_line(alloc, system.semiring(), &document.items, number, &value);
+    }
     let answer = answer_over(alloc, saturation, &summed)?;
     answer_lines(
         alloc,

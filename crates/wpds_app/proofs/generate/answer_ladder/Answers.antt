@@ -9,8 +9,8 @@ use Rattle.ladder.specs.Ladders.{ladder_document, ladder_cap, question}
 use Rattle.wpds_app.proofs.LadderLemmas.{opened_over, summed_within, told}
 use Rattle.wpds_app.proofs.generate.answer_ladder.Goals as goal
 
-pub answer-requires-clause-opened : goal.answer-requires-clause-opened
-answer-requires-clause-opened g c κs within =
+pub value-requires-clause-opened : goal.value-requires-clause-opened
+value-requires-clause-opened g c κs within =
     let d = ladder_document c.args.generation.rungs in
     let is = c.in_ok-system.ensures ∙ ap₂ (system_of cost_kind) c.costs.ensures c.in_ok-document.ensures in
     let symbols = ap (λ (p : Pushdown ℕ (Option ℕ) NoMap). p.symbols) is in
@@ -21,8 +21,8 @@ answer-requires-clause-opened g c κs within =
     let end = c.in_ok-to.ensures ∙ ap₂ pattern_of symbols (ap (λ (x : QueryLine). x.to) query) in
     opened_over c.args.generation.rungs c.in_ok-system.system c.in_ok-from.from c.in_ok-to.to is begin end c.args.generation.by
 
-pub answer-requires-clause-summed : goal.answer-requires-clause-summed
-answer-requires-clause-summed g c κs within =
+pub value-requires-clause-summed : goal.value-requires-clause-summed
+value-requires-clause-summed g c κs within =
     let is = c.in_ok-system.ensures ∙ ap₂ (system_of cost_kind) c.costs.ensures c.in_ok-document.ensures in
     let symbols = ap (λ (p : Pushdown ℕ (Option ℕ) NoMap). p.symbols) is in
     let q = c.index-as_slice-0.result in
@@ -44,6 +44,7 @@ returns g c =
     let end = c.in_ok-to.ensures ∙ ap₂ pattern_of symbols (ap (λ (x : QueryLine). x.to) query) in
     let rules = c.len.ensures ∙ ap (λ (x : Document). length x.rules) c.in_ok-document.ensures in
     let items = ap (λ (x : Document). x.items) c.in_ok-document.ensures in
-    let a = c.in_ok-answer.answer in
-    let value = c.in_ok-value.ensures ∙ ap₂ (λ s xs. cost_kind.written s xs a.value) semiring items in
-    told c.args.generation c.in_ok-system.system c.in_ok-from.from c.in_ok-to.to a c.len.result c.in_ok-value.value c.ladder_line.result is begin end c.in_ok-answer.ensures rules value c.ladder_line.ensures
+    let asked = c.in_ok-cost.ensures in
+    let a = asked.0 in
+    let value = c.in_ok-text.ensures ∙ ap₂ (λ s xs. cost_kind.written s xs c.in_ok-cost.cost) semiring items ∙ ap (cost_kind.written ladder_cap []) asked.2 in
+    told c.args.generation c.in_ok-system.system c.in_ok-from.from c.in_ok-to.to a c.len.result c.in_ok-text.text c.ladder_line.result is begin end asked.1 rules value c.ladder_line.ensures

@@ -5,10 +5,11 @@ use Rattle.document_forms.specs.Lawful.{IsPatternText}
 use Rattle.document_forms.specs.declared.pattern.PatternText.{PatternText}
 use Rattle.pushdown_rules.specs.Pushdown.{Pushdown}
 use Rattle.document_systems.specs.Systems.{pattern_of, side_of}
+use Rattle.path_sum.specs.Answers.{IsValueOf}
 use Rattle.query_answers.specs.Answering.{opened_of, summed_of, saturated_system, IsAnswer, IsSaturated}
 use Rattle.wpds_app.specs.Reports.{IsQueryText}
-use Rattle.wpds_app.specs.private.Kept.{opened_text, summed_text}
-use Rattle.wpds_app.proofs.ReportingLemmas.{opened_side, summed_side, opened_lawful, summed_lawful, lines_told}
+use Rattle.wpds_app.specs.private.Kept.{summed_text}
+use Rattle.wpds_app.proofs.ReportingLemmas.{opened_side, summed_side, opened_below, summed_lawful, lines_told, line_told}
 use Rattle.wpds_app.proofs.report.query_lines.Goals as goal
 
 pub pattern_from-requires : goal.pattern_from-requires
@@ -27,6 +28,37 @@ answer_over-requires-clause-control g c =
     let count = ap (λ (p : Pushdown _ _ _). p.controls) c.requires.system in
     omega (arith, control, count, lawful.control)
 
+pub value_over-requires-clause-control : goal.value_over-requires-clause-control
+value_over-requires-clause-control g c =
+    let lawful = summed_lawful c.args.options.by c.args.document.now c.args.query.now c.requires.query in
+    let control = ap (λ (x : PatternValue). x.control) c.in_ok-summed.ensures ∙ ap (λ (t : PatternText). t.control) c.summed_text.ensures in
+    let count = ap (λ (p : Pushdown _ _ _). p.controls) c.requires.system in
+    omega (arith, control, count, lawful.control)
+
+pub returns-then-is_brief : goal.returns-then-is_brief
+returns-then-is_brief g c =
+    let p = saturated_system c.args.saturation.now in
+    let d = c.args.document.now in
+    let q = c.args.query.now in
+    let by = c.args.options.by in
+    let workers = c.args.options.workers in
+    let kind = g.S.DocumentWeights.kind in
+    let operations = g.S.Semiring.operations in
+    let from = side_of d q.from in
+    let to = side_of d q.to in
+    let v = c.in_ok-value.value in
+    let value = c.system-system.ensures in
+    let below = opened_below kind by p d q c.requires.system c.requires.query in
+    let saturated = subst (λ x. IsSaturated operations p by workers x c.args.saturation.now) (sym (opened_side by d q)) c.requires.saturated in
+    let symbols = ap (λ (s : Pushdown _ _ _). s.symbols) value ∙ ap (λ (s : Pushdown _ _ _). s.symbols) c.requires.system in
+    let summed = c.in_ok-summed.ensures ∙ ap₂ pattern_of symbols c.summed_text.ensures in
+    let is = c.in_ok-value.ensures p by workers from to below (summed_side by d q ∙ sym summed) saturated in
+    let over_kind = subst (λ o. IsValueOf (IsAnswer o p by workers from to) v) (sym g.met.S.DocumentWeights.computes) is in
+    let semiring = c.semiring.ensures.value ∙ ap (λ (s : Pushdown _ _ _). s.semiring) value in
+    let brief = c.is_brief.ensures.0 c.if-is_brief.true in
+    let told = line_told kind c.args.options p d.items c.args.number from to v c.value_line.result c.semiring.result.now brief over_kind semiring c.value_line.ensures in
+    subst (λ s. IfOk c.value_line.result (IsQueryText kind c.args.options s d.items c.args.number from to)) c.requires.system told
+
 pub returns : goal.returns
 returns g c =
     let p = saturated_system c.args.saturation.now in
@@ -40,10 +72,7 @@ returns g c =
     let from = side_of d q.from in
     let to = side_of d q.to in
     let value = c.system-system.ensures in
-    let count : p.controls ≡ length d.controls = ap (λ (s : Pushdown _ _ _). s.controls) c.requires.system in
-    let opened = opened_lawful by d q c.requires.query in
-    let within : (opened_text by q).control < p.controls = omega (arith, count, opened.control) in
-    let below = subst (λ (x : PatternValue). x.control < p.controls) (sym (opened_side by d q)) within in
+    let below = opened_below kind by p d q c.requires.system c.requires.query in
     let saturated = subst (λ x. IsSaturated operations p by workers x c.args.saturation.now) (sym (opened_side by d q)) c.requires.saturated in
     let symbols = ap (λ (s : Pushdown _ _ _). s.symbols) value ∙ ap (λ (s : Pushdown _ _ _). s.symbols) c.requires.system in
     let summed = c.in_ok-summed.ensures ∙ ap₂ pattern_of symbols c.summed_text.ensures in
