@@ -43,9 +43,6 @@ all_below n a (suc k) low = rw (below n a (omega arith), all_below n (a + 1) k (
 
 -- ---- no item is refused
 
-pub one_accepted : (n g : ℕ) → g < n → item_fault (record { control = 0; symbols = n; items = [] }) (g ∷ []) false ≡ None
-one_accepted n g low = rw (below n g low) refl
-
 few_edges : (n g : ℕ) → n ≤ 40000 → nat_lt 1000000 (length (edges_of ((alone n g).items ++ record { set = range_with_len 0 n; star = true } ∷ []))) ≡ false
 few_edges n g few =
     let all : Item = record { set = range_with_len 0 n; star = true } in

@@ -1,23 +1,16 @@
--- The patterns of a query, and the saturations that serve it.
-use Rattle.std.proofs.Common.{◌≡◌, ℕ, ◌<◌, ◌≤◌, zero, suc, ◌+◌, true, false, [], ◌∷◌, sym, ap, ◌∙◌, subst, arith}
+-- The patterns of a query are over the symbols of the lowering.
+use Rattle.std.proofs.Common.{◌≡◌, ℕ, ◌<◌, ◌≤◌, zero, suc, ◌+◌, true, false, [], ◌∷◌, arith}
 use Rattle.std.specs.Prelude.{All, Result, Ok, Err, IfOk}
 use Rattle.std.specs.List.{range_with_len, AllByRecursion}
 use Rattle.std.proofs.lemmas.List.Elements.{All-from_recursion, All-cons, All-nil}
 use Rattle.config_patterns.specs.declared.item.Item.{Item}
-use Rattle.config_patterns.specs.Membership.{PatternValue}
 use Rattle.pattern_openings.specs.PatternOpenings.{IsOver}
-use Rattle.relation_laws.specs.Building.{Parts}
-use Rattle.relation_weights.specs.declared.rel_map.RelMap.{RelMap}
-use Rattle.relation_weights.specs.Relations.{relation_operations}
 use Rattle.witness_graph.specs.declared.node.Side.{Side}
 use Rattle.witness_graph.specs.declared.node.Side.TheVariants.{Pre, Post}
 use Rattle.boolean_programs.specs.declared.point.Point.{Point}
 use Rattle.boolean_programs.specs.Programs.{Program}
 use Rattle.lowering_laws.specs.Queries.{entry_pattern, point_pattern}
-use Rattle.query_answers.specs.declared.saturation.Saturation.{Saturation}
-use Rattle.query_answers.specs.Answering.{opened_of, summed_of, IsSaturated}
-use Rattle.program_reports.specs.declared.asked.Asked.{Asked}
-use Rattle.program_reports.specs.private.Asked.{program_in, opened, Serves}
+use Rattle.query_answers.specs.Answering.{opened_of}
 use Rattle.program_reports.specs.private.Patterns.{alone, on_top}
 
 -- what follows of the value follows where there is one
@@ -50,25 +43,7 @@ module _ (n : ℕ) where
         sets = All-cons IsBelow (record { set = g ∷ []; star = false }) (any ∷ []) (one_below g low) (All-cons IsBelow any [] all (All-nil IsBelow));
       }
 
--- both patterns of a query have the one control
+-- the pattern from which a saturation starts has the one control
 pub opened_within : (by : Side) (p : Program) (point : Point) (controls : ℕ) → controls ≡ 1 → (opened_of by (entry_pattern p) (point_pattern p point)).control < controls
 opened_within Pre p point controls one = omega arith
 opened_within Post p point controls one = omega arith
-
-pub summed_within : (by : Side) (p : Program) (point : Point) (controls : ℕ) → controls ≡ 1 → (summed_of by (entry_pattern p) (point_pattern p point)).control < controls
-summed_within Pre p point controls one = omega arith
-summed_within Post p point controls one = omega arith
-
--- ---- saturations
-
--- forwards what serves one point serves every point
-pub serves_all : (a : Asked) (one other : Point) (s : Saturation ℕ Parts RelMap) → a.options.by ≡ Post → Serves a one s → Serves a other s
-serves_all a one other s post serves =
-    let from = entry_pattern (program_in a) in
-    let to : Point → PatternValue = point_pattern (program_in a) in
-    let same : opened a one ≡ opened a other = ap (λ by. opened_of by from (to one)) post ∙ sym (ap (λ by. opened_of by from (to other)) post) in
-    record {
-      finished = serves.finished;
-      system = serves.system;
-      saturated = subst (λ x. IsSaturated relation_operations a.lowering.system a.options.by a.options.workers x s) same serves.saturated;
-    }

@@ -1,6 +1,7 @@
 //! The report on a program, query by query.
 
-ghost use Rattle.std.specs.Prelude.{◌≡◌, IfOk, IfSome};
+ghost use Rattle.std.specs.Prelude.{◌≡◌, IfOk, IfSome, IsSome};
+ghost use Rattle.witness_graph.specs.declared.node.Side.TheVariants.{Post as Forward};
 ghost use Rattle.boolean_programs.specs.declared.point.Point.{Point as PointValue};
 ghost use Rattle.program_laws.specs.ReadPrograms.{IsProgram, IsPoint};
 ghost use Rattle.worker_pool.specs.Workers.{IsWorkerCount};
@@ -57,7 +58,9 @@ fn shared_saturation<'s, H: Threads + Wait + Sync, G: Gate>(
 ) -> Result<Option<Saturation<'s, Relations>>, OutOfMemory>
     requires asked { IsAsked asked.now }
     requires workers { IsWorkerCount asked.now.options.workers }
-    ensures { IfOk result (λ o. IfSome o (λ s. (point : PointValue) → Serves asked.now point s)) }
+    ensures serves { IfOk result (λ o.
+        IfSome o (λ s. (point : PointValue) → Serves asked.now point s)) }
+    ensures forwards { IfOk result (λ o. asked.now.options.by ≡ Forward → IsSome o) }
 {
     match asked.options.by {
         Side::Pre => Ok(None),
