@@ -26,7 +26,7 @@ module _ {S W Map : Type 0} (s : Operations W Map) (side : Side) (graph added : 
   listed (Some t) is =
       let within = (kept.each t (present_here answer_place ts t is)).1 in
       let l : Listing = record { side = side; nodes = shortened graph added t.node; is_listing = is_listing graph added t.node all begins within } in
-      (Some l, l, refl, refl, refl, same_runs side graph added t.node all begins within)
+      (Some l, (l, refl, refl, refl, same_runs side graph added t.node all begins within))
 
 -- of an overlay whose nodes begin with the empty run
 pub listed_over : {S W Map : Type 0} (s : Operations W Map) (o : Overlaid) (ts : List (Entry S W Map)) → AreKept s ts (length o.nodes) → AreNodes o.nodes → BeginsBehind o.graph.nodes o.nodes
@@ -34,4 +34,4 @@ pub listed_over : {S W Map : Type 0} (s : Operations W Map) (o : Overlaid) (ts :
 listed_over s o ts kept all (more, is) =
     let added = Start ∷ more in
     let l = listed s o.graph.side o.graph.nodes added ts (subst (λ ns. AreKept s ts (length ns)) is kept) (subst AreNodes is all) (more, refl) (entry_at answer_place ts) refl in
-    (l.0, added, is, l.1)
+    (l.0, (added, is, l.1))

@@ -1,5 +1,5 @@
 -- What the text of a query tells.
-use Rattle.std.proofs.Common.{◌≡◌, ◌≢◌, ◌↔◌, inl, inr, ℕ, Bool, true, false, List, [], ◌++◌, refl, ap, ◌∙◌, subst, append-nil}
+use Rattle.std.proofs.Common.{◌≡◌, ◌≢◌, ◌↔◌, inl, inr, ℕ, Bool, true, false, not, List, [], ◌++◌, refl, sym, ap, ◌∙◌, subst, append-nil, is_some}
 use Rattle.std.specs.Prelude.{◌⊎◌, Option, Some, None, codes, if◌then◌else◌}
 use Rattle.pushdown_rules.specs.Pushdown.{Pushdown}
 use Rattle.relation_laws.specs.Building.{Parts}
@@ -30,9 +30,22 @@ nothing_listed : (b : Bool) → (if b then [] else shown None) ≡ []
 nothing_listed true = refl
 nothing_listed false = refl
 
+-- no value is zero where the test says so, and each other is
+tested : {X : Type 0} (b : Bool) (v z : X) → (b ≡ true) ↔ (v ≡ z) → (not b ≡ true) ↔ (v ≢ z)
+tested true v z is = ((λ bad. cc), (λ other. absurd (other (is.0 refl))))
+tested false v z is = ((λ _ zero. let bad : false ≡ true = is.1 zero in cc), (λ _. refl))
+
 module _ (i : ℕ) (options : Options) (reached : Type 0) where
   abbrev lines : Option Listing → List ℕ
-  lines listing = query_line i (verdict listing) ++ listed options listing
+  lines listing = query_line i (verdict (is_some listing)) ++ listed options listing
+
+  -- so does the line alone, where no listing is written
+  told_alone : (text : List ℕ) (b : Bool) (listing : Option Listing) → options.brief ≡ true → text ≡ query_line i (verdict b) → ((b ≡ true) ↔ reached)
+      → (reached × (text ≡ query_line i (codes "reachable") ++ listed options listing)) ⊎ ((reached → ⊥) × (text ≡ query_line i (codes "unreachable")))
+  told_alone text true listing brief is tells =
+      let bare = sym (append-nil (query_line i (codes "reachable"))) in
+      inl (tells.0 refl, is ∙ bare ∙ ap (λ b. query_line i (codes "reachable") ++ (if b then [] else shown listing)) (sym brief))
+  told_alone text false listing brief is tells = inr ((λ yes. let bad : false ≡ true = tells.1 yes in cc), is)
 
   -- the lines tell whether the point is reached, by whether there is a listing
   told : (text : List ℕ) (listing : Option Listing) → text ≡ lines listing → ((listing ≡ None → ⊥) ↔ reached)
@@ -46,7 +59,7 @@ pub tells : (options : Options) (p : ParsedProgram) (system : Pushdown ℕ Parts
     → system.semiring ≡ variables (program_of p)
     → IsAnswer relation_operations system options.by options.workers (entry_pattern (program_of p)) (point_pattern (program_of p) point) a
     → (a.value ≢ (relation_operations (variables (program_of p))).zero) ↔ IsReached (program_of p) point
-    → text ≡ query_line i (verdict a.listing) ++ listed options a.listing → TellsPoint options p system i point text
+    → text ≡ query_line i (verdict (is_some a.listing)) ++ listed options a.listing → TellsPoint options p system i point text
 tells options p system i point text a semiring is decided lines_are =
     let unlisted : (a.listing ≡ None) ↔ (a.value ≡ (relation_operations (variables (program_of p))).zero) =
     subst (λ n. (a.listing ≡ None) ↔ (a.value ≡ (relation_operations n).zero)) semiring is.shows.unlisted in
@@ -57,6 +70,20 @@ tells options p system i point text a semiring is decided lines_are =
       told = told i options (IsReached (program_of p) point) text a.listing lines_are
           ((λ some. decided.0 (λ zero. some (unlisted.1 zero))), (λ yes none. decided.1 yes (unlisted.0 none)));
     }
+
+-- and so does the line of its value alone
+pub tells_alone : (options : Options) (p : ParsedProgram) (system : Pushdown ℕ Parts RelMap) (i : ℕ) (point : Point) (text : List ℕ) (a : Answer ℕ Parts RelMap) (zero : Bool)
+    → IsAnswer relation_operations system options.by options.workers (entry_pattern (program_of p)) (point_pattern (program_of p) point) a
+    → (a.value ≢ (relation_operations (variables (program_of p))).zero) ↔ IsReached (program_of p) point
+    → options.brief ≡ true → (zero ≡ true) ↔ (a.value ≡ (relation_operations (variables (program_of p))).zero)
+    → text ≡ query_line i (verdict (not zero)) → TellsPoint options p system i point text
+tells_alone options p system i point text a zero is decided brief test line_is = record {
+  answer = a;
+  is_answer = is;
+  decided = decided;
+  told = told_alone i options (IsReached (program_of p) point) text (not zero) a.listing brief line_is
+      (through (tested zero a.value (relation_operations (variables (program_of p))).zero test) decided);
+}
 
 -- what is told of each query over a lowering is the report
 pub reported : (a : Asked) (options : Options) (p : ParsedProgram) (text : List ℕ) → IsAsked a → a.program.now ≡ p → a.options ≡ options

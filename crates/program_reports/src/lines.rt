@@ -1,6 +1,6 @@
 //! The lines of a query.
 
-ghost use Rattle.std.specs.Prelude.{◌≡◌, ◌++◌, IfOk};
+ghost use Rattle.std.specs.Prelude.{◌≡◌, ◌++◌, IfOk, is_some};
 ghost use Rattle.report_text.specs.Listings as listings;
 ghost use Rattle.report_text.specs.Reports as reports;
 ghost use Rattle.program_reports.specs.private.Verdicts.{verdict};
@@ -11,14 +11,22 @@ use witness_graph::Listing;
 use wpds_base::OutOfMemory;
 use wpds_port::Text;
 
-// What is told of a point, by the listing of its answer.
-fn verdict(alloc: Global, listing: &Option<Listing>) -> Result<Text, OutOfMemory>
-    ensures { IfOk result (λ t. t ≡ verdict listing.now) }
+// What is told of a point that is reached or not.
+fn verdict(alloc: Global, reached: bool) -> Result<Text, OutOfMemory>
+    ensures { IfOk result (λ t. t ≡ verdict reached) }
 {
-    match listing {
-        Some(_) => Text::of(alloc, b"reachable"),
-        None => Text::of(alloc, b"unreachable"),
+    if reached {
+        Text::of(alloc, b"reachable")
+    } else {
+        Text::of(alloc, b"unreachable")
     }
+}
+
+/// The line of the query with a number, for a point that is reached or not.
+pub(crate) fn point_line(alloc: Global, number: u64, reached: bool) -> Result<Text, OutOfMemory>
+    ensures { IfOk result (λ t. t ≡ listings.query_line number (verdict reached)) }
+{
+    query_line(alloc, number, &verdict(alloc, reached)?)
 }
 
 /// The lines of the query with a number, by the listing of its answer: there is one exactly where
@@ -29,10 +37,10 @@ pub(crate) fn point_lines(
     listing: &Option<Listing>,
     options: Options,
 ) -> Result<Text, OutOfMemory>
-    ensures { let line = listings.query_line number (verdict listing.now) in
+    ensures { let line = listings.query_line number (verdict (is_some listing.now)) in
         IfOk result (λ t. t ≡ line ++ reports.listed options listing.now) }
 {
-    let mut text = query_line(alloc, number, &verdict(alloc, listing)?)?.into_vec();
+    let mut text = point_line(alloc, number, listing.is_some())?.into_vec();
     text.extend_from_slice(listed(alloc, listing, options)?.as_bytes())?;
     Ok(Text::from_vec(text))
 }

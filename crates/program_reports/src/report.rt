@@ -11,11 +11,13 @@ ghost use Rattle.program_reports.specs.private.Asked.{IsAsked, Serves, program_i
 
 use crate::answers_tell_points;
 use crate::asked::Asked;
-use crate::lines::point_lines;
+use crate::lines::{point_line, point_lines};
 use boolean_programs::{Point, Program};
-use query_answers::{Saturation, answer_over, saturate};
+use pushdown_rules::answers_are_greatest_below;
+use query_answers::{Saturation, answer_over, saturate, value_over};
 use relation_weights::Relations;
 use report_text::Options;
+use semiring_laws::Semiring;
 use std::alloc::Global;
 use std::sync::Wait;
 use std::thread::Threads;
@@ -83,7 +85,13 @@ fn lines_over(
         IfOk result (TellsPoint a.options a.program.now a.lowering.system number point) }
 {
     answers_tell_points();
+    answers_are_greatest_below::<Relations>();
     let summed = asked.summed(alloc, point)?;
+    if asked.options.is_brief() {
+        let value = value_over(alloc, saturation, &summed)?;
+        let reached = !asked.lowering.system.semiring().is_zero(&value);
+        return point_line(alloc, number, reached);
+    }
     let answer = answer_over(alloc, saturation, &summed)?;
     point_lines(alloc, number, &answer.listing, asked.options)
 }

@@ -1,8 +1,6 @@
 -- What is told of a point.
-use Rattle.std.specs.Prelude.{ℕ, List, Option, None, Some, codes}
-use Rattle.witness_graph.specs.declared.listing.Listing.{Listing}
+use Rattle.std.specs.Prelude.{ℕ, Bool, List, codes, if◌then◌else◌}
 
--- by the listing of its answer
-abbrev pub verdict : Option Listing → List ℕ
-verdict None = codes "unreachable"
-verdict (Some l) = codes "reachable"
+-- by whether it is reached
+abbrev pub verdict : Bool → List ℕ
+verdict reached = if reached then codes "reachable" else codes "unreachable"

@@ -31,11 +31,11 @@ shorter-requires g c =
       root = subst (λ ns. c.entry.result.now.node < length ns) all root;
     }
 
-pub returns-then-listed : goal.returns-then-listed
-returns-then-listed g c =
+pub returns-then-not-listed : goal.returns-then-not-listed
+returns-then-not-listed g c =
     let o = c.args.sum.now.nodes in
     let l = listed_over c.requires.kept.0 o c.args.sum.now.pairs.transitions c.requires.kept.1 c.added-added.ensures.nodes c.requires.begins in
-    (l.0, l.1, λ asked. cc (asked, c.if-listed.false))
+    (l.0, l.1, λ asked. cc (asked, c.if-not-listed.true))
 
 pub returns-in_ok-listing-in-Some : goal.returns-in_ok-listing-in-Some
 returns-in_ok-listing-in-Some g c =
