@@ -37,7 +37,7 @@ class Value:
     """An expression, or a star: it gives bits by the bits of names."""
 
     def __init__(self, words):
-        self.star = words == ["*"]
+        self.words, self.star = words, words == ["*"]
         self.names = [] if self.star else [x for x in words if (x[0].isalpha() or x[0] == "_") and x not in ("tab2", "tab3")]
         self.of = None if self.star else Expression(words).level()
 
