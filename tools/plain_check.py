@@ -616,6 +616,10 @@ def set_text(node, backwards):
     return ("" if before is None else f"set {before} or ") + " then ".join(parts)
 
 
+def listing_lines(nodes, backwards):
+    return [f"  set {k} = {set_text(n, backwards)}" for k, n in enumerate(nodes)] + [f"  answer set {len(nodes) - 1}"]
+
+
 # ---- the runs of a listing, one by one
 
 LONGEST = 100_000
@@ -659,17 +663,21 @@ def trace_lines(nodes, backwards):
     return ["  run: " + (", ".join(f"rule {rule}" for rule in run) or "empty") for run in runs_of(nodes, backwards)]
 
 
+def answers(document, backwards):
+    """For each query its value and its listing."""
+    for start, end in document.queries:
+        opened, summed = (end, start) if backwards else (start, end)
+        direction = (Backward if backwards else Forward)(document, opened)
+        yield sum_over(direction, direction.saturated(), summed, backwards)
+
+
 def report(text, brief=False, backwards=True, traces=False):
     document = Document(text)
     lines = []
-    for number, (start, end) in enumerate(document.queries, 1):
-        opened, summed = (end, start) if backwards else (start, end)
-        direction = (Backward if backwards else Forward)(document, opened)
-        value, nodes = sum_over(direction, direction.saturated(), summed, backwards)
+    for number, (value, nodes) in enumerate(answers(document, backwards), 1):
         lines.append(f"query {number}: " + ("unreachable" if value is None else document.weights.text(value)))
         if nodes and not brief:
-            lines += [f"  set {k} = {set_text(n, backwards)}" for k, n in enumerate(nodes)]
-            lines.append(f"  answer set {len(nodes) - 1}")
+            lines += listing_lines(nodes, backwards)
         if nodes and traces:
             lines += trace_lines(nodes, backwards)
     return "".join(line + "\n" for line in lines)
