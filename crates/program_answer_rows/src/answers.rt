@@ -1,21 +1,18 @@
 //! Which points of programs are reached: what `check --brief` writes.
 
+use crate::outcomes::outcome;
 use crate::programs::{
-    BLOCKS, EVEN_AND_ODD, FRESH, GOTOS, LOCK, NEVER, PING_PONG, RETURNING, SPOILED, TARGETS, TURNED,
-    UNSPOILED, WIDE,
+    BLOCKS, EVEN_AND_ODD, FRESH, GOTOS, LOCK, NEVER, PING_PONG, RETURNING, SPOILED, TARGETS,
+    TURNED, UNSPOILED, WIDE,
 };
 use std::alloc::Global;
 use std::sync::Wait;
 use std::thread::Threads;
-use wpds_app::{Status, run};
+use wpds_app::Status;
 use wpds_base::OutOfMemory;
-use wpds_port::{MemSink, MemSource, OpenGate};
 
 // How many bytes are written at most.
 const ROOM: usize = 10_000;
-
-// How many bytes are read or written at a time.
-const PIECE: usize = 4096;
 
 // Programs, and whether the point of each of their queries is reached, in order.
 const ROWS: [(&str, &[bool]); 13] = [
@@ -50,24 +47,6 @@ fn report(alloc: Global, values: &[bool]) -> Result<String, OutOfMemory> {
     Ok(text)
 }
 
-// How `check --brief` ends on a program by a direction, `pre` or `post`, and so many workers, and what it writes.
-fn outcome(
-    rt: &(impl Threads + Wait + Sync + AllocGlobal),
-    program: &str,
-    by: &str,
-    workers: &str,
-) -> Result<(Status, Vec<u8>), OutOfMemory> {
-    let mut words = Vec::new(rt.alloc());
-    for word in ["check", "--brief", "--by", by, "--workers", workers] {
-        words.push(String::from_str(rt.alloc(), word)?)?;
-    }
-    let bytes = program.as_bytes().to_vec(rt.alloc())?;
-    let mut source = MemSource::new(bytes, PIECE, Vec::new(rt.alloc()));
-    let mut sink = MemSink::new(rt.alloc(), ROOM, PIECE, Vec::new(rt.alloc()))?;
-    let status = run(rt, rt.alloc(), &words, &mut source, &mut sink, &OpenGate);
-    Ok((status, sink.written().to_vec(rt.alloc())?))
-}
-
 // Whether a program is answered by a report with these values.
 fn is_right(
     rt: &(impl Threads + Wait + Sync + AllocGlobal),
@@ -76,7 +55,8 @@ fn is_right(
     by: &str,
     workers: &str,
 ) -> Result<bool, OutOfMemory> {
-    let (status, written) = outcome(rt, program, by, workers)?;
+    let words = ["check", "--brief", "--by", by, "--workers", workers];
+    let (status, written) = outcome(rt, &words, program, ROOM)?;
     let wanted = report(rt.alloc(), values)?;
     Ok(status == Status::Answered && written.as_slice() == wanted.as_bytes())
 }
@@ -98,7 +78,11 @@ fn first_wrong(
 #[test]
 fn points_are_reached_backwards(rt: HostRuntime) -> Result<(), OutOfMemory> {
     for workers in ["1", "2", "8"] {
-        assert_eq!(rt; first_wrong(&rt, "pre", workers)?, None, "with {workers} workers");
+        assert_eq!(rt;
+            first_wrong(&rt, "pre", workers)?,
+            None,
+            "with {workers} workers"
+        );
     }
     Ok(())
 }
@@ -106,7 +90,11 @@ fn points_are_reached_backwards(rt: HostRuntime) -> Result<(), OutOfMemory> {
 #[test]
 fn points_are_reached_forwards(rt: HostRuntime) -> Result<(), OutOfMemory> {
     for workers in ["1", "2", "8"] {
-        assert_eq!(rt; first_wrong(&rt, "post", workers)?, None, "with {workers} workers");
+        assert_eq!(rt;
+            first_wrong(&rt, "post", workers)?,
+            None,
+            "with {workers} workers"
+        );
     }
     Ok(())
 }

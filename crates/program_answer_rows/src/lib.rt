@@ -4,4 +4,8 @@
 #[cfg(test)]
 mod answers;
 #[cfg(test)]
+mod outcomes;
+#[cfg(test)]
 mod programs;
+#[cfg(test)]
+mod traces;

@@ -405,3 +405,63 @@ query fails F
 query reach E
 query reach F
 ";
+
+/// A procedure that calls another one twice, in the run of which no bit is left open.
+pub(crate) const NESTED: &str = "bool 1
+global g h
+proc main()
+  local x
+  assume !g & !h & !x
+  x, h := call outer(!x, g)
+  OUT: assert x & h
+  x := 0
+  END: skip
+end
+proc outer(a, b) returns 2
+  local c
+  assume !c
+  c := a ^ b
+  g := call inner(c)
+  b := call inner(g)
+  return c, b
+end
+proc inner(d) returns 1
+  IN: assert d
+  if d
+    return d
+  else
+    d := 1
+  end
+end
+query reach IN
+query reach OUT
+query reach END
+query fails OUT
+query fails IN
+";
+
+/// A program without names.
+pub(crate) const BARE: &str = "bool 1
+proc main()
+  L: skip
+  M: goto L N
+  N: skip
+end
+query reach L
+query reach N
+query reach M
+";
+
+/// A loop that ends where 1 is chosen for `g`.
+pub(crate) const FOUND: &str = "bool 1
+global g
+proc main()
+  local x
+  assume !g & !x
+  while !g
+    g, x := *, x
+  end
+  OUT: assert g & x
+end
+query fails OUT
+";
