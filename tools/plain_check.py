@@ -1,7 +1,7 @@
 #!/usr/bin/env python3
 """A slow and plain `wpds check`, to compare the program with: what specs/ define, with lists that are searched.
 
-    tools/plain_check.py [--brief] [--by pre|post] <DOCUMENT
+    tools/plain_check.py [--brief] [--traces] [--by pre|post] <DOCUMENT
 
 It writes what `./wpds check` writes by one worker, byte for byte, listings too, on a document that is accepted. It
 refuses nothing, and takes time that grows with the cube of the document. tools/compare-plain runs both.
@@ -249,7 +249,10 @@ class Relations:
     def extend(self, a, b):
         if a is None or b is None:
             return None
-        return frozenset((x, z) for x, y in a for w, z in b if y == w) or None
+        behind = {}
+        for w, z in b:
+            behind.setdefault(w, []).append(z)
+        return frozenset((x, z) for x, y in a for z in behind.get(y, ())) or None
 
     def weight(self, words):
         weight = self.one
@@ -613,20 +616,73 @@ def set_text(node, backwards):
     return ("" if before is None else f"set {before} or ") + " then ".join(parts)
 
 
-def report(text, brief=False, backwards=True):
-    document = Document(text)
-    lines = []
-    for number, (start, end) in enumerate(document.queries, 1):
+def listing_lines(nodes, backwards):
+    return [f"  set {k} = {set_text(n, backwards)}" for k, n in enumerate(nodes)] + [f"  answer set {len(nodes) - 1}"]
+
+
+# ---- the runs of a listing, one by one
+
+LONGEST = 100_000
+
+
+def parts_of(node, backwards):
+    """The parts of a node in order: a rule as a list of its number, a set by its number."""
+    _, rule, first, second = node
+    sets = [x for x in (first, second) if x is not None]
+    of_rule = [] if rule is None else [[rule + 1]]
+    return of_rule + sets if backwards else sets + of_rule
+
+
+def sizes(nodes, backwards):
+    """For each node, how many runs it has, and how many rules these have together."""
+    found = []
+    for node in nodes:
+        runs, rules = 1, 0
+        for part in [] if node is START else parts_of(node, backwards):
+            of_part = (1, 1) if isinstance(part, list) else found[part]
+            runs, rules = runs * of_part[0], rules * of_part[0] + runs * of_part[1]
+        before = (0, 0) if node is START or node[0] is None else found[node[0]]
+        found.append((before[0] + runs, before[1] + rules))
+    return found
+
+
+def runs_of(nodes, backwards):
+    """The runs of the last node, in order."""
+    found = []
+    for node in nodes:
+        parts = [] if node is START else parts_of(node, backwards)
+        before = [] if node is START or node[0] is None else found[node[0]]
+        choices = [[part] if isinstance(part, list) else found[part] for part in parts]
+        found.append(before + [sum(picked, []) for picked in itertools.product(*choices)])
+    return found[-1]
+
+
+def trace_lines(nodes, backwards):
+    if sum(sizes(nodes, backwards)[-1]) > LONGEST:
+        return ["  traces: too long"]
+    return ["  run: " + (", ".join(f"rule {rule}" for rule in run) or "empty") for run in runs_of(nodes, backwards)]
+
+
+def answers(document, backwards):
+    """For each query its value and its listing."""
+    for start, end in document.queries:
         opened, summed = (end, start) if backwards else (start, end)
         direction = (Backward if backwards else Forward)(document, opened)
-        value, nodes = sum_over(direction, direction.saturated(), summed, backwards)
+        yield sum_over(direction, direction.saturated(), summed, backwards)
+
+
+def report(text, brief=False, backwards=True, traces=False):
+    document = Document(text)
+    lines = []
+    for number, (value, nodes) in enumerate(answers(document, backwards), 1):
         lines.append(f"query {number}: " + ("unreachable" if value is None else document.weights.text(value)))
         if nodes and not brief:
-            lines += [f"  set {k} = {set_text(n, backwards)}" for k, n in enumerate(nodes)]
-            lines.append(f"  answer set {len(nodes) - 1}")
+            lines += listing_lines(nodes, backwards)
+        if nodes and traces:
+            lines += trace_lines(nodes, backwards)
     return "".join(line + "\n" for line in lines)
 
 
 if __name__ == "__main__":
     words = sys.argv[1:]
-    sys.stdout.write(report(sys.stdin.read(), "--brief" in words, "post" not in words))
+    sys.stdout.write(report(sys.stdin.read(), "--brief" in words, "post" not in words, "--traces" in words))

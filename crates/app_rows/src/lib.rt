@@ -8,4 +8,6 @@ mod listings;
 #[cfg(test)]
 mod running;
 #[cfg(test)]
+mod traces;
+#[cfg(test)]
 mod words;

@@ -14,8 +14,8 @@ const BRIEF: [&str; 2] = ["check", "--brief"];
 const USAGE: &str =
     "usage: wpds check [--workers N] [--by pre|post] [--brief] [--traces]\nusage: wpds gen N [--workers N] [--by pre|post]\n";
 
-// How a run ends that reads 16 bytes at a time and writes 4, and what it writes.
-fn outcome(
+/// How a run ends that reads 16 bytes at a time and writes 4, and what it writes.
+pub(crate) fn outcome(
     rt: &(impl Threads + Wait + Sync + AllocGlobal),
     words: &[&str],
     document: &[u8],
@@ -118,12 +118,8 @@ fn refuses_other_documents(rt: HostRuntime) -> Result<(), Fail> {
     Ok(())
 }
 
-// Programs: none is answered yet that is read.
-const PROGRAMS: [(&str, &str); 4] = [
-    (
-        "bool 1\nproc main()\nL: skip\nend\nquery reach L\n",
-        "refused: line 0: 14 NotBuilt\n",
-    ),
+// Programs that are refused.
+const REFUSED_PROGRAMS: [(&str, &str); 3] = [
     ("bool 1", "refused: line 2: 6 Unknown\n"),
     ("# a program\n\nbool 1\n", "refused: line 4: 6 Unknown\n"),
     (
@@ -134,9 +130,31 @@ const PROGRAMS: [(&str, &str); 4] = [
 
 #[test]
 fn refuses_programs(rt: HostRuntime) -> Result<(), Fail> {
-    for (document, text) in PROGRAMS {
+    for (document, text) in REFUSED_PROGRAMS {
         let (ended, written) = outcome(&rt, &BRIEF, document.as_bytes(), &[], 100, &[])?;
         assert_eq!(rt; ended, Status::DocumentRefused, "at {document}");
+        assert_eq!(rt; written.as_slice(), text.as_bytes(), "at {document}");
+    }
+    Ok(())
+}
+
+// Programs that are answered.
+const PROGRAMS: [(&str, &str); 2] = [
+    (
+        "bool 1\nproc main()\nL: skip\nend\nquery reach L\n",
+        REACHABLE,
+    ),
+    (
+        "bool 1\nproc main()\nL: assert 1\nend\nquery fails L\n",
+        UNREACHABLE,
+    ),
+];
+
+#[test]
+fn answers_programs(rt: HostRuntime) -> Result<(), Fail> {
+    for (document, text) in PROGRAMS {
+        let (ended, written) = outcome(&rt, &BRIEF, document.as_bytes(), &[], 100, &[])?;
+        assert_eq!(rt; ended, Status::Answered, "at {document}");
         assert_eq!(rt; written.as_slice(), text.as_bytes(), "at {document}");
     }
     Ok(())
@@ -221,9 +239,10 @@ fn refuses_words(rt: HostRuntime) -> Result<(), Fail> {
         &["check", "--workers", "2", "--workers", "2"],
         &["check", "post"],
         &["check", "5"],
-        &["check", "--traces"],
+        &["check", "--traces", "--traces"],
         &["gen", "10001"],
         &["gen", "5", "--brief"],
+        &["gen", "5", "--traces"],
         &["--by", "post"],
         &[""],
     ] {
@@ -304,8 +323,8 @@ fn codes_are_told_apart(rt: HostRuntime) {
     }
 }
 
-// The lines of a ladder of so many rungs, each of which is entered twice. Its one run costs 2 to the power of the rungs.
-fn ladder(alloc: Global, rungs: u32) -> Result<String, OutOfMemory> {
+/// The lines of a ladder of so many rungs, each of which is entered twice. Its one run costs 2 to the power of the rungs.
+pub(crate) fn ladder(alloc: Global, rungs: u32) -> Result<String, OutOfMemory> {
     let mut text = String::from_str(
         alloc,
         "wpds 1\nweights cost 1000000000\ncontrols p\nsymbols",

@@ -1,4 +1,5 @@
-use command_words::{Generation, Options, Request, read_words};
+use command_words::{Generation, Request, read_words};
+use report_text::Options;
 use std::alloc::{AllocError, Global};
 use witness_graph::Side;
 
@@ -17,7 +18,21 @@ fn asked(alloc: Global, words: &[&str]) -> Result<Option<Request>, AllocError> {
 }
 
 fn check(brief: bool, by: Side, workers: u32) -> Option<Request> {
-    Some(Request::Check(Options { brief, by, workers }))
+    Some(Request::Check(Options {
+        brief,
+        traces: false,
+        by,
+        workers,
+    }))
+}
+
+fn trace(brief: bool, by: Side, workers: u32) -> Option<Request> {
+    Some(Request::Check(Options {
+        brief,
+        traces: true,
+        by,
+        workers,
+    }))
 }
 
 fn generate(rungs: u32, by: Side, workers: u32) -> Option<Request> {
@@ -26,7 +41,7 @@ fn generate(rungs: u32, by: Side, workers: u32) -> Option<Request> {
 
 #[test]
 fn takes_commands(rt: HostRuntime) -> Result<(), AllocError> {
-    let rows: [(&[&str], Option<Request>); 16] = [
+    let rows: [(&[&str], Option<Request>); 21] = [
         (&["check"], check(false, Side::Pre, 1)),
         (&["check", "--brief"], check(true, Side::Pre, 1)),
         (&["--brief", "check"], check(true, Side::Pre, 1)),
@@ -42,6 +57,22 @@ fn takes_commands(rt: HostRuntime) -> Result<(), AllocError> {
             check(true, Side::Post, 8),
         ),
         (&["--", "check"], check(false, Side::Pre, 1)),
+        (&["check", "--traces"], trace(false, Side::Pre, 1)),
+        (&["check", "--brief", "--traces"], trace(true, Side::Pre, 1)),
+        (&["check", "--traces", "--brief"], trace(true, Side::Pre, 1)),
+        (&["--traces", "--brief", "check"], trace(true, Side::Pre, 1)),
+        (
+            &[
+                "--brief",
+                "check",
+                "--by",
+                "post",
+                "--traces",
+                "--workers",
+                "8",
+            ],
+            trace(true, Side::Post, 8),
+        ),
         (&["gen", "1"], generate(1, Side::Pre, 1)),
         (
             &["gen", "10000", "--by", "post", "--workers", "8"],
@@ -64,7 +95,7 @@ fn takes_commands(rt: HostRuntime) -> Result<(), AllocError> {
 
 #[test]
 fn refuses_other_words(rt: HostRuntime) -> Result<(), AllocError> {
-    let rows: [&[&str]; 24] = [
+    let rows: [&[&str]; 27] = [
         &[],
         &[""],
         &["verify"],
@@ -89,6 +120,9 @@ fn refuses_other_words(rt: HostRuntime) -> Result<(), AllocError> {
         &["gen", "10001"],
         &["gen", "07"],
         &["gen", "3", "--brief"],
+        &["gen", "3", "--traces"],
+        &["check", "--traces", "--traces"],
+        &["check", "--traces=yes"],
     ];
     for words in rows {
         assert_eq!(rt; asked(rt.alloc(), words)?, None);

@@ -72,7 +72,7 @@ fn the_first_line(rt: HostRuntime) -> Result<(), OutOfMemory> {
     Ok(())
 }
 
-// Programs are refused by their first refusal, and those that are read as not built. A line that is no header of one
+// Programs are refused by their first refusal, and those that are read are answered. A line that is no header of one
 // begins none.
 const PROGRAMS: &str = "bool 1
 ----
@@ -97,7 +97,7 @@ L: assert g
 end
 query fails L
 ----
-refused: line 0: 14 NotBuilt
+query 1: reachable
 ====
 bool 2
 ----
