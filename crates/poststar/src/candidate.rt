@@ -2,15 +2,37 @@ ghost use Rattle.std.specs.Prelude.{◌≡◌, Some, IfOk, IfSome};
 ghost use Rattle.semiring_laws.specs.Semiring.{Fits, FitsMap};
 ghost use Rattle.pushdown_rules.specs.InSystem.{IsRuleIn};
 ghost use Rattle.saturation_laws.specs.Jobs.{InputsFit};
+ghost use Rattle.saturation_laws.specs.States.{weight_of};
 ghost use Rattle.poststar_laws.specs.Rows.{step_worth, returned_worth, glue_worth, rule_candidate, rule_named};
 ghost use Rattle.poststar_laws.specs.Rows.{rule_worth_of, returned_worth_of, candidate_of};
 
 use direction_parts::{after_return, input_weight};
 use pushdown_rules::{Rule, System};
-use saturation_laws::{Job, JobKind};
+use saturation_laws::{Input, Job, JobKind};
 use semiring_laws::Semiring;
 use std::alloc::Global;
 use wpds_base::OutOfMemory;
+
+// The weight of an input, which isn't copied, and then another.
+fn input_then<S: Semiring>(
+    alloc: Global,
+    semiring: &S,
+    input: &Option<Input<S>>,
+    weight: &S::W,
+) -> Result<S::W, OutOfMemory>
+    requires input { IfSome input.now (λ t. Fits (S.operations semiring.now) t.weight) }
+    requires weight { Fits (S.operations semiring.now) weight.now }
+    ensures { let s = S.operations semiring.now in
+        IfOk result (λ w. w ≡ s.extend (weight_of s input.now) weight.now) }
+{
+    match input {
+        Some(t) => semiring.extend(alloc, &t.weight, weight),
+        None => {
+            let zero = semiring.zero(alloc)?;
+            semiring.extend(alloc, &zero, weight)
+        }
+    }
+}
 
 // The input, and then the rule.
 fn step_worth<S: Semiring>(
@@ -23,8 +45,7 @@ fn step_worth<S: Semiring>(
     requires inputs { InputsFit (S.operations semiring.now) job.now }
     ensures { IfOk result (λ w. w ≡ step_worth (S.operations semiring.now) rule.now job.now) }
 {
-    let first = input_weight(alloc, semiring, &job.first)?;
-    semiring.extend(alloc, &first, &rule.weight)
+    input_then(alloc, semiring, &job.first, &rule.weight)
 }
 
 // What the return map of a push rule makes of a pop.
@@ -117,9 +138,13 @@ fn glue_worth<S: Semiring>(alloc: Global, semiring: &S, job: &Job<S>) -> Result<
     requires { InputsFit (S.operations semiring.now) job.now }
     ensures { IfOk result (λ w. w ≡ glue_worth (S.operations semiring.now) job.now) }
 {
-    let deep = input_weight(alloc, semiring, &job.first)?;
-    let empty = input_weight(alloc, semiring, &job.second)?;
-    semiring.extend(alloc, &deep, &empty)
+    match &job.second {
+        Some(empty) => input_then(alloc, semiring, &job.first, &empty.weight),
+        None => {
+            let zero = semiring.zero(alloc)?;
+            input_then(alloc, semiring, &job.first, &zero)
+        }
+    }
 }
 
 /// What a job is worth over a system.

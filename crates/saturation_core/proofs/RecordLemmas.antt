@@ -1,13 +1,12 @@
 -- Marks with the places of those that take, one more at their end.
-use Rattle.std.proofs.Common.{◌≡◌, ℕ, zero, suc, ◌+◌, List, [], ◌∷◌, ◌++◌, length, refl, ap, ◌∙◌, arith}
+use Rattle.std.proofs.Common.{◌≡◌, ℕ, suc, ◌+◌, List, [], ◌∷◌, ◌++◌, length, refl, ap, ◌∙◌, arith}
 use Rattle.std.specs.Prelude.{nat_eq, if◌then◌else◌}
 use Rattle.weighted_automata.specs.declared.place.Place.{Place}
-use Rattle.saturation_laws.specs.declared.event.Event.{Event}
 use Rattle.saturation_laws.specs.declared.event.Event.TheVariants as event
 use Rattle.saturation_laws.specs.Bound.{takes, takes_of}
 use Rattle.saturation_core.specs.declared.journal.Mark.{Mark}
 use Rattle.saturation_core.specs.declared.journal.Mark.TheVariants.{Take, Settle, GiveBack}
-use Rattle.saturation_core.specs.private.Records.{events_of, taken, is_taken_by, taken_by}
+use Rattle.saturation_core.specs.private.Records.{events_of, taken, taken_by}
 
 suc_same : (a b : ℕ) → suc a ≡ suc b → a ≡ b
 suc_same a b e = cc

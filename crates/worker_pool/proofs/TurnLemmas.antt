@@ -1,11 +1,10 @@
 -- What a turn of one worker makes of a book.
-use Rattle.std.proofs.Common.{◌≡◌, inl, inr, ℕ, ◌+◌, ◌-◌, ◌*◌, ◌<◌, ◌≤◌, List, [], ◌∷◌, ◌++◌, length, get_or, set, refl, sym, ap, ap₂, subst, ◌∙◌, arith}
+use Rattle.std.proofs.Common.{◌≡◌, inl, inr, ℕ, ◌+◌, ◌-◌, ◌*◌, ◌<◌, ◌≤◌, List, [], ◌∷◌, ◌++◌, length, get_or, set, refl, sym, ap, subst, ◌∙◌, arith}
 use Rattle.std.specs.Prelude.{◌≢◌, ◌↔◌, Bool, true, false, IsTrue, ◌&&◌, nat_lt, IfSome, Option, Some, None, option_map, is_none}
 use Rattle.std.specs.List.{AllByRecursion}
 use Rattle.std.proofs.lemmas.Bool.{and_parts, cond_both, cases_eq, cases_lt, ltb-true}
 use Rattle.std.proofs.lemmas.Option.{same_Some}
 use Rattle.std.proofs.lemmas.List.{get_or-set_same, get_or-set_other, get_or_past, length-set, length_push}
-use Rattle.std.proofs.lemmas.List.Elements.{All-from_recursion}
 use Rattle.semiring_laws.specs.Semiring.{Operations, IsSemiring}
 use Rattle.weighted_automata.specs.declared.place.Place.{Place}
 use Rattle.weighted_automata.specs.Entries.{entry_at}
@@ -19,8 +18,6 @@ use Rattle.saturation_laws.specs.Openings.{pops, with_edge, with_edges, bare, op
 use Rattle.saturation_laws.specs.Directions.{AgreeOn}
 use Rattle.saturation_laws.specs.Bound.{takes, gives}
 use Rattle.saturation_laws.specs.Books.{BookValue, NoHand, IsClosed, Makes, IsBook, opened_by}
-use Rattle.saturation_core.specs.DoneValue.{DoneValue}
-use Rattle.saturation_core.specs.Settled.{jobs_of, jobs_out, CanSettle}
 use Rattle.saturation_laws.proofs.CallerLemmas.{none_out, event_keeps, book_takes}
 use Rattle.worker_pool.specs.Alone.{HasBase, IsAlone, turns_of}
 use Rattle.saturation_core.specs.Calls.{TakesAndSettles}

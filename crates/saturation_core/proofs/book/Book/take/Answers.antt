@@ -1,4 +1,4 @@
-use Rattle.std.proofs.Common.{◌≡◌, ◌<◌, ◌≤◌, ◌+◌, sym, ap, ◌∙◌, subst, length, List, ◌++◌, ◌∷◌, [], arith}
+use Rattle.std.proofs.Common.{◌≡◌, ◌<◌, ◌≤◌, ◌+◌, sym, ap, ◌∙◌, subst, length, List, arith}
 use Rattle.weighted_automata.specs.Entries.{entry_at}
 use Rattle.saturation_laws.specs.declared.event.Event.TheVariants.{Take}
 use Rattle.saturation_laws.specs.declared.job.Job.{Job}

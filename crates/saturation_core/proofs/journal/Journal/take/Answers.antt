@@ -1,4 +1,4 @@
-use Rattle.std.proofs.Common.{ℕ, suc, ◌+◌, ◌≡◌, [], ◌∷◌, ◌++◌, length, ap, ◌∙◌, sym, arith}
+use Rattle.std.proofs.Common.{suc, ◌≡◌, [], ◌∷◌, ◌++◌, length, ap, ◌∙◌, sym, arith}
 use Rattle.std.proofs.lemmas.List.{length-append}
 use Rattle.saturation_laws.specs.declared.event.Event.TheVariants as event
 use Rattle.saturation_core.specs.declared.journal.Mark.TheVariants.{Take}
