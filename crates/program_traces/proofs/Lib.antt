@@ -1,0 +1,6 @@
+mod ShownLemmas
+mod WidthLemmas
+mod PointLemmas
+mod FrameLemmas
+mod WayLemmas
+mod TraceLemmas
