@@ -4,3 +4,4 @@ mod PointLemmas
 mod FrameLemmas
 mod WayLemmas
 mod TraceLemmas
+mod FirstLemmas

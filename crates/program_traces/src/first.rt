@@ -10,7 +10,7 @@ use crate::tracing::{Trace, concrete};
 use boolean_lowering::Lowering;
 use boolean_programs::Program;
 use std::alloc::Global;
-use trace_printer::{NextRun, RunWalk};
+use trace_printer::{NextRun, RunStep, RunWalk};
 use witness_graph::Listing;
 use wpds_base::OutOfMemory;
 
@@ -46,9 +46,9 @@ pub fn first_trace(
     let mut left = RunWalk::new(alloc, listing)?;
     let mut room = limit;
     'runs: while room > 0 {
-        let step = left.next_within(alloc, room - 1)?;
-        left = step.rest;
-        match step.next {
+        let RunStep { next, rest } = left.next_within(alloc, room - 1)?;
+        left = rest;
+        match next {
             NextRun::TooLong => return Ok(FirstTrace::TooLong),
             NextRun::End => unreachable!(),
             NextRun::Run(run) => {
