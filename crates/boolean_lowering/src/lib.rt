@@ -10,7 +10,9 @@ mod points;
 mod rules;
 mod sizes;
 mod spot;
+mod variables;
 mod ways;
 
 pub use lowering::{Lowering, lower};
 pub use points::PointTable;
+pub use variables::{Variables, variables_of};

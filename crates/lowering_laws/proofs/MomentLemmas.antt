@@ -16,11 +16,12 @@ use Rattle.boolean_programs.specs.Structure.{IsRead}
 use Rattle.setting_runs.specs.Relations.{Setting, MeansRelations}
 use Rattle.relation_weights.specs.declared.rel_map.Slot.{Slot}
 use Rattle.lowering_laws.specs.Lowering.{variables, symbol, IsLowering}
-use Rattle.lowering_laws.specs.Queries.{entry_point}
+use Rattle.lowering_laws.specs.Queries.{entry_point, IsTrace}
 use Rattle.setting_runs.specs.Settings.{Lead, AreMoments}
 use Rattle.lowering_laws.specs.States.{state_at, states_along}
 use Rattle.setting_runs.proofs.CallerLemmas.{feasible_leads}
 use Rattle.lowering_laws.proofs.StateLemmas.{state_matched}
+use Rattle.lowering_laws.proofs.SymbolLemmas.{stack_matched}
 use Rattle.lowering_laws.proofs.MatchLemmas.{MatchesFrames, Matches}
 use Rattle.lowering_laws.proofs.HalfLemmas.{moves_of_rule}
 use Rattle.lowering_laws.proofs.ReachingLemmas.{starts_at}
@@ -43,6 +44,7 @@ module _ {S W Map : Type 0} (s : Operations W Map) {relates : W → Setting → 
     pub states : List State
     pub follow : Follow p state states
     pub are : states_along p system c run m later ≡ state ∷ states
+    pub trace : IsTrace p system c run (state ∷ states)
 
   abbrev Goes_on : List ℕ → Configuration → Type 0
   Goes_on run mid = (t : State) (m : Machine Setting Map) (later : List (Machine Setting Map)) → Matches p slots t mid.stack m.frames m.accumulator
@@ -62,12 +64,18 @@ module _ {S W Map : Type 0} (s : Operations W Map) {relates : W → Setting → 
         states = moved.0 ∷ on.states;
         follow = (moved.1, on.follow);
         are = ap (λ xs. state_at p c.stack m ∷ xs) (ap tail next ∙ on.are) ∙ ap (λ x. x ∷ (moved.0 ∷ on.states)) first;
+        trace = (state, moved.0 ∷ on.states, refl, stack_matched p slots state c.stack m.frames m.accumulator matches, mid, next, on.trace);
       }
 
   pub along : (run : List ℕ) (c d : Configuration) → Run system c run d → (state : State) (m : Machine Setting Map) (later : List (Machine Setting Map)) → Matches p slots state c.stack m.frames m.accumulator
       → AreMoments s (variables p) relates slots (rules_of s system run) m later → Along run c state m later
   along [] c d goes state m later matches moments =
-      record { states = []; follow = tt; are = ap (λ (x : State). x ∷ []) (sym (state_matched slots p read state c.stack m.frames m.accumulator matches)) }
+      record {
+        states = [];
+        follow = tt;
+        are = ap (λ (x : State). x ∷ []) (sym (state_matched slots p read state c.stack m.frames m.accumulator matches));
+        trace = (state, refl, stack_matched p slots state c.stack m.frames m.accumulator matches);
+      }
   along (k ∷ run) c d goes state m later matches moments =
       let f = fired system k c goes.0 goes.1 in
       step_along k run c goes.0 goes.1 f.rule f.rest f.there (ap (λ (x : Configuration). x.stack) f.head) (ap (λ (x : Configuration). x.stack) f.after) state m later matches
@@ -80,12 +88,13 @@ module _ {S W Map : Type 0} {operations : S → Operations W Map} {relates : W �
   first = at_stack 0 (symbol p (entry_point p) ∷ [])
 
   pub moments_run : (run : List ℕ) (d : Configuration) → Run system first run d → (m : Machine Setting Map) (later : List (Machine Setting Map)) → m.frames ≡ []
-      → AreMoments (operations system.semiring) (variables p) relates slots (rules_of (operations system.semiring) system run) m later → IsProgramRun p (states_along p system first run m later)
+      → AreMoments (operations system.semiring) (variables p) relates slots (rules_of (operations system.semiring) system run) m later
+      → IsProgramRun p (states_along p system first run m later) × IsTrace p system first run (states_along p system first run m later)
   moments_run run d goes m later none moments =
       let start = starts_at low lawful valid laws means m.accumulator in
       let matches : Matches p slots start.state first.stack m.frames m.accumulator = subst (λ gs. Matches p slots start.state first.stack gs m.accumulator) (sym none) start.matches in
       let found = along (operations system.semiring) low read lawful run first d goes start.state m later matches moments in
-      subst (IsProgramRun p) (sym found.are) (start.start, found.follow)
+      (subst (IsProgramRun p) (sym found.are) (start.start, found.follow), subst (IsTrace p system first run) (sym found.are) found.trace)
 
   pub moments_found : (run : List ℕ) → value_of (operations system.semiring) system run ≢ (operations system.semiring).zero
       → (m : Machine Setting Map) × (later : List (Machine Setting Map)) × (m.frames ≡ []) × AreMoments (operations system.semiring) (variables p) relates slots (rules_of (operations system.semiring) system run) m later

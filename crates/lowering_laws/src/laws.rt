@@ -49,7 +49,7 @@ pub fn runs_have_traces<S: Semiring>()
 {}
 
 /// Settings that lead along a run from main's first line, with those at its open calls, make the
-/// states of a run of the program. Where the run's value is not the empty relation there are such
+/// states of a run of the program, one for each configuration at the points of its stack. Where the run's value is not the empty relation there are such
 /// settings.
 pub fn moments_are_runs<S: Semiring>()
     ensures states { (p : Program) (system : Pushdown S S.W S.Ret)
@@ -61,6 +61,15 @@ pub fn moments_are_runs<S: Semiring>()
         → (m : Machine Setting S.Ret) (later : List (Machine Setting S.Ret)) → m.frames ≡ []
         → AreMoments s (variables p) relates slots (rules_of s system run) m later
         → IsProgramRun p (states_along p system start run m later) }
+    ensures trace { (p : Program) (system : Pushdown S S.W S.Ret)
+        (relates : S.W → Setting → Setting → Bool) (slots : S.Ret → ℕ → Slot)
+        → let s = S.operations system.semiring in IsRead p → IsLawful p
+        → IsSystem S.operations system → MeansRelations s (variables p) relates slots
+        → IsLowering relates slots p system → (run : List ℕ) (d : Configuration)
+        → let start = at_stack 0 (symbol p (entry_point p) ∷ []) in Run system start run d
+        → (m : Machine Setting S.Ret) (later : List (Machine Setting S.Ret)) → m.frames ≡ []
+        → AreMoments s (variables p) relates slots (rules_of s system run) m later
+        → IsTrace p system start run (states_along p system start run m later) }
     ensures found { (p : Program) (system : Pushdown S S.W S.Ret)
         (relates : S.W → Setting → Setting → Bool) (slots : S.Ret → ℕ → Slot)
         → let s = S.operations system.semiring in IsRead p → IsLawful p

@@ -2,3 +2,4 @@ mod TotalLemmas
 mod ConcatenationLemmas
 mod OpeningLemmas
 mod WalkLemmas
+mod RoomLemmas

@@ -5,5 +5,7 @@ mod beginning;
 mod expansion;
 mod opening;
 mod totals;
+mod walking;
 
 pub use expansion::{Expanded, Run, RunList, expand};
+pub use walking::{NextRun, RunStep, RunWalk};

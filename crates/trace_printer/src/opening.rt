@@ -19,8 +19,8 @@ fn push_some(stack: &mut Vec<Beginning>, begun: Option<Beginning>) -> Result<(),
     Ok(())
 }
 
-// Opens a node that comes first in a beginning: the runs of the node before, and then those of its parts.
-fn open_node(
+/// Opens a node that comes first in a beginning: the runs of the node before, and then those of its parts.
+pub(crate) fn open_node(
     alloc: Global,
     listing: &Listing,
     totals: &[Total],
