@@ -1,3 +1,4 @@
+pub mod CallerLemmas
 mod PlaceLemmas
 mod NameLemmas
 mod ShapeLemmas

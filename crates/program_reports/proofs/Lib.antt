@@ -3,3 +3,4 @@ mod PartLemmas
 mod PatternLemmas
 mod ServingLemmas
 mod TellingLemmas
+mod TracingLemmas

@@ -1,5 +1,5 @@
 -- What the text of a query tells.
-use Rattle.std.proofs.Common.{◌≡◌, ◌≢◌, ◌↔◌, inl, inr, ℕ, Bool, true, false, not, List, [], ◌++◌, refl, sym, ap, ◌∙◌, subst, append-nil, is_some}
+use Rattle.std.proofs.Common.{◌≡◌, ◌≢◌, ◌↔◌, inl, inr, ℕ, Bool, true, false, not, List, [], ◌++◌, refl, sym, ap, ap₂, ◌∙◌, subst, append-nil, append_assoc, is_some}
 use Rattle.std.specs.Prelude.{◌⊎◌, Option, Some, None, codes, if◌then◌else◌}
 use Rattle.pushdown_rules.specs.Pushdown.{Pushdown}
 use Rattle.relation_laws.specs.Building.{Parts}
@@ -16,8 +16,8 @@ use Rattle.path_sum.specs.declared.answer.Answer.{Answer}
 use Rattle.query_answers.specs.Answering.{IsAnswer}
 use Rattle.report_text.specs.declared.options.Options.{Options}
 use Rattle.report_text.specs.Listings.{query_line}
-use Rattle.report_text.specs.Reports.{ByQuery, listed, shown}
-use Rattle.program_reports.specs.ProgramReports.{TellsPoint, IsProgramReport}
+use Rattle.report_text.specs.Reports.{ByQuery, IsBrief, listed, shown}
+use Rattle.program_reports.specs.ProgramReports.{IsTraced, IsReachedText, TellsPoint, IsProgramReport}
 use Rattle.program_reports.specs.declared.asked.Asked.{Asked}
 use Rattle.program_reports.specs.private.Asked.{IsAsked}
 use Rattle.program_reports.specs.private.Verdicts.{verdict}
@@ -30,44 +30,74 @@ nothing_listed : (b : Bool) → (if b then [] else shown None) ≡ []
 nothing_listed true = refl
 nothing_listed false = refl
 
--- no value is zero where the test says so, and each other is
+-- nothing is traced where nothing is listed, or where it is not asked for
+nothing_traced : (b : Bool) (p : ParsedProgram) (system : Pushdown ℕ Parts RelMap) (trace : List ℕ) → IsTraced b p system None trace → trace ≡ []
+nothing_traced true p system trace is = is
+nothing_traced false p system trace is = is
+
+untraced : (b : Bool) (p : ParsedProgram) (system : Pushdown ℕ Parts RelMap) (listing : Option Listing) → b ≡ false → IsTraced b p system listing []
+untraced true p system listing is = cc
+untraced false p system listing is = refl
+
+-- a value is not zero where a test says that it is not
 tested : {X : Type 0} (b : Bool) (v z : X) → (b ≡ true) ↔ (v ≡ z) → (not b ≡ true) ↔ (v ≢ z)
 tested true v z is = ((λ bad. cc), (λ other. absurd (other (is.0 refl))))
 tested false v z is = ((λ _ zero. let bad : false ≡ true = is.1 zero in cc), (λ _. refl))
 
-module _ (i : ℕ) (options : Options) (reached : Type 0) where
-  abbrev lines : Option Listing → List ℕ
-  lines listing = query_line i (verdict (is_some listing)) ++ listed options listing
-
-  -- so does the line alone, where no listing is written
-  told_alone : (text : List ℕ) (b : Bool) (listing : Option Listing) → options.brief ≡ true → text ≡ query_line i (verdict b) → ((b ≡ true) ↔ reached)
-      → (reached × (text ≡ query_line i (codes "reachable") ++ listed options listing)) ⊎ ((reached → ⊥) × (text ≡ query_line i (codes "unreachable")))
-  told_alone text true listing brief is tells =
-      let bare = sym (append-nil (query_line i (codes "reachable"))) in
-      inl (tells.0 refl, is ∙ bare ∙ ap (λ b. query_line i (codes "reachable") ++ (if b then [] else shown listing)) (sym brief))
-  told_alone text false listing brief is tells = inr ((λ yes. let bad : false ≡ true = tells.1 yes in cc), is)
+module _ (i : ℕ) (options : Options) (p : ParsedProgram) (system : Pushdown ℕ Parts RelMap) (reached : Type 0) where
+  abbrev Told : Option Listing → List ℕ → Type 0
+  Told listing text = (reached × IsReachedText options p system i listing text) ⊎ ((reached → ⊥) × (text ≡ query_line i (codes "unreachable")))
 
   -- the lines tell whether the point is reached, by whether there is a listing
-  told : (text : List ℕ) (listing : Option Listing) → text ≡ lines listing → ((listing ≡ None → ⊥) ↔ reached)
-      → (reached × (text ≡ query_line i (codes "reachable") ++ listed options listing)) ⊎ ((reached → ⊥) × (text ≡ query_line i (codes "unreachable")))
-  told text None is tells =
-      inr ((λ yes. tells.1 yes refl), is ∙ ap (λ l. query_line i (codes "unreachable") ++ l) (nothing_listed options.brief) ∙ append-nil (query_line i (codes "unreachable")))
-  told text (Some l) is tells = inl (tells.0 (λ none. cc), is)
+  told : (text trace : List ℕ) (listing : Option Listing) → text ≡ (query_line i (verdict (is_some listing)) ++ listed options listing) ++ trace
+      → IsTraced options.traces p system listing trace → ((listing ≡ None → ⊥) ↔ reached) → Told listing text
+  told text trace None is traced tells =
+      let line = query_line i (codes "unreachable") in
+      let bare = ap (λ l. line ++ l) (nothing_listed options.brief) ∙ append-nil line in
+      inr (
+        (λ yes. tells.1 yes refl),
+        is ∙ ap₂ (λ a b. a ++ b) bare (nothing_traced options.traces p system trace traced) ∙ append-nil line,
+      )
+  told text trace (Some l) is traced tells =
+      inl (
+        tells.0 (λ none. cc),
+        record {
+          trace = trace;
+          traced = traced;
+          lines = is ∙ append_assoc (query_line i (codes "reachable")) (listed options (Some l)) trace;
+        },
+      )
+
+  -- so does the line alone, where neither listings nor runs are written
+  told_alone : (text : List ℕ) (b : Bool) (listing : Option Listing) → IsBrief options → text ≡ query_line i (verdict b) → ((b ≡ true) ↔ reached) → Told listing text
+  told_alone text true listing brief is tells =
+      let line = query_line i (codes "reachable") in
+      let nothing : listed options listing ++ [] ≡ [] = ap (λ b. (if b then [] else shown listing) ++ []) brief.0 in
+      inl (
+        tells.0 refl,
+        record {
+          trace = [];
+          traced = untraced options.traces p system listing brief.1;
+          lines = is ∙ sym (append-nil line) ∙ ap (λ l. line ++ l) (sym nothing);
+        },
+      )
+  told_alone text false listing brief is tells = inr ((λ yes. let bad : false ≡ true = tells.1 yes in cc), is)
 
 -- the lines of an answer tell of the point
-pub tells : (options : Options) (p : ParsedProgram) (system : Pushdown ℕ Parts RelMap) (i : ℕ) (point : Point) (text : List ℕ) (a : Answer ℕ Parts RelMap)
+pub tells : (options : Options) (p : ParsedProgram) (system : Pushdown ℕ Parts RelMap) (i : ℕ) (point : Point) (text trace : List ℕ) (a : Answer ℕ Parts RelMap)
     → system.semiring ≡ variables (program_of p)
     → IsAnswer relation_operations system options.by options.workers (entry_pattern (program_of p)) (point_pattern (program_of p) point) a
     → (a.value ≢ (relation_operations (variables (program_of p))).zero) ↔ IsReached (program_of p) point
-    → text ≡ query_line i (verdict (is_some a.listing)) ++ listed options a.listing → TellsPoint options p system i point text
-tells options p system i point text a semiring is decided lines_are =
+    → IsTraced options.traces p system a.listing trace
+    → text ≡ (query_line i (verdict (is_some a.listing)) ++ listed options a.listing) ++ trace → TellsPoint options p system i point text
+tells options p system i point text trace a semiring is decided traced lines_are =
     let unlisted : (a.listing ≡ None) ↔ (a.value ≡ (relation_operations (variables (program_of p))).zero) =
     subst (λ n. (a.listing ≡ None) ↔ (a.value ≡ (relation_operations n).zero)) semiring is.shows.unlisted in
     record {
       answer = a;
       is_answer = is;
       decided = decided;
-      told = told i options (IsReached (program_of p) point) text a.listing lines_are
+      told = told i options p system (IsReached (program_of p) point) text trace a.listing lines_are traced
           ((λ some. decided.0 (λ zero. some (unlisted.1 zero))), (λ yes none. decided.1 yes (unlisted.0 none)));
     }
 
@@ -75,13 +105,13 @@ tells options p system i point text a semiring is decided lines_are =
 pub tells_alone : (options : Options) (p : ParsedProgram) (system : Pushdown ℕ Parts RelMap) (i : ℕ) (point : Point) (text : List ℕ) (a : Answer ℕ Parts RelMap) (zero : Bool)
     → IsAnswer relation_operations system options.by options.workers (entry_pattern (program_of p)) (point_pattern (program_of p) point) a
     → (a.value ≢ (relation_operations (variables (program_of p))).zero) ↔ IsReached (program_of p) point
-    → options.brief ≡ true → (zero ≡ true) ↔ (a.value ≡ (relation_operations (variables (program_of p))).zero)
+    → IsBrief options → (zero ≡ true) ↔ (a.value ≡ (relation_operations (variables (program_of p))).zero)
     → text ≡ query_line i (verdict (not zero)) → TellsPoint options p system i point text
 tells_alone options p system i point text a zero is decided brief test line_is = record {
   answer = a;
   is_answer = is;
   decided = decided;
-  told = told_alone i options (IsReached (program_of p) point) text (not zero) a.listing brief line_is
+  told = told_alone i options p system (IsReached (program_of p) point) text (not zero) a.listing brief line_is
       (through (tested zero a.value (relation_operations (variables (program_of p))).zero test) decided);
 }
 

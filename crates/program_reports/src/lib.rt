@@ -6,6 +6,7 @@ mod laws;
 mod lines;
 mod patterns;
 mod report;
+mod traces;
 
 pub use laws::answers_tell_points;
 pub use report::report_on_program;

@@ -30,17 +30,19 @@ pub(crate) fn point_line(alloc: Global, number: u64, reached: bool) -> Result<Te
 }
 
 /// The lines of the query with a number, by the listing of its answer: there is one exactly where
-/// the point is reached.
+/// the point is reached. Last come the lines of its trace.
 pub(crate) fn point_lines(
     alloc: Global,
     number: u64,
     listing: &Option<Listing>,
+    trace: &Text,
     options: Options,
 ) -> Result<Text, OutOfMemory>
     ensures { let line = listings.query_line number (verdict (is_some listing.now)) in
-        IfOk result (λ t. t ≡ line ++ reports.listed options listing.now) }
+        IfOk result (λ t. t ≡ (line ++ reports.listed options listing.now) ++ trace.now) }
 {
     let mut text = point_line(alloc, number, listing.is_some())?.into_vec();
     text.extend_from_slice(listed(alloc, listing, options)?.as_bytes())?;
+    text.extend_from_slice(trace.as_bytes())?;
     Ok(Text::from_vec(text))
 }

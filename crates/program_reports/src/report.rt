@@ -12,6 +12,7 @@ ghost use Rattle.program_reports.specs.private.Asked.{IsAsked, Serves, program_i
 use crate::answers_tell_points;
 use crate::asked::Asked;
 use crate::lines::{point_line, point_lines};
+use crate::traces::traced;
 use boolean_programs::{Point, Program};
 use pushdown_rules::answers_are_greatest_below;
 use query_answers::{Saturation, answer_over, saturate, value_over};
@@ -93,7 +94,8 @@ fn lines_over(
         return point_line(alloc, number, reached);
     }
     let answer = answer_over(alloc, saturation, &summed)?;
-    point_lines(alloc, number, &answer.listing, asked.options)
+    let trace = traced(alloc, asked, &answer.listing)?;
+    point_lines(alloc, number, &answer.listing, &trace, asked.options)
 }
 
 // The lines of the query for a point with a number, over the saturation that serves every point, or

@@ -1,6 +1,9 @@
 -- What the answers to a program's queries stand on.
-use Rattle.std.specs.Prelude.{◌≡◌, ℕ, length}
-use Rattle.pushdown_rules.specs.Pushdown.{IsSystem}
+use Rattle.std.specs.Prelude.{◌≡◌, ℕ, Option, IfSome, length}
+use Rattle.pushdown_rules.specs.Pushdown.{Pushdown, IsSystem}
+use Rattle.witness_graph.specs.Runs.{listing_runs}
+use Rattle.witness_graph.specs.declared.listing.Listing.{Listing}
+use Rattle.program_traces.specs.Firsts.{FireFromEntry, HasFeasible}
 use Rattle.config_patterns.specs.Membership.{PatternValue}
 use Rattle.relation_laws.specs.Building.{Parts}
 use Rattle.relation_weights.specs.declared.rel_map.RelMap.{RelMap}
@@ -38,3 +41,7 @@ pub record Serves (a : Asked) (point : Point) (s : Saturation ℕ Parts RelMap) 
   pub finished : IsFinished s
   pub system : saturated_system s ≡ a.lowering.system
   pub saturated : IsSaturated relation_operations a.lowering.system a.options.by a.options.workers (opened a point) s
+
+-- each listed run fires from main's first line, and one of them is feasible
+abbrev pub CanTrace : Program → Pushdown ℕ Parts RelMap → Option Listing → Type 0
+CanTrace p system listing = IfSome listing (λ l. FireFromEntry p system (listing_runs l) × HasFeasible system (listing_runs l))

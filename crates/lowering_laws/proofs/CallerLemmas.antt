@@ -1,0 +1,2 @@
+-- What crates above may cite.
+pub use Rattle.lowering_laws.proofs.SymbolLemmas.{entry_of_member}
