@@ -12,8 +12,8 @@ use Rattle.program_reports.proofs.TellingLemmas.{tells, tells_alone}
 use Rattle.program_reports.proofs.TracingLemmas.{can_trace}
 use Rattle.program_reports.proofs.report.lines_over.Goals as goal
 
-pub is_zero-requires : goal.is_zero-requires
-is_zero-requires c =
+pub is_zero-reached-requires : goal.is_zero-reached-requires
+is_zero-reached-requires c =
     let a = c.args.asked.now in
     let p = program_in a in
     let point = c.args.point in
@@ -40,11 +40,11 @@ returns-then-is_brief c =
     let decided = c.answers_tell_points.ensures p point system a.options.by a.options.workers asked.0 c.requires.asked.program.read c.requires.point c.requires.asked.valid low asked.1 in
     let brief = c.is_brief.ensures.0 c.if-is_brief.true in
     let semiring : c.semiring.result.now ≡ variables p = c.semiring.ensures.value ∙ low.semiring in
-    let test : (c.is_zero.result ≡ true) ↔ (asked.0.value ≡ (relation_operations (variables p)).zero) =
-    subst (λ v. (c.is_zero.result ≡ true) ↔ (v ≡ (relation_operations (variables p)).zero)) asked.2
-    (subst (λ n. (c.is_zero.result ≡ true) ↔ (c.in_ok-value.value ≡ (relation_operations n).zero)) semiring c.is_zero.ensures) in
+    let test : (c.is_zero-reached.result ≡ true) ↔ (asked.0.value ≡ (relation_operations (variables p)).zero) =
+    subst (λ v. (c.is_zero-reached.result ≡ true) ↔ (v ≡ (relation_operations (variables p)).zero)) asked.2
+    (subst (λ n. (c.is_zero-reached.result ≡ true) ↔ (c.in_ok-value.value ≡ (relation_operations n).zero)) semiring c.is_zero-reached.ensures) in
     of_ok c.point_line.result
-    (λ text line_is. tells_alone a.options a.program.now system c.args.number point text asked.0 c.is_zero.result asked.1 decided brief test line_is) c.point_line.ensures
+    (λ text line_is. tells_alone a.options a.program.now system c.args.number point text asked.0 c.is_zero-reached.result asked.1 decided brief test line_is) c.point_line.ensures
 
 pub traced-requires-clause-runs : goal.traced-requires-clause-runs
 traced-requires-clause-runs c =
