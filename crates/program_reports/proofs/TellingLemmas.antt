@@ -1,5 +1,5 @@
 -- What the text of a query tells.
-use Rattle.std.proofs.Common.{◌≡◌, ◌≢◌, ◌↔◌, inl, inr, ℕ, Bool, true, false, not, List, [], ◌++◌, refl, sym, ap, ap₂, ◌∙◌, subst, append-nil, append_assoc, is_some}
+use Rattle.std.proofs.Common.{◌≡◌, ◌≢◌, ◌↔◌, inl, inr, ℕ, Bool, true, false, not, List, [], ◌++◌, refl, sym, ap, ap₂, ◌∙◌, subst, append-nil, is_some}
 use Rattle.std.specs.Prelude.{◌⊎◌, Option, Some, None, codes, if◌then◌else◌}
 use Rattle.pushdown_rules.specs.Pushdown.{Pushdown}
 use Rattle.relation_laws.specs.Building.{Parts}
@@ -64,7 +64,7 @@ module _ (i : ℕ) (options : Options) (p : ParsedProgram) (system : Pushdown �
         record {
           trace = trace;
           traced = traced;
-          lines = is ∙ append_assoc (query_line i (codes "reachable")) (listed options (Some l)) trace;
+          lines = is;
         },
       )
 
@@ -72,13 +72,13 @@ module _ (i : ℕ) (options : Options) (p : ParsedProgram) (system : Pushdown �
   told_alone : (text : List ℕ) (b : Bool) (listing : Option Listing) → IsBrief options → text ≡ query_line i (verdict b) → ((b ≡ true) ↔ reached) → Told listing text
   told_alone text true listing brief is tells =
       let line = query_line i (codes "reachable") in
-      let nothing : listed options listing ++ [] ≡ [] = ap (λ b. (if b then [] else shown listing) ++ []) brief.0 in
+      let bare : line ++ listed options listing ≡ line = ap (λ b. line ++ (if b then [] else shown listing)) brief.0 ∙ append-nil line in
       inl (
         tells.0 refl,
         record {
           trace = [];
           traced = untraced options.traces p system listing brief.1;
-          lines = is ∙ sym (append-nil line) ∙ ap (λ l. line ++ l) (sym nothing);
+          lines = is ∙ sym bare ∙ sym (append-nil (line ++ listed options listing));
         },
       )
   told_alone text false listing brief is tells = inr ((λ yes. let bad : false ≡ true = tells.1 yes in cc), is)
