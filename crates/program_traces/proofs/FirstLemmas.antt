@@ -16,9 +16,8 @@ use Rattle.program_traces.specs.Firsts.{IsInfeasible, IsFirst, HasFeasible, IsFi
 use Rattle.program_traces.specs.Traces.{FiresFromEntry, IsRunTrace}
 use Rattle.program_traces.specs.declared.first.FirstTrace.TheVariants.{Trace, TooLong}
 use Rattle.boolean_meaning.specs.declared.state.State.{State}
+use Rattle.program_laws.proofs.ListLemmas.{each_more, each_joined}
 use Rattle.program_traces.specs.private.Progress.{IsSoFar}
-
--- ---- sizes
 
 size_one : (run : List ℕ) (runs : List (List ℕ)) → size_of (run ∷ runs) ≡ (length run + 1) + size_of runs
 size_one run runs = sum_by-cons (λ (r : List ℕ). length r + 1) run runs
@@ -26,19 +25,7 @@ size_one run runs = sum_by-cons (λ (r : List ℕ). length r + 1) run runs
 size_both : (a b : List (List ℕ)) → size_of (a ++ b) ≡ size_of a + size_of b
 size_both a b = sum_by-append (λ (r : List ℕ). length r + 1) a b
 
--- ---- each of a list and one more
-
-each_push : {X : Type 0} (P : X → Type 0) (xs : List X) (x : X) → Each P xs → P x → Each P (xs ++ x ∷ [])
-each_push P [] x all p zero y at = subst P (same_Some x y at) p
-each_push P [] x all p (suc k) y at = cc
-each_push P (z ∷ xs) x all p zero y at = all zero y at
-each_push P (z ∷ xs) x all p (suc k) y at = each_push P xs x (λ j w here. all (suc j) w here) p k y at
-
-each_both : {X : Type 0} (P : X → Type 0) (xs ys : List X) → Each P xs → Each P ys → Each P (xs ++ ys)
-each_both P [] ys all more k y at = more k y at
-each_both P (x ∷ xs) ys all more zero y at = all zero y at
-each_both P (x ∷ xs) ys all more (suc k) y at = each_both P xs ys (λ j w here. all (suc j) w here) more k y at
-
+-- the element between two lists
 middle : {X : Type 0} (xs ys : List X) (x : X) → slice_get (xs ++ x ∷ ys) (length xs) ≡ Some x
 middle [] ys x = refl
 middle (z ∷ xs) ys x = middle xs ys x
@@ -90,13 +77,13 @@ module _ (system : Pushdown ℕ Parts RelMap) where
       where
         by_find : Found left ⊎ None_feasible left → Found left
         by_find (inl found) = found
-        by_find (inr none) = absurd (feasible.4 (each_both (IsInfeasible system) so_far.taken left so_far.infeasible none (length feasible.0) feasible.1 (ap (λ l. slice_get l (length feasible.0)) (sym so_far.joins ∙ feasible.3) ∙ middle feasible.0 feasible.2 feasible.1)))
+        by_find (inr none) = absurd (feasible.4 (each_joined (IsInfeasible system) so_far.taken left so_far.infeasible none (length feasible.0) feasible.1 (ap (λ l. slice_get l (length feasible.0)) (sym so_far.joins ∙ feasible.3) ∙ middle feasible.0 feasible.2 feasible.1)))
 
     first_of_all : IsFirst system runs (so_far.taken ++ found_left.0) found_left.1
     first_of_all = record {
       after = found_left.2;
       joins = so_far.joins ∙ ap (λ l. so_far.taken ++ l) found_left.3 ∙ sym (append_assoc so_far.taken found_left.0 (found_left.1 ∷ found_left.2));
-      infeasible = each_both (IsInfeasible system) so_far.taken found_left.0 so_far.infeasible found_left.4;
+      infeasible = each_joined (IsInfeasible system) so_far.taken found_left.0 so_far.infeasible found_left.4;
       feasible = found_left.5;
     }
 
@@ -147,6 +134,6 @@ module _ (system : Pushdown ℕ Parts RelMap) where
       goes_on none left_room lost = record {
         taken = so_far.taken ++ run ∷ [];
         joins = whole ∙ sym (append_assoc so_far.taken (run ∷ []) more);
-        infeasible = each_push (IsInfeasible system) so_far.taken run so_far.infeasible none;
+        infeasible = each_more (IsInfeasible system) so_far.taken run so_far.infeasible none;
         size = let s = so_far.size in omega (arith, size_both so_far.taken (run ∷ []), size_one run []);
       }

@@ -1,6 +1,6 @@
 mod ShownLemmas
 mod WidthLemmas
-mod PointLemmas
+pub mod PointLemmas
 mod FrameLemmas
 mod WayLemmas
 mod TraceLemmas

@@ -78,6 +78,6 @@ returns g c =
     let summed = c.in_ok-summed.ensures ∙ ap₂ pattern_of symbols c.summed_text.ensures in
     let is = c.in_ok-answer.ensures p by workers from to below (summed_side by d q ∙ sym summed) saturated in
     let over_kind = subst (λ o. IsAnswer o p by workers from to a) (sym g.met.S.DocumentWeights.computes) is in
-    let semiring = c.semiring.ensures.value ∙ ap (λ (s : Pushdown _ _ _). s.semiring) value in
-    let told = lines_told kind c.args.options p d.items c.args.number from to a c.answer_lines.result c.semiring.result.now over_kind semiring c.answer_lines.ensures in
+    let semiring = c.semiring-2.ensures.value ∙ ap (λ (s : Pushdown _ _ _). s.semiring) value in
+    let told = lines_told kind c.args.options p d.items c.args.number from to a c.answer_lines.result c.semiring-2.result.now over_kind semiring c.answer_lines.ensures in
     subst (λ s. IfOk c.answer_lines.result (IsQueryText kind c.args.options s d.items c.args.number from to)) c.requires.system told

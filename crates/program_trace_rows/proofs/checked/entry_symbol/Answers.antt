@@ -1,0 +1,30 @@
+use Rattle.std.proofs.Common.{◌≡◌, sym, ap, ◌∙◌}
+use Rattle.std.specs.Prelude.{Some, slice_get, unwrap_or}
+use Rattle.std.proofs.lemmas.Option.{same_Some}
+use Rattle.boolean_programs.specs.Programs.{program_of}
+use Rattle.boolean_meaning.specs.declared.state.State.{State}
+use Rattle.boolean_meaning.specs.declared.state.Frame.{Frame}
+use Rattle.lowering_laws.specs.Lowering.{symbol, symbol_points}
+use Rattle.lowering_laws.specs.Queries.{entry_point}
+use Rattle.program_traces.proofs.PointLemmas.{symbol_there, no_symbol}
+use Rattle.program_trace_rows.proofs.checked.entry_symbol.Goals as goal
+
+pub returns-in-Some-symbol : goal.returns-in-Some-symbol
+returns-in-Some-symbol c =
+    let p = program_of c.args.program.now in
+    let point = c.in-Some.frame.point in
+    let g = c.in-Some-symbol.symbol in
+    let there : slice_get (symbol_points p) g ≡ Some point = ap (λ l. slice_get l g) (sym c.requires.points) ∙ c.in-Some-symbol.ensures.some in
+    let first = ap (λ (s : State). slice_get s.frames 0) (sym c.in_ok-first.ensures.start) ∙ c.in-Some.ensures in
+    let begins : entry_point p ≡ point = ap (λ (f : Frame). f.point) (let e = first in cc) in
+    symbol_there p point g (c.plans_are_within.ensures.symbols p point g c.requires.read there) ∙ sym (ap (λ q. symbol p q) begins)
+
+pub returns-in-Some : goal.returns-in-Some
+returns-in-Some c =
+    let p = program_of c.args.program.now in
+    let point = c.in-Some.frame.point in
+    let none = no_symbol p point (λ g e. c.plans_are_within.ensures.points p point g e)
+    (λ g e. c.in-None-symbol.ensures.none g (ap (λ l. slice_get l g) c.requires.points ∙ e)) in
+    let first = ap (λ (s : State). slice_get s.frames 0) (sym c.in_ok-first.ensures.start) ∙ c.in-Some.ensures in
+    let begins : entry_point p ≡ point = ap (λ (f : Frame). f.point) (let e = first in cc) in
+    sym (ap (λ o. unwrap_or o 0) none) ∙ sym (ap (λ q. symbol p q) begins)

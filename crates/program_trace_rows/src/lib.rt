@@ -1,0 +1,9 @@
+//! Worked traces of programs, as tests.
+#![tactic(auto)]
+
+#[cfg(test)]
+mod checked;
+#[cfg(test)]
+mod rows;
+#[cfg(test)]
+mod texts;
