@@ -6,7 +6,7 @@ use Rattle.relation_laws.specs.Building.{Parts}
 use Rattle.relation_weights.specs.declared.rel_map.RelMap.{RelMap}
 use Rattle.boolean_programs.specs.Programs.{Program}
 use Rattle.boolean_meaning.specs.declared.state.State.{State}
-use Rattle.program_laws.proofs.ListLemmas.{each_more}
+use Rattle.program_laws.proofs.CallerLemmas.{each_more}
 use Rattle.program_traces.specs.Traces.{FiresFromEntry}
 use Rattle.program_traces.specs.Firsts.{IsInfeasible, FireFromEntry, HasFeasible}
 use Rattle.program_trace_rows.specs.Checked.{IsTraced, AreTraced}

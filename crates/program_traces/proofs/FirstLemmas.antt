@@ -16,7 +16,7 @@ use Rattle.program_traces.specs.Firsts.{IsInfeasible, IsFirst, HasFeasible, IsFi
 use Rattle.program_traces.specs.Traces.{FiresFromEntry, IsRunTrace}
 use Rattle.program_traces.specs.declared.first.FirstTrace.TheVariants.{Trace, TooLong}
 use Rattle.boolean_meaning.specs.declared.state.State.{State}
-use Rattle.program_laws.proofs.ListLemmas.{each_more, each_joined}
+use Rattle.program_laws.proofs.CallerLemmas.{each_more, each_joined}
 use Rattle.program_traces.specs.private.Progress.{IsSoFar}
 
 size_one : (run : List ℕ) (runs : List (List ℕ)) → size_of (run ∷ runs) ≡ (length run + 1) + size_of runs

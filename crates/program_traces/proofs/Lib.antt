@@ -1,3 +1,4 @@
+pub mod CallerLemmas
 mod ShownLemmas
 mod WidthLemmas
 pub mod PointLemmas

@@ -3,7 +3,7 @@ use Rattle.std.proofs.Common.{◌≡◌, ℕ, suc, ◌+◌, ◌-◌, ◌*◌, �
 use Rattle.std.specs.Prelude.{if◌then◌else◌}
 use Rattle.boolean_machine.specs.Picks.{listed}
 use Rattle.boolean_meaning.specs.Bits.{number_of}
-use Rattle.boolean_meaning.proofs.ValueLemmas.{listed_same, length_listed}
+use Rattle.boolean_meaning.proofs.CallerLemmas.{listed_same, length_listed}
 
 -- the highest `done` bits
 abbrev pub highest : (ℕ → Bool) → ℕ → ℕ → ℕ → List Bool

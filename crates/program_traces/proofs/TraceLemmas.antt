@@ -14,7 +14,7 @@ use Rattle.boolean_machine.specs.Machine.{State, IsStart, Moves, Follow, IsProgr
 use Rattle.boolean_machine.specs.States.{IsState}
 use Rattle.boolean_meaning.specs.declared.state.State.{State as HeldState}
 use Rattle.boolean_meaning.specs.HeldStates.{state_of, held, IsHeld}
-use Rattle.boolean_meaning.proofs.StateLemmas.{state_back, state_held}
+use Rattle.boolean_meaning.proofs.CallerLemmas.{state_back, state_held}
 
 module _ (p : Program) (lawful : IsLawful p) (starts : (s : State) → IsStart p s → IsState p s) (moves : (from to : State) → IsState p from → Moves p from to → IsState p to) where
   abbrev AreStates : List State → Type 0

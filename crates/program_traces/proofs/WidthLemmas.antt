@@ -10,7 +10,7 @@ use Rattle.boolean_programs.specs.Programs.{Program, procedure_of, width}
 use Rattle.boolean_programs.specs.Lines.{instructions, code_from}
 use Rattle.boolean_programs.specs.Structure.{IsRead}
 use Rattle.boolean_meaning.specs.HeldStates.{width_of}
-use Rattle.boolean_lowering.proofs.SpotLemmas.{code_left}
+use Rattle.boolean_lowering.proofs.CallerLemmas.{code_left}
 use Rattle.program_traces.specs.private.Readers.{line_width}
 
 pub replicate_next : {X : Type 0} (n : ℕ) (x : X) → replicate (n + 1) x ≡ replicate n x ++ x ∷ []

@@ -1,12 +1,8 @@
 -- Names with their bits.
 use Rattle.std.proofs.Common.{◌≡◌, ℕ, zero, suc, ◌+◌, Bool, List, [], ◌∷◌, ◌++◌, length, refl, sym, ap, ◌∙◌, append_assoc, arith}
 use Rattle.boolean_machine.specs.Picks.{listed}
+use Rattle.boolean_meaning.proofs.CallerLemmas.{listed_same}
 use Rattle.state_text.specs.States.{bit_text, bits_text}
-
--- the first values of two functions that agree
-pub listed_same : (n : ℕ) (f g : ℕ → Bool) → ((k : ℕ) → f k ≡ g k) → listed n f ≡ listed n g
-listed_same zero f g same = refl
-listed_same (suc n) f g same = ap (λ b. b ∷ listed n (λ k. f (suc k))) (same 0) ∙ ap (λ bs. g 0 ∷ bs) (listed_same n (λ k. f (suc k)) (λ k. g (suc k)) (λ k. same (suc k)))
 
 -- names behind others take the bits behind theirs
 pub bits_joined : (xs ys : List (List ℕ)) (f : ℕ → Bool)

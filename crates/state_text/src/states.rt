@@ -65,7 +65,8 @@ fn add_frame(
 
 // Adds the line of a state without frames.
 fn add_ended(text: &mut Vec<u8>, program: &Program, globals: u32) -> Result<(), OutOfMemory>
-    ensures { let line = ended_line program.now (listed (length program.now.globals) (bit_of globals)) in
+    ensures { let bits = listed (length program.now.globals) (bit_of globals) in
+        let line = ended_line program.now bits in
         OnOk result (text.new.items ≡ text.old.items ++ line) }
 {
     text.extend_from_slice(b"    ended:")?;

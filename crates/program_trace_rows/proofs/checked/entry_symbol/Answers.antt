@@ -6,7 +6,7 @@ use Rattle.boolean_meaning.specs.declared.state.State.{State}
 use Rattle.boolean_meaning.specs.declared.state.Frame.{Frame}
 use Rattle.lowering_laws.specs.Lowering.{symbol, symbol_points}
 use Rattle.lowering_laws.specs.Queries.{entry_point}
-use Rattle.program_traces.proofs.PointLemmas.{symbol_there, no_symbol}
+use Rattle.program_traces.proofs.CallerLemmas.{symbol_there, no_symbol}
 use Rattle.program_trace_rows.proofs.checked.entry_symbol.Goals as goal
 
 pub returns-in-Some-symbol : goal.returns-in-Some-symbol

@@ -1,7 +1,7 @@
 use Rattle.std.proofs.Common.{◌≤◌, Bool, true, false, arith, lit≤}
 use mir.Val.{bool_byte}
 use Rattle.diagram_store.specs.Meaning.{bits_of}
-use Rattle.boolean_meaning.proofs.NumberLemmas.{number_fits}
+use Rattle.boolean_meaning.proofs.CallerLemmas.{number_fits}
 use Rattle.program_traces.proofs.ShownLemmas.{highest, highest_length}
 use Rattle.program_traces.proofs.shown.number_at.Goals as goal
 

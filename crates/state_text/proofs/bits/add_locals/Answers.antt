@@ -2,7 +2,8 @@ use Rattle.std.proofs.Common.{◌≡◌, ◌+◌, ◌++◌, ◌∙◌, ℕ, leng
 use Rattle.boolean_machine.specs.Picks.{listed}
 use Rattle.boolean_meaning.specs.Bits.{bit_of}
 use Rattle.state_text.specs.States.{bits_text}
-use Rattle.state_text.proofs.BitLemmas.{listed_same, bits_joined}
+use Rattle.boolean_meaning.proofs.CallerLemmas.{listed_same}
+use Rattle.state_text.proofs.BitLemmas.{bits_joined}
 use Rattle.state_text.proofs.bits.add_locals.Goals as goal
 
 pub returns : goal.returns

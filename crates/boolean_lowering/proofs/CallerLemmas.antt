@@ -1,0 +1,2 @@
+-- What crates above may cite.
+pub use Rattle.boolean_lowering.proofs.SpotLemmas.{code_left}
