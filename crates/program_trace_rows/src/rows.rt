@@ -29,6 +29,7 @@ query fails OUT
 
 // The rules from main's first point to the failure of its last line, and to its end.
 const TO_FAILURE: [u32; 5] = [0, 1, 2, 6, 4];
+
 const TO_END: [u32; 5] = [0, 1, 2, 6, 3];
 
 // The states of the run to the failure: the globals, and the frames, the top first, each by its
