@@ -1,6 +1,6 @@
 //! Runs that are looked at before they are traced.
 
-ghost use Rattle.std.specs.Prelude.{◌≡◌, IfOk, IfSome, IsTrue};
+ghost use Rattle.std.specs.Prelude.{◌≡◌, ◌⊎◌, IfOk, IfSome, IsSome, IsTrue};
 ghost use Rattle.witness_graph.specs.Runs.{listing_runs};
 ghost use Rattle.boolean_programs.specs.Programs.{program_of};
 ghost use Rattle.boolean_programs.specs.Structure.{IsRead};
@@ -86,6 +86,13 @@ pub(crate) fn traced(
     Ok(Some(concrete(alloc, program, lowering, run)?))
 }
 
+// Whether one was found before or this is one.
+fn is_found(before: bool, trace: &Option<Trace>) -> bool
+    ensures { IsTrue result → IsTrue before ⊎ IsSome trace.now }
+{
+    before || trace.is_some()
+}
+
 // Whether each run of a listing fires from main's first point, and one of them is feasible.
 fn are_traceable(
     alloc: Global,
@@ -112,7 +119,7 @@ fn are_traceable(
             NextRun::Run(run) => {
                 match traced(alloc, program, lowering, run.as_slice())? {
                     None => return Ok(false),
-                    Some(trace) => found = found || trace.is_some(),
+                    Some(trace) => found = is_found(found, &trace),
                 }
             }
         }

@@ -1,10 +1,8 @@
-use Rattle.std.proofs.Common.{◌≡◌, ◌⊎◌, inl, inr, subst}
-use Rattle.std.specs.Prelude.{IsTrue, IsSome}
+use Rattle.std.proofs.Common.{subst}
 use Rattle.boolean_programs.specs.Programs.{program_of}
 use Rattle.witness_graph.specs.Runs.{listing_runs}
 use Rattle.program_trace_rows.specs.Checked.{IsTraced}
 use Rattle.program_trace_rows.proofs.RunLemmas.{one_more}
-use Rattle.program_trace_rows.proofs.checked.are_traceable.Goals.{then-found, else-found}
 use Rattle.program_trace_rows.proofs.checked.are_traceable.Goals as goal
 
 pub runs-preserved : goal.runs-preserved
@@ -14,5 +12,4 @@ runs-preserved c =
     let next = rw c.in-Run.is at c.in_ok-next.ensures in
     let is = rw c.in-Some.is at c.in_ok-traced-in-Run.ensures in
     let traced : IsTraced p system c.in-Run.run' c.in-Some.trace = subst (λ r. IsTraced p system r c.in-Some.trace) c.as_slice.ensures is in
-    let told : IsTrue c.if-found.found → IsTrue c.runs.found ⊎ IsSome c.in-Some.trace = elim c.if-found.branch [ then-found w ↦ λ yes. inl w.if-found | else-found w ↦ λ yes. inr ? ] in
-    one_more p system (listing_runs c.args.listing.now) c.runs.left c.runs.found c.runs.invariant c.in-Run.run' c.in_ok-next.field-0.rest c.in-Some.trace next.0 traced c.if-found.found told
+    one_more p system (listing_runs c.args.listing.now) c.runs.left c.runs.found c.runs.invariant c.in-Run.run' c.in_ok-next.field-0.rest c.in-Some.trace next.0 traced c.is_found-found.result c.is_found-found.ensures
