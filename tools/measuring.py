@@ -1,11 +1,14 @@
-"""Runs the program on a document, and says what that took, by /usr/bin/time."""
+"""Runs the program on a document, and says what that took, by /usr/bin/time.
+
+The program is the one that ./wpds builds, or the one whose path stands in the environment as WPDS.
+"""
 import os
 import signal
 import subprocess
 import tempfile
 
 ROOT = os.path.dirname(os.path.dirname(os.path.realpath(__file__)))
-PROGRAM = os.path.join(ROOT, "crates/wpds/out/wpds")
+PROGRAM = os.environ.get("WPDS", os.path.join(ROOT, "crates/wpds/out/wpds"))
 
 
 class Taken:

@@ -1,6 +1,6 @@
 use crate::gather::{Gather, HUB};
 use pushdown_rules::{RuleFault, System};
-use saturation_core::{Book, Done, PlaceQueue, Taken, queue_up};
+use saturation_core::{Book, Done, NumberedPlace, QueuedTransitions, Taken};
 use saturation_laws::{Direction, Opening, PlaceList, StateList};
 use semiring_laws::{Reach, Semiring};
 use std::alloc::Global;
@@ -306,20 +306,40 @@ fn worked_out(rt: HostRuntime) -> Result<(), Fail> {
     Ok(())
 }
 
+// Sets what stands at a place, which is found first.
+fn lower(
+    queue: &mut QueuedTransitions<Reach>,
+    alloc: Global,
+    x: Place,
+    node: u64,
+) -> Result<(), OutOfMemory> {
+    let at = queue.list().find(x);
+    queue.lower(alloc, x, at, true, node)
+}
+
 #[test]
 fn waits_once_and_in_order(rt: HostRuntime) -> Result<(), Fail> {
+    let alloc = rt.alloc();
     let (one, two) = (place(0, 1), place(1, 0));
-    let mut queue = PlaceQueue::new(rt.alloc());
-    queue.reserve(1)?;
-    queue.enqueue(one);
-    for x in [two, one, two] {
-        queue_up(&mut queue, x)?;
+    let (first, second) = (
+        NumberedPlace {
+            number: 0,
+            place: one,
+        },
+        NumberedPlace {
+            number: 1,
+            place: two,
+        },
+    );
+    let mut queue = QueuedTransitions::new(alloc);
+    for x in [one, two, one, two] {
+        lower(&mut queue, alloc, x, 3)?;
     }
-    assert_eq!(rt; queue.front(), Some(one));
-    assert_eq!(rt; queue.pop(), Some(one));
-    // what was taken can wait again, last
-    queue_up(&mut queue, one)?;
-    for left in [Some(two), Some(one), None] {
+    assert_eq!(rt; queue.list().len(), 2);
+    assert_eq!(rt; queue.pop(), Some(first));
+    // what was taken can wait again, last, and keeps its number
+    lower(&mut queue, alloc, one, 4)?;
+    for left in [Some(second), Some(first), None] {
         assert_eq!(rt; queue.pop(), left);
     }
     Ok(())

@@ -1,7 +1,7 @@
 -- Meets and lists of forms, one step further than before.
-use Rattle.std.proofs.Common.{◌≡◌, ℕ, zero, suc, ◌+◌, ◌/◌, ◌%◌, ◌^◌, true, false, List, [], ◌∷◌, ◌++◌, refl, sym, ap, ap₂, ◌∙◌, arith}
+use Rattle.std.proofs.Common.{◌≡◌, ◌<◌, inl, inr, ℕ, zero, suc, ◌+◌, ◌/◌, ◌%◌, ◌^◌, true, false, List, [], ◌∷◌, ◌++◌, refl, sym, ap, ap₂, ◌∙◌, arith}
 use Rattle.std.specs.Prelude.{nat_eq, bit_and}
-use Rattle.std.proofs.lemmas.Bool.{eqb-true, eq-eqb, false_from_ne_true}
+use Rattle.std.proofs.lemmas.Bool.{cases_lt, eqb-true, eq-eqb, false_from_ne_true}
 use Rattle.std.proofs.lemmas.Nat.Bits.{shr_and_one}
 use Rattle.copy_weights.specs.declared.form.Form.{Form}
 use Rattle.copy_weights.specs.Forms.{meet, undefined, has, meet_over, tabulate}
@@ -50,3 +50,12 @@ tabulate_none f = refl
 -- one more form behind the others
 pub tabulate_pushed : (k : ℕ) (f : ℕ → Form) (old new : List Form) (g : Form) → old ≡ tabulate k f → g ≡ f k → new ≡ old ++ g ∷ [] → new ≡ tabulate (k + 1) f
 tabulate_pushed k f old new g e h is = is ∙ ap₂ (λ l x. l ++ x ∷ []) e h ∙ sym (tabulate_next k f)
+
+-- forms that are alike below a number, and there
+pub alike_next : (k : ℕ) (f g : ℕ → Form) → ((i : ℕ) → i < k → f i ≡ g i) → f k ≡ g k → (i : ℕ) → i < k + 1 → f i ≡ g i
+alike_next k f g below at i within = elim (cases_lt i k) [
+  | inl less ↦ below i less
+  | inr more ↦
+      let is : i ≡ k = omega (arith, more) in
+      rw is at
+]

@@ -7,7 +7,7 @@ ghost use Rattle.copy_weights.specs.declared.form.CopyMap.TheVariants.{Restore};
 ghost use Rattle.copy_weights.specs.CopyConst.{copy_operations};
 ghost use Rattle.copy_weights.specs.CopyLaws.{copy_laws};
 
-use crate::lists::{composed, identity, meets, restored};
+use crate::lists::{composed, has_meets, identity, is_identity, meets, restored};
 use crate::making::{set_of, with_changes};
 use crate::{CopyMap, CopyW, Form, Forms};
 use semiring_laws::Semiring;
@@ -67,6 +67,52 @@ impl CopyConst {
         let vars = set_of(self.vars, vars);
         CopyMap::Restore { vars }
     }
+
+    // Whether the runs of the second weight add nothing to those of the first.
+    fn has_all(&self, a: &CopyW, b: &CopyW) -> bool
+        requires left { Fits (copy_operations self.now) a.now }
+        requires right { Fits (copy_operations self.now) b.now }
+        ensures { IsTrue result ↔ ((copy_operations self.now).combine a.now b.now ≡ a.now) }
+    {
+        match (a, b) {
+            (_, CopyW::Zero) => true,
+            (CopyW::Zero, CopyW::Map { .. }) => false,
+            (CopyW::Map { forms: f }, CopyW::Map { forms: g }) => {
+                has_meets(f.as_slice(), g.as_slice())
+            }
+        }
+    }
+
+    // Whether each variable keeps its value.
+    fn is_one(&self, w: &CopyW) -> bool
+        requires { Fits (copy_operations self.now) w.now }
+        ensures { IsTrue result → w.now ≡ (copy_operations self.now).one }
+    {
+        let _vars = self.vars;
+        match w {
+            CopyW::Zero => false,
+            CopyW::Map { forms } => is_identity(forms.as_slice()),
+        }
+    }
+
+    // The runs of either weight, where the first does not have all of them.
+    fn joined(&self, alloc: Global, a: &CopyW, b: &CopyW) -> Result<CopyW, OutOfMemory>
+        requires left { Fits (copy_operations self.now) a.now }
+        requires right { Fits (copy_operations self.now) b.now }
+        ensures { IfOk result (λ w. w ≡ (copy_operations self.now).combine a.now b.now) }
+    {
+        if self.has_all(b, a) {
+            return copied(b);
+        }
+        match (a, b) {
+            (CopyW::Zero, _) => copied(b),
+            (_, CopyW::Zero) => copied(a),
+            (CopyW::Map { forms: f }, CopyW::Map { forms: g }) => {
+                let forms = meets(alloc, f.as_slice(), g.as_slice())?;
+                map_of(forms)
+            }
+        }
+    }
 }
 
 // The weight that has these forms.
@@ -115,18 +161,20 @@ impl Semiring for CopyConst {
     }
 
     fn combine(&self, alloc: Global, a: &CopyW, b: &CopyW) -> Result<CopyW, OutOfMemory> {
-        match (a, b) {
-            (CopyW::Zero, _) => copied(b),
-            (_, CopyW::Zero) => copied(a),
-            (CopyW::Map { forms: f }, CopyW::Map { forms: g }) => {
-                let forms = meets(alloc, f.as_slice(), g.as_slice())?;
-                map_of(forms)
-            }
+        if self.has_all(a, b) {
+            return copied(a);
         }
+        self.joined(alloc, a, b)
     }
 
     fn extend(&self, alloc: Global, a: &CopyW, b: &CopyW) -> Result<CopyW, OutOfMemory> {
         let _vars = self.vars;
+        if self.is_one(b) {
+            return copied(a);
+        }
+        if self.is_one(a) {
+            return copied(b);
+        }
         match (a, b) {
             (CopyW::Map { forms: f }, CopyW::Map { forms: g }) => {
                 let forms = composed(alloc, f.as_slice(), g.as_slice())?;
@@ -134,6 +182,19 @@ impl Semiring for CopyConst {
             }
             _ => Ok(CopyW::Zero),
         }
+    }
+
+    fn lowered(
+        &self,
+        alloc: Global,
+        old: &CopyW,
+        weight: &CopyW,
+    ) -> Result<Option<CopyW>, OutOfMemory> {
+        if self.has_all(old, weight) {
+            return Ok(None);
+        }
+        let sum = self.joined(alloc, old, weight)?;
+        Ok(Some(sum))
     }
 
     fn copy(&self, _alloc: Global, a: &CopyW) -> Result<CopyW, OutOfMemory> {

@@ -1,4 +1,4 @@
-ghost use Rattle.std.specs.Prelude.{◌≡◌, ◌≤◌, ◌<◌, IfOk, length, cond};
+ghost use Rattle.std.specs.Prelude.{◌≡◌, ◌↔◌, ◌≤◌, ◌<◌, IsTrue, IfOk, length, cond};
 ghost use Rattle.copy_weights.specs.Forms as spec;
 
 use crate::Form;
@@ -16,6 +16,38 @@ pub(crate) fn meets(alloc: Global, a: &[Form], b: &[Form]) -> Result<Vec<Form>, 
         list.push(meet(a[k], b[k]))?;
     }
     Ok(list)
+}
+
+fn is_same(f: Form, g: Form) -> bool
+    ensures { IsTrue result ↔ (f ≡ g) }
+{
+    f == g
+}
+
+/// Whether the meets with the second's forms are the first's.
+pub(crate) fn has_meets(a: &[Form], b: &[Form]) -> bool
+    requires { length a.now ≡ length b.now }
+    ensures { IsTrue result ↔ (spec.meets (length a.now) a.now b.now ≡ a.now) }
+{
+    for k in 0..a.len() {
+        if !is_same(meet(a[k], b[k]), a[k]) {
+            return false;
+        }
+    }
+    true
+}
+
+/// Whether each variable is itself.
+pub(crate) fn is_identity(a: &[Form]) -> bool
+    requires { length a.now ≤ 64 }
+    ensures { IsTrue result → a.now ≡ spec.identity (length a.now) }
+{
+    for k in 0..a.len() {
+        if !is_same(itself(k), a[k]) {
+            return false;
+        }
+    }
+    true
 }
 
 /// The second's forms with the first's put in for their variables.

@@ -10,3 +10,4 @@ pub use Rattle.direction_parts.proofs.MergeLemmas.{by_number-none, by_rule_is, n
 pub use Rattle.direction_parts.proofs.MergeLemmas.{IsPass, pass_starts, pass_at, pass_here, pass_goes_on}
 pub use Rattle.direction_parts.proofs.MergeLemmas.{IsFork, fork_starts, as_pass, fork_at, fork_goes_on, fork_ends}
 pub use Rattle.direction_parts.proofs.MergeLemmas.{less_to_fork, less_to_go, pass_ends, passes_at, to_go}
+pub use Rattle.direction_parts.proofs.MadeLemmas.{made_both, made_by_each, made_by_rule}

@@ -1,5 +1,6 @@
 mod PassLemmas
 mod MergeLemmas
+mod MadeLemmas
 mod LabelLemmas
 mod EdgeLemmas
 mod WeightLemmas

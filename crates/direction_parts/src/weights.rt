@@ -1,6 +1,7 @@
 ghost use Rattle.std.specs.Prelude.{◌≡◌, IfOk, IfSome};
 ghost use Rattle.semiring_laws.specs.Semiring.{Fits, FitsMap};
 ghost use Rattle.saturation_laws.specs.States.{weight_of};
+ghost use Rattle.saturation_laws.specs.Views.{seen_input};
 ghost use Rattle.direction_parts.specs.Worths.{after_return};
 
 use pushdown_rules::Rule;
@@ -13,10 +14,11 @@ use wpds_base::OutOfMemory;
 pub fn input_weight<S: Semiring>(
     alloc: Global,
     semiring: &S,
-    input: &Option<Input<S>>,
+    input: Option<&Input<S>>,
 ) -> Result<S::W, OutOfMemory>
-    requires { IfSome input.now (λ t. Fits (S.operations semiring.now) t.weight) }
-    ensures { IfOk result (λ w. w ≡ weight_of (S.operations semiring.now) input.now) }
+    requires { IfSome (seen_input input) (λ t. Fits (S.operations semiring.now) t.weight) }
+    ensures { let s = S.operations semiring.now in
+        IfOk result (λ w. w ≡ weight_of s (seen_input input.entry)) }
 {
     match input {
         Some(t) => semiring.copy(alloc, &t.weight),

@@ -1,11 +1,12 @@
-ghost use Rattle.std.specs.Prelude.{◌≡◌, ◌↔◌, IsTrue, IsOk, IfOk};
+ghost use Rattle.std.specs.Prelude.{◌≡◌, IsOk, IfOk};
 ghost use Rattle.semiring_laws.specs.Semiring.{Fits, FitsMap};
 ghost use Rattle.genkill_weights.specs.Making.{is_listed, weight_where, Makes, map_where, Restores};
 ghost use Rattle.genkill_weights.specs.GenKill.{genkill_operations};
 ghost use Rattle.genkill_weights.specs.GenKillLaws.{genkill_laws};
 
-use crate::masks::{either, generated, kept, mask_of, not_in};
-use crate::{GenKillW, MaskMap};
+use crate::masks::{either, mask_of, not_in};
+use crate::shared::MOST_WORDS;
+use crate::{GenKillW, MaskMap, SharedGenKill};
 use semiring_laws::Semiring;
 use std::alloc::Global;
 use wpds_base::OutOfMemory;
@@ -32,6 +33,25 @@ impl<const N: usize> GenKill<N> {
         }
     }
 
+    /// The weight of `make`, to be shared. A width whose masks are larger than a block of memory is refused as well.
+    pub fn make_shared(
+        &self,
+        alloc: Global,
+        gens: &[u32],
+        kills: &[u32],
+    ) -> Result<SharedGenKill<N>, OutOfMemory>
+        ensures value { IfOk result
+            (λ w. w ≡ weight_where N (is_listed gens.now) (is_listed kills.now)) }
+        ensures effects { IfOk result (λ w. Makes N gens.now kills.now w) }
+        ensures fits { IfOk result (λ w. Fits (genkill_operations N) w) }
+    {
+        if N > MOST_WORDS {
+            return Err(OutOfMemory);
+        }
+        let made = self.make(gens, kills);
+        SharedGenKill::new(alloc, &made)
+    }
+
     /// The return map that restores these facts. Numbers of facts that the width has no room for are left out.
     pub fn restore(&self, facts: &[u32]) -> MaskMap<N>
         ensures value { result ≡ map_where N (is_listed facts.now) }
@@ -45,7 +65,7 @@ impl<const N: usize> GenKill<N> {
 }
 
 impl<const N: usize> Semiring for GenKill<N> {
-    type W = GenKillW<N>;
+    type W = SharedGenKill<N>;
 
     type Ret = MaskMap<N>;
 
@@ -53,103 +73,79 @@ impl<const N: usize> Semiring for GenKill<N> {
 
     ghost laws = { λ _. genkill_laws N };
 
-    fn zero(&self, _alloc: Global) -> Result<GenKillW<N>, OutOfMemory>
+    fn zero(&self, _alloc: Global) -> Result<SharedGenKill<N>, OutOfMemory>
         ensures value { IfOk result (λ w. w ≡ (genkill_operations N).zero) }
         ensures always { IsOk result }
     {
-        Ok(GenKillW::Zero)
+        Ok(SharedGenKill::zero())
     }
 
-    fn one(&self, _alloc: Global) -> Result<GenKillW<N>, OutOfMemory>
-        ensures value { IfOk result (λ w. w ≡ (genkill_operations N).one) }
-        ensures always { IsOk result }
-    {
-        Ok(GenKillW::Map {
-            keep: [u64::MAX; N],
-            gens: [0; N],
-        })
+    fn one(&self, alloc: Global) -> Result<SharedGenKill<N>, OutOfMemory> {
+        SharedGenKill::one(alloc)
     }
 
     fn combine(
         &self,
-        _alloc: Global,
-        a: &GenKillW<N>,
-        b: &GenKillW<N>,
-    ) -> Result<GenKillW<N>, OutOfMemory>
-        ensures value { IfOk result (λ w. w ≡ (genkill_operations N).combine a.now b.now) }
-        ensures always { IsOk result }
-    {
-        Ok(match (a, b) {
-            (GenKillW::Zero, _) => *b,
-            (_, GenKillW::Zero) => *a,
-            (
-                GenKillW::Map { keep, gens },
-                GenKillW::Map {
-                    keep: next_keep,
-                    gens: next_gens,
-                },
-            ) => GenKillW::Map {
-                keep: either(keep, next_keep),
-                gens: either(gens, next_gens),
-            },
-        })
+        alloc: Global,
+        a: &SharedGenKill<N>,
+        b: &SharedGenKill<N>,
+    ) -> Result<SharedGenKill<N>, OutOfMemory> {
+        if a.has_all(b) {
+            return a.share();
+        }
+        joined(alloc, a, b)
     }
 
     fn extend(
         &self,
-        _alloc: Global,
-        a: &GenKillW<N>,
-        b: &GenKillW<N>,
-    ) -> Result<GenKillW<N>, OutOfMemory>
-        ensures value { IfOk result (λ w. w ≡ (genkill_operations N).extend a.now b.now) }
-        ensures always { IsOk result }
-    {
-        Ok(match (a, b) {
-            (
-                GenKillW::Map { keep, gens },
-                GenKillW::Map {
-                    keep: next_keep,
-                    gens: next_gens,
-                },
-            ) => GenKillW::Map {
-                keep: kept(keep, gens, next_keep, next_gens),
-                gens: generated(gens, next_keep, next_gens),
-            },
-            _ => GenKillW::Zero,
-        })
+        alloc: Global,
+        a: &SharedGenKill<N>,
+        b: &SharedGenKill<N>,
+    ) -> Result<SharedGenKill<N>, OutOfMemory> {
+        if b.is_one() {
+            return a.share();
+        }
+        if a.is_one() {
+            return b.share();
+        }
+        a.followed(alloc, b)
     }
 
-    fn copy(&self, _alloc: Global, a: &GenKillW<N>) -> Result<GenKillW<N>, OutOfMemory>
-        ensures value { IfOk result (λ w. w ≡ a.now) }
-        ensures always { IsOk result }
-    {
-        Ok(*a)
+    fn lowered(
+        &self,
+        alloc: Global,
+        old: &SharedGenKill<N>,
+        weight: &SharedGenKill<N>,
+    ) -> Result<Option<SharedGenKill<N>>, OutOfMemory> {
+        if old.has_all(weight) {
+            return Ok(None);
+        }
+        let sum = joined(alloc, old, weight)?;
+        Ok(Some(sum))
+    }
+
+    fn copy(&self, _alloc: Global, a: &SharedGenKill<N>) -> Result<SharedGenKill<N>, OutOfMemory> {
+        a.share()
     }
 
     fn after(
         &self,
-        _alloc: Global,
+        alloc: Global,
         map: &MaskMap<N>,
-        w: &GenKillW<N>,
-    ) -> Result<GenKillW<N>, OutOfMemory>
-        ensures value { IfOk result (λ v. v ≡ (genkill_operations N).after map.now w.now) }
-        ensures always { IsOk result }
-    {
-        Ok(match (map, w) {
-            (MaskMap::Restore { facts }, GenKillW::Map { keep, gens }) => GenKillW::Map {
-                keep: either(keep, facts),
-                gens: not_in(gens, facts),
-            },
-            _ => *w,
-        })
+        w: &SharedGenKill<N>,
+    ) -> Result<SharedGenKill<N>, OutOfMemory> {
+        match map {
+            MaskMap::Plain => w.share(),
+            MaskMap::Restore { facts } => w.restored(alloc, facts),
+        }
     }
 
-    fn same(&self, a: &GenKillW<N>, b: &GenKillW<N>) -> bool {
-        *a == *b
+    fn same(&self, a: &SharedGenKill<N>, b: &SharedGenKill<N>) -> bool {
+        a.is_same(b)
     }
 
-    fn is_zero(&self, a: &GenKillW<N>) -> bool {
-        matches!(a, GenKillW::Zero)
+    fn is_zero(&self, a: &SharedGenKill<N>) -> bool {
+        a.is_zero()
     }
 
     fn plain(&self) -> MaskMap<N> {
@@ -163,4 +159,20 @@ impl<const N: usize> Semiring for GenKill<N> {
     fn same_kind(&self, other: &GenKill<N>) -> bool {
         *self == *other
     }
+}
+
+// The runs of either weight, where the first does not have all of them.
+fn joined<const N: usize>(
+    alloc: Global,
+    a: &SharedGenKill<N>,
+    b: &SharedGenKill<N>,
+) -> Result<SharedGenKill<N>, OutOfMemory>
+    requires left { Fits (genkill_operations N) a.now }
+    requires right { Fits (genkill_operations N) b.now }
+    ensures { IfOk result (λ w. w ≡ (genkill_operations N).combine a.now b.now) }
+{
+    if b.has_all(a) {
+        return b.share();
+    }
+    a.united(alloc, b)
 }

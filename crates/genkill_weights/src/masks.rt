@@ -1,5 +1,5 @@
-ghost use Rattle.std.specs.Prelude.{◌≡◌, ◌<◌, ◌*◌, ◌||◌, ℕ, IsTrue, nat_eq};
-ghost use Rattle.genkill_weights.specs.Masks.{fact, is_mask, mask_where};
+ghost use Rattle.std.specs.Prelude.{◌≡◌, ◌↔◌, ◌<◌, ◌*◌, ◌||◌, ℕ, IsTrue, nat_eq};
+ghost use Rattle.genkill_weights.specs.Masks.{fact, is_mask, mask_where, tabulate};
 ghost use Rattle.genkill_weights.specs.Making.{is_listed};
 ghost use Rattle.genkill_weights.specs.GenKill.{or_mask, gens_then, keep_then, without};
 
@@ -12,6 +12,30 @@ pub(crate) fn either<const N: usize>(a: &[u64; N], b: &[u64; N]) -> [u64; N]
         made[i] = a[i] | b[i];
     }
     made
+}
+
+/// Whether the first mask has all facts of the second.
+pub(crate) fn has_all<const N: usize>(a: &[u64; N], b: &[u64; N]) -> bool
+    ensures { IsTrue result ↔ (or_mask N a.now b.now ≡ a.now) }
+{
+    for i in 0..N {
+        if a[i] | b[i] != a[i] {
+            return false;
+        }
+    }
+    true
+}
+
+/// Whether each word of a mask is this one.
+pub(crate) fn is_each<const N: usize>(mask: &[u64; N], word: u64) -> bool
+    ensures { IsTrue result → mask.now ≡ tabulate N (λ _. word) }
+{
+    for i in 0..N {
+        if mask[i] != word {
+            return false;
+        }
+    }
+    true
 }
 
 /// What two weights generate, the second with these facts kept and generated.

@@ -4,9 +4,10 @@ use Rattle.std.specs.Prelude.{Option, Result, OnOk, Ok, None, Some, cond, IsSome
 use Rattle.std.specs.declared.cmp.Ordering.{Ordering}
 use Rattle.std.specs.Ordering.{eq_by_cmp}
 use Rattle.std.specs.Cmp.{IsTotalOrder, eq_by_cmp_equiv, Equal-is}
-use Rattle.std.specs.BTreeMap.{BTreeMap, get, get_by, ContainsKey}
-use Rattle.key_rows.specs.declared.rows.Ends.{Ends}
-use Rattle.key_rows.specs.Rows.{index_where, last_where, has_key, gap_to, gaps_of, ends_of, cell, AreLinked}
+use Rattle.key_rows.specs.declared.cells.Row.{Row}
+use Rattle.key_rows.specs.Cells.{get, cell, ContainsKey}
+use Rattle.key_rows.specs.declared.cells.Ends.{Ends}
+use Rattle.key_rows.specs.Rows.{index_where, last_where, has_key, gap_to, gaps_of, ends_of, AreLinked}
 use Rattle.key_rows.proofs.RowLemmas.{first_of, gaps_push, ends_push, gap_to_ends, length-gaps, gaps-none, ends-none, first_is, last_is}
 
 pub on_ok : {A E P : Type 0} (r : Result A E) (x : A) → r ≡ Ok x → OnOk r P → P
@@ -24,25 +25,7 @@ some_cond true v o h = refl
 some_cond false v o h = h
 
 module _ {K : Type 0} (cmp : K → K → Ordering) (total : IsTotalOrder cmp) where
-  -- equal keys have one cell
-  one_cell : (m : BTreeMap K (Option Ends)) (s t : K) → eq_by_cmp cmp s t ≡ true → get cmp m s ≡ get cmp m t
-  one_cell m s t e =
-      let orders : (z : K) → cmp s z ≡ cmp t z = λ z. total.congr s t z ((Equal-is (cmp s t)).0 e) in
-      ap (λ (f : K → Ordering). get_by f m) (λ j z. orders z j)
-
-  -- an empty cell more changes none
-  pub cell_made : (old new : BTreeMap K (Option Ends)) (key k : K)
-      → get cmp old key ≡ None
-      → get cmp new k ≡ cond (eq_by_cmp cmp key k) (Some None) (get cmp old k)
-      → cell cmp new k ≡ cell cmp old k
-  cell_made old new key k absent sets =
-      ap content sets ∙ go (eq_by_cmp cmp key k) refl
-    where
-      go : (b : Bool) → eq_by_cmp cmp key k ≡ b → content (cond b (Some None) (get cmp old k)) ≡ content (get cmp old k)
-      go true e = sym (ap content (sym (one_cell old key k e) ∙ absent))
-      go false e = refl
-
-  module _ (ks : List (Option K)) (q : K) (old new : BTreeMap K (Option Ends)) (gs : List ℕ) (before : AreLinked cmp ks old gs) where
+  module _ (ks : List (Option K)) (q : K) (old new : List (Row K)) (gs : List ℕ) (before : AreLinked cmp ks old gs) where
     -- the rows once a member is added: what its row had first, and the distances
     pub rows_push : (first n : ℕ) (found : Option Ends) (made : List ℕ)
         → n ≡ length gs → found ≡ cell cmp old q → first ≡ first_of found n
@@ -65,24 +48,24 @@ module _ {K : Type 0} (cmp : K → K → Ordering) (total : IsTotalOrder cmp) wh
 
 module _ {K : Type 0} (cmp : K → K → Ordering) where
   -- a key that has a cell has one still
-  pub cell_kept : (old new : BTreeMap K (Option Ends)) (key k : K) (c : Option Ends)
+  pub cell_kept : (old new : List (Row K)) (key k : K) (c : Option Ends)
       → get cmp new k ≡ cond (eq_by_cmp cmp key k) (Some c) (get cmp old k)
       → ContainsKey cmp old k → ContainsKey cmp new k
   cell_kept old new key k c sets had = ap is_some sets ∙ some_cond (eq_by_cmp cmp key k) c (get cmp old k) had
 
   -- one without a key is in no row
-  pub rows_none : (ks : List (Option K)) (ends : BTreeMap K (Option Ends)) (gs : List ℕ) → AreLinked cmp ks ends gs → AreLinked cmp (ks ++ None ∷ []) ends (gs ++ 0 ∷ [])
+  pub rows_none : (ks : List (Option K)) (ends : List (Row K)) (gs : List ℕ) → AreLinked cmp ks ends gs → AreLinked cmp (ks ++ None ∷ []) ends (gs ++ 0 ∷ [])
   rows_none ks ends gs before = record {
     ends_are = λ s. before.ends_are s ∙ sym (ends-none (eq_by_cmp cmp) s ks);
     gaps_are = ap (λ xs. xs ++ 0 ∷ []) before.gaps_are ∙ sym (gaps-none (eq_by_cmp cmp) ks);
   }
 
   -- what the cell of a key says first
-  pub first_in : (ks : List (Option K)) (ends : BTreeMap K (Option Ends)) (gs : List ℕ) (key : K) (found : Option Ends) → AreLinked cmp ks ends gs → found ≡ cell cmp ends key
+  pub first_in : (ks : List (Option K)) (ends : List (Row K)) (gs : List ℕ) (key : K) (found : Option Ends) → AreLinked cmp ks ends gs → found ≡ cell cmp ends key
       → option_map (λ (e : Ends). e.first) found ≡ index_where (has_key (eq_by_cmp cmp) key) ks
   first_in ks ends gs key found rows is = ap (option_map (λ (e : Ends). e.first)) (is ∙ rows.ends_are key) ∙ first_is (eq_by_cmp cmp) key ks
 
   -- what it says last
-  pub last_in : (ks : List (Option K)) (ends : BTreeMap K (Option Ends)) (gs : List ℕ) (key : K) (found : Option Ends) → AreLinked cmp ks ends gs → found ≡ cell cmp ends key
+  pub last_in : (ks : List (Option K)) (ends : List (Row K)) (gs : List ℕ) (key : K) (found : Option Ends) → AreLinked cmp ks ends gs → found ≡ cell cmp ends key
       → option_map (λ (e : Ends). e.last) found ≡ last_where (has_key (eq_by_cmp cmp) key) ks
   last_in ks ends gs key found rows is = ap (option_map (λ (e : Ends). e.last)) (is ∙ rows.ends_are key) ∙ last_is (eq_by_cmp cmp) key ks

@@ -1,2 +1,4 @@
 mod RowLemmas
+mod ChainLemmas
+mod RowNumbers
 mod CellLemmas

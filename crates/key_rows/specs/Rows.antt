@@ -1,24 +1,12 @@
 -- Rows: those of a list that have a key in common.
-use Rattle.std.specs.Prelude.{◌≡◌, ℕ, suc, ◌+◌, ◌-◌, ◌≤◌, Bool, false, nat_eq, nat_lt, List, [], ◌∷◌, drop, Option, None, Some, option_map, slice_get, slice_set, vec_len, vec_capacity, if◌then◌else◌}
+use Rattle.std.specs.Prelude.{◌≡◌, ℕ, suc, ◌+◌, ◌-◌, ◌≤◌, ◌^◌, Bool, false, nat_eq, nat_lt, List, [], ◌∷◌, Option, None, Some, slice_get, slice_set, vec_len, vec_capacity, if◌then◌else◌}
 use Rattle.std.specs.declared.cmp.Ordering.{Ordering}
 use Rattle.std.specs.Ordering.{eq_by_cmp}
-use Rattle.std.specs.BTreeMap.{BTreeMap, get, ContainsKey}
-use Rattle.key_rows.specs.declared.rows.Ends.{Ends}
+pub use Rattle.key_rows.specs.Positions.{index_where, index_from, last_where}
+use Rattle.key_rows.specs.Cells.{cell, ContainsKey}
+use Rattle.key_rows.specs.declared.cells.Ends.{Ends}
+use Rattle.key_rows.specs.declared.cells.Row.{Row}
 use Rattle.key_rows.specs.declared.rows.KeyRows.{KeyRows}
-
--- where the first stands that passes
-abbrev pub index_where : {X : Type 0} → (X → Bool) → List X → Option ℕ
-index_where p [] = None
-index_where p (x ∷ xs) = if p x then Some 0 else option_map (λ k. k + 1) (index_where p xs)
-
--- where the first stands that passes, of those from a number on
-abbrev pub index_from : {X : Type 0} → (X → Bool) → ℕ → List X → Option ℕ
-index_from p i xs = option_map (λ k. k + i) (index_where p (drop i xs))
-
--- where the last stands that passes
-abbrev pub last_where : {X : Type 0} → (X → Bool) → List X → Option ℕ
-last_where p [] = None
-last_where p (x ∷ xs) = elim (last_where p xs) [ Some k ↦ Some (suc k) | None ↦ if p x then Some 0 else None ]
 
 -- where the next of a row stands, by the distance to it, which is 0 for the last
 abbrev pub next_by : ℕ → ℕ → Option ℕ
@@ -59,24 +47,21 @@ module _ {K : Type 0} (same : K → K → Bool) where
   ]
 
 module _ {K : Type 0} (cmp : K → K → Ordering) where
-  -- what the cell of a key says
-  abbrev pub cell : BTreeMap K (Option Ends) → K → Option Ends
-  cell m k = elim (get cmp m k) [ None ↦ None | Some c ↦ c ]
-
-  -- The cells and the distances are those of a list of keys.
-  pub record AreLinked (ks : List (Option K)) (ends : BTreeMap K (Option Ends)) (gs : List ℕ) : Type 0 where
-    pub ends_are : (k : K) → cell ends k ≡ ends_of (eq_by_cmp cmp) k ks
+  -- The rows and the distances are those of a list of keys.
+  pub record AreLinked (ks : List (Option K)) (rs : List (Row K)) (gs : List ℕ) : Type 0 where
+    pub ends_are : (k : K) → cell cmp rs k ≡ ends_of (eq_by_cmp cmp) k ks
     pub gaps_are : gs ≡ gaps_of (eq_by_cmp cmp) ks
 
   -- The rows are those of a list whose members have these keys, or none.
   abbrev pub AreRows : List (Option K) → KeyRows K → Type 0
-  AreRows ks rows = AreLinked ks rows.ends rows.gaps.items
+  AreRows ks rows = AreLinked ks rows.cells rows.gaps.items
 
   -- a member with this key can be added without a new cell
   abbrev pub HasCell : KeyRows K → Option K → Type 0
   HasCell rows None = Unit {0}
-  HasCell rows (Some key) = ContainsKey cmp rows.ends key
+  HasCell rows (Some key) = ContainsKey cmp rows.cells key
 
--- there is space for so many members more
-abbrev pub HasSpace : {K : Type 0} → ℕ → KeyRows K → Type 0
-HasSpace n rows = vec_len rows.gaps + n ≤ vec_capacity rows.gaps
+-- There is space for so many members more, and they can be numbered.
+pub record HasSpace {K : Type 0} (n : ℕ) (rows : KeyRows K) : Type 0 where
+  pub room : vec_len rows.gaps + n ≤ vec_capacity rows.gaps
+  pub numbers : vec_len rows.gaps + n ≤ 2 ^ 32

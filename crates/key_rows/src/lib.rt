@@ -2,6 +2,10 @@
 //! the first with a key stands, and where the next one stands behind it.
 #![tactic(auto)]
 
+mod bytes;
+mod cells;
+mod key;
 mod rows;
 
+pub use key::{Key, mixed};
 pub use rows::KeyRows;

@@ -1,34 +1,28 @@
-ghost use Rattle.std.specs.Prelude.{◌≡◌, ◌↔◌, ℕ, ◌+◌, ◌<◌, ◌++◌, ◌∷◌, [], List, length, Option, None, Some, IsTrue, OnOk, vec_len, vec_capacity};
+ghost use Rattle.std.specs.Prelude.{◌≡◌, ◌↔◌, ◌<◌, ℕ, ◌+◌, ◌++◌, ◌∷◌, [], ◌^◌, List, length, Option, None, Some, IsTrue, OnOk, vec_len, vec_capacity, ◌≤◌};
 ghost use Rattle.std.specs.Ordering.{eq_by_cmp};
-ghost use Rattle.std.specs.BTreeMap.{ContainsKey};
-ghost use Rattle.key_rows.specs.Rows.{index_where, last_where, has_key, next_alike, gap_to, cell, AreLinked, AreRows, HasCell, HasSpace};
+ghost use Rattle.key_rows.specs.Positions.{index_where, last_where};
+ghost use Rattle.key_rows.specs.Cells.{cell, row_number, ContainsKey};
+ghost use Rattle.key_rows.specs.Rows.{has_key, next_alike, gap_to, AreLinked, AreRows, HasCell, HasSpace};
 
+use crate::cells::{Ends, KeyCells};
+use crate::key::Key;
 use std::alloc::Global;
-use std::collections::BTreeMap;
 use wpds_base::OutOfMemory;
-
-/// Where the first and the last of a row stand.
-#[derive(Clone, Copy, Debug, PartialEq, Eq, Drop)]
-pub(crate) struct Ends {
-    pub(crate) first: u64,
-    pub(crate) last: u64,
-}
 
 /// The rows of a list whose members have a key each, or none: where the first stands that has a key, and
 /// where the next stands behind it.
 ///
-/// Keys are looked up in an ordered tree, so no choice of keys makes a look-up slow. Each key that was
-/// reserved has a cell there, so that to add a member takes no memory.
+/// Each key that was reserved has a cell, so that to add a member takes no memory.
 #[derive(Drop)]
-pub struct KeyRows<K: Ord + Copy + Drop> {
-    // The ends of each row, and none in a cell whose key no member has yet.
-    ends: BTreeMap<K, Option<Ends>>,
+pub struct KeyRows<K: Key> {
+    // The ends of each row.
+    cells: KeyCells<K>,
     // How far behind each member the next of its row stands, and 0 for the last.
-    gaps: Vec<u64>,
+    gaps: Vec<u32>,
 }
 
 // Writes how far the next of its row stands behind the last so far.
-fn put_gap(gaps: &mut Vec<u64>, ends: Option<Ends>, number: u64)
+fn put_gap(gaps: &mut Vec<u32>, ends: Option<Ends>, number: u32)
     requires number { number ≡ length gaps.old.items }
     ensures gaps { gaps.new.items ≡ gap_to ends number gaps.old.items }
     ensures len { vec_len gaps.new ≡ vec_len gaps.old }
@@ -42,43 +36,31 @@ fn put_gap(gaps: &mut Vec<u64>, ends: Option<Ends>, number: u64)
 }
 
 // What the cell of a key says.
-fn cell_at<K: Ord + Copy + Drop>(ends: &BTreeMap<K, Option<Ends>>, key: K) -> Option<Ends>
-    ensures { result ≡ cell K.cmp ends.now key }
+fn cell_at<K: Key>(cells: &KeyCells<K>, key: K) -> Option<Ends>
+    ensures { result ≡ cell K.cmp cells.now key }
 {
-    match ends.get(&key) {
-        Some(found) => *found,
+    match cells.find(key) {
+        Some(k) => cells.ends(k),
         None => None,
     }
 }
 
-// Makes a cell for a key, unless it is there.
-fn make_cell<K: Ord + Copy + Drop>(
-    ends: &mut BTreeMap<K, Option<Ends>>,
-    key: K,
-) -> Result<(), OutOfMemory>
-    ensures cells { (k : K) → cell K.cmp ends.new k ≡ cell K.cmp ends.old k }
-    ensures kept { (k : K) → ContainsKey K.cmp ends.old k → ContainsKey K.cmp ends.new k }
-    ensures made { OnOk result (ContainsKey K.cmp ends.new key) }
-{
-    if ends.contains_key(&key) {
-        return Ok(());
-    }
-    ends.insert(key, None)?;
-    Ok(())
-}
-
 // Adds a member to the row of a key, last of all. It takes no memory.
-fn link<K: Ord + Copy + Drop>(ends: &mut BTreeMap<K, Option<Ends>>, gaps: &mut Vec<u64>, key: K)
-    requires cell { ContainsKey K.cmp ends.old key }
+fn link<K: Key>(cells: &mut KeyCells<K>, gaps: &mut Vec<u32>, key: K)
+    requires cell { ContainsKey K.cmp cells.old key }
     requires gaps { vec_len gaps.old < vec_capacity gaps.old }
-    ensures rows { (ks : List (Option K)) → AreLinked K.cmp ks ends.old gaps.old.items
-        → AreLinked K.cmp (ks ++ Some key ∷ []) ends.new gaps.new.items }
-    ensures kept { (k : K) → ContainsKey K.cmp ends.old k → ContainsKey K.cmp ends.new k }
+    requires number { vec_len gaps.old < 2 ^ 32 }
+    ensures rows { (ks : List (Option K)) → AreLinked K.cmp ks cells.old gaps.old.items
+        → AreLinked K.cmp (ks ++ Some key ∷ []) cells.new gaps.new.items }
+    ensures kept { (k : K) → ContainsKey K.cmp cells.old k → ContainsKey K.cmp cells.new k }
     ensures len { vec_len gaps.new ≡ vec_len gaps.old + 1 }
     ensures capacity { vec_capacity gaps.new ≡ vec_capacity gaps.old }
 {
-    let number = gaps.len() as u64;
-    let found = cell_at(&*ends, key);
+    let number = gaps.len() as u32;
+    let Some(k) = cells.find(key) else {
+        unreachable!()
+    };
+    let found = cells.ends(k);
     put_gap(gaps, found, number);
     let first = match found {
         Some(ends) => ends.first,
@@ -88,19 +70,18 @@ fn link<K: Ord + Copy + Drop>(ends: &mut BTreeMap<K, Option<Ends>>, gaps: &mut V
         first,
         last: number,
     };
-    let inserted: Result<_, _> = ends.insert(key, Some(both));
-    let _before = inserted.unwrap();
+    cells.set(k, both);
     gaps.push_reserved(0);
 }
 
-impl<K: Ord + Copy + Drop> KeyRows<K> {
+impl<K: Key> KeyRows<K> {
     /// No rows. It takes no memory.
     pub fn new(alloc: Global) -> KeyRows<K>
         ensures rows { AreRows K.cmp [] result }
         ensures space { HasSpace 0 result }
     {
         KeyRows {
-            ends: BTreeMap::new(alloc),
+            cells: KeyCells::new(alloc),
             gaps: Vec::new(alloc),
         }
     }
@@ -110,8 +91,8 @@ impl<K: Ord + Copy + Drop> KeyRows<K> {
         ensures { (ks : List (Option K)) → AreRows K.cmp ks self.now
             → result ≡ index_where (has_key (eq_by_cmp K.cmp) key) ks }
     {
-        match cell_at(&self.ends, key) {
-            Some(ends) => Some(ends.first),
+        match cell_at(&self.cells, key) {
+            Some(ends) => Some(u64::from(ends.first)),
             None => None,
         }
     }
@@ -121,8 +102,8 @@ impl<K: Ord + Copy + Drop> KeyRows<K> {
         ensures { (ks : List (Option K)) → AreRows K.cmp ks self.now
             → result ≡ last_where (has_key (eq_by_cmp K.cmp) key) ks }
     {
-        match cell_at(&self.ends, key) {
-            Some(ends) => Some(ends.last),
+        match cell_at(&self.cells, key) {
+            Some(ends) => Some(u64::from(ends.last)),
             None => None,
         }
     }
@@ -137,7 +118,7 @@ impl<K: Ord + Copy + Drop> KeyRows<K> {
                 if *gap == 0 {
                     return None;
                 }
-                k.checked_add(*gap)
+                k.checked_add(u64::from(*gap))
             }
             None => None,
         }
@@ -147,11 +128,11 @@ impl<K: Ord + Copy + Drop> KeyRows<K> {
     pub fn has_cell(&self, key: K) -> bool
         ensures { IsTrue result ↔ HasCell K.cmp self.now (Some key) }
     {
-        self.ends.contains_key(&key)
+        self.cells.find(key).is_some()
     }
 
     /// Makes room for a member with this key, and space for so many members in all. It is refused only
-    /// when out of memory, and the rows stay as they were then.
+    /// when out of memory, or where so many can't be numbered below 2^32, and the rows stay as they were then.
     pub fn reserve(&mut self, key: Option<K>, more: usize) -> Result<(), OutOfMemory>
         ensures rows { (ks : List (Option K)) → AreRows K.cmp ks self.old
             → AreRows K.cmp ks self.new }
@@ -160,9 +141,9 @@ impl<K: Ord + Copy + Drop> KeyRows<K> {
         ensures space { OnOk result (HasSpace more self.new) }
         ensures spaces { (n : ℕ) → HasSpace n self.old → HasSpace n self.new }
     {
-        self.gaps.reserve(more)?;
+        make_space(&mut self.gaps, more)?;
         match key {
-            Some(key) => make_cell(&mut self.ends, key),
+            Some(key) => self.cells.make(key),
             None => Ok(()),
         }
     }
@@ -177,8 +158,25 @@ impl<K: Ord + Copy + Drop> KeyRows<K> {
         ensures spaces { (n : ℕ) → HasSpace (n + 1) self.old → HasSpace n self.new }
     {
         match key {
-            Some(key) => link(&mut self.ends, &mut self.gaps, key),
+            Some(key) => link(&mut self.cells, &mut self.gaps, key),
             None => self.gaps.push_reserved(0),
         }
+    }
+}
+
+// Makes room for so many distances more, where their numbers stay below 2^32.
+fn make_space(gaps: &mut Vec<u32>, more: usize) -> Result<(), OutOfMemory>
+    ensures items { gaps.new.items ≡ gaps.old.items }
+    ensures len { vec_len gaps.new ≡ vec_len gaps.old }
+    ensures room { OnOk result (vec_len gaps.old + more ≤ vec_capacity gaps.new) }
+    ensures numbers { OnOk result (vec_len gaps.old + more ≤ 2 ^ 32) }
+    ensures kept { vec_capacity gaps.old ≤ vec_capacity gaps.new }
+{
+    match gaps.len().checked_add(more) {
+        Some(all) if all <= u32::MAX as usize => {
+            gaps.reserve(more)?;
+            Ok(())
+        }
+        _ => Err(OutOfMemory),
     }
 }

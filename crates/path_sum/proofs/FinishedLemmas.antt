@@ -5,7 +5,7 @@ use Rattle.std.proofs.lemmas.List.{append_cancel_left}
 use Rattle.semiring_laws.specs.Semiring.{Operations, IsSemiring}
 use Rattle.weighted_automata.specs.declared.place.Place.{Place}
 use Rattle.weighted_automata.specs.declared.transitions.Entry.{Entry}
-use Rattle.weighted_automata.specs.Entries.{entry_at}
+use Rattle.weighted_automata.specs.Entries.{entry_at, index_at}
 use Rattle.witness_graph.specs.declared.node.Node.{Node}
 use Rattle.witness_graph.specs.declared.node.Node.TheVariants.{Start}
 use Rattle.witness_graph.specs.declared.node.Side.{Side}
@@ -73,18 +73,21 @@ module _ {S W Map D : Type 0} {operations : S → Operations W Map} (laws : (x :
       let P : SumInputValue S W Map → Type 0 = λ u. st ≡ bare_sum (operations u.semiring) u.side nodes (ways_of u.pattern) in
       begun (laws p.semiring) (value_of s p) p (way.runs d p o) input nodes summable st (subst P e is)
 
-  pub ready_at : (t : SumInputValue S W Map) → t ≡ input → (st : CoreState S W Map) (x : Place) (q : List Place) → IsUnderWay s input nodes st → st.queue ≡ x ∷ q
-      → IsReady (operations t.semiring) t.transitions x (past st q)
-  ready_at t e st x q now front =
-      let P : SumInputValue S W Map → Type 0 = λ u. IsReady (operations u.semiring) u.transitions x (past st q) in
-      subst P (sym e) (front_ready (laws p.semiring) (value_of s p) p (way.runs d p o) input nodes summable st x q now front)
+  pub ready_at : (t : SumInputValue S W Map) → t ≡ input → (st mid : CoreState S W Map) (k : ℕ) (x : Place) (q : List Place) → IsUnderWay s input nodes st → mid ≡ past st q → index_at x mid.transitions ≡ Some k
+      → IsReady (operations t.semiring) t.transitions k x mid
+  ready_at t e st mid k x q now taken at =
+      let P : SumInputValue S W Map → Type 0 = λ u. IsReady (operations u.semiring) u.transitions k x mid in
+      let Q : CoreState S W Map → Type 0 = λ m. index_at x m.transitions ≡ Some k in
+      let R : CoreState S W Map → Type 0 = IsReady s input.transitions k x in
+      subst P (sym e) (subst R (sym taken) (front_ready (laws p.semiring) (value_of s p) p (way.runs d p o) input nodes summable st k x q now (subst Q taken at)))
 
-  pub round_at : (t : SumInputValue S W Map) → t ≡ input → (st new : CoreState S W Map) (x : Place) (q : List Place) → IsUnderWay s input nodes st → st.queue ≡ x ∷ q
-      → GrowsBy operations t (moves_of t.opening (ways_of t.pattern) t.transitions x) (past st q) new
+  pub round_at : (t : SumInputValue S W Map) → t ≡ input → (st mid new : CoreState S W Map) (x : Place) (q : List Place) → IsUnderWay s input nodes st → mid ≡ past st q → st.queue ≡ x ∷ q
+      → GrowsBy operations t (moves_of t.opening (ways_of t.pattern) t.transitions x) mid new
       → IsUnderWay s input nodes new × (left_of s input nodes new < left_of s input nodes st)
-  round_at t e st new x q now front drawn =
-      let P : SumInputValue S W Map → Type 0 = λ u. GrowsBy operations u (moves_of u.opening (ways_of u.pattern) u.transitions x) (past st q) new in
-      let at : P input = subst P e drawn in (
+  round_at t e st mid new x q now taken front drawn =
+      let P : SumInputValue S W Map → Type 0 = λ u. GrowsBy operations u (moves_of u.opening (ways_of u.pattern) u.transitions x) mid new in
+      let Q : CoreState S W Map → Type 0 = λ m. GrowsBy operations input (moves_of input.opening (ways_of input.pattern) input.transitions x) m new in
+      let at : Q (past st q) = subst Q taken (subst P e drawn) in (
         round_keeps (laws p.semiring) (value_of s p) p (way.runs d p o) input nodes summable st new x q now front at,
         round_falls (laws p.semiring) (value_of s p) p (way.runs d p o) input nodes summable st new x q now front at,
       )

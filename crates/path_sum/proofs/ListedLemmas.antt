@@ -1,12 +1,11 @@
 -- The listing of an answer, whether it is made or not.
-use Rattle.std.proofs.Common.{◌≡◌, ◌<◌, ◌∷◌, ◌++◌, length, refl, sym, ap, ◌∙◌, subst, List}
+use Rattle.std.proofs.Common.{◌≡◌, ◌∷◌, ◌++◌, length, refl, subst, List}
 use Rattle.std.specs.Prelude.{Option, None, Some}
-use Rattle.std.proofs.lemmas.List.{append_cancel_left}
 use Rattle.witness_graph.specs.declared.listing.Listing.{Listing}
 use Rattle.witness_graph.specs.declared.node.Node.{Node}
 use Rattle.witness_graph.specs.declared.node.Node.TheVariants.{Start}
 use Rattle.witness_graph.specs.declared.node.Side.{Side}
-use Rattle.witness_graph.specs.Nodes.{Nodes, AreNodes, Overlaid}
+use Rattle.witness_graph.specs.Nodes.{AreNodes, Overlaid}
 use Rattle.weighted_automata.specs.Entries.{entry_at}
 use Rattle.weighted_automata.specs.declared.transitions.Entry.{Entry}
 use Rattle.semiring_laws.specs.Semiring.{Operations}

@@ -1,20 +1,21 @@
 -- Moves one after another, and all that goes on from a pair.
 use Rattle.std.proofs.Common.{◌≡◌, inl, inr, Bool, IsTrue, ℕ, true, List, [], ◌∷◌, ◌++◌, refl, sym, ap, ◌∙◌, subst}
-use Rattle.std.specs.Prelude.{None, Some, ◌&&◌, nat_eq, option_and_then}
+use Rattle.std.specs.Prelude.{Option, None, Some, ◌&&◌, nat_eq, option_and_then, option_map}
 use Rattle.std.proofs.lemmas.Bool.{cond_both, cond-true, and_from, or_left, or_right, eq-eqb}
 use Rattle.semiring_laws.specs.Semiring.{Operations}
 use Rattle.weighted_automata.specs.declared.place.Place.{Place}
 use Rattle.weighted_automata.specs.declared.place.Label.TheVariants.{Symbol, Empty}
 use Rattle.weighted_automata.specs.declared.transitions.Entry.{Entry}
+use Rattle.weighted_automata.specs.Entries.{entry_at, Present}
 use Rattle.weighted_automata.specs.Places.{same_label}
 use Rattle.witness_graph.specs.declared.node.Node.{Node}
 use Rattle.witness_graph.specs.declared.node.Side.{Side}
 use Rattle.saturation_laws.specs.declared.opening.Opening.{Opening}
 use Rattle.wpds_base.specs.Lists.{IsIn}
-use Rattle.saturation_laws.specs.States.{CoreState}
+use Rattle.saturation_laws.specs.States.{CoreState, apply}
 use Rattle.saturation_laws.proofs.CallerLemmas.{in_left, in_append}
 use Rattle.path_sum.proofs.EntryLemmas.{in_right, entry_in}
-use Rattle.path_sum.specs.Sums.{Ways, has_state, Move, Along, End, Done, move, grow, bare_sum, IsGrown}
+use Rattle.path_sum.specs.Sums.{Ways, has_state, pair_place, can_move, along_change, Move, Along, End, Done, move, grow, bare_sum, IsGrown}
 use Rattle.path_sum.specs.private.Paths.{Moves}
 use Rattle.path_sum.specs.private.Work.{IsWork, edge_moves, moves_by, pair_moves, end_moves, moves_of}
 
@@ -34,6 +35,16 @@ module _ {S W Map : Type 0} (s : Operations W Map) (side : Side) (o : Opening) (
   -- what is grown grows on
   pub grown_on : (nodes : List Node) (st new : CoreState S W Map) (ms : List Move) → IsGrown s side o ts nodes ways st → grow s side o ts ways st ms ≡ Some new → IsGrown s side o ts nodes ways new
   grown_on nodes st new ms is more = record { moves = is.moves ++ ms; grows = grow_append is.moves ms (bare_sum s side nodes ways) st new is.grows more }
+
+  -- a move along a transition is the change that it makes
+  pub followed : (i j : ℕ) (u t : Entry S W Map) (st new : CoreState S W Map) → can_move ways.edges i t.place.label j ≡ true → entry_at (pair_place i t.place.from) st.transitions ≡ Some u → Present ts t
+      → new ≡ apply s (along_change s side j u t) st → move s side o ts ways (Along i j t.place) st ≡ Some new
+  followed i j u t st new edge there present is =
+      let made : Option (CoreState S W Map) = option_and_then (λ v. option_map (λ w. apply s (along_change s side j v w) st) (entry_at t.place ts)) (entry_at (pair_place i t.place.from) st.transitions) in
+      cond-true (can_move ways.edges i t.place.label j) made None edge
+      ∙ ap (option_and_then (λ v. option_map (λ w. apply s (along_change s side j v w) st) (entry_at t.place ts))) there
+      ∙ ap (option_map (λ w. apply s (along_change s side j u w) st)) present
+      ∙ ap Some (sym is)
 
 -- the edge goes from the state, on the symbol
 abbrev goes : ℕ → ℕ → Place → Bool

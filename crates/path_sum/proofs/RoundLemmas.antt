@@ -6,6 +6,7 @@ use Rattle.std.proofs.lemmas.List.{length_push}
 use Rattle.semiring_laws.specs.Semiring.{Operations, IsSemiring}
 use Rattle.weighted_automata.specs.declared.place.Place.{Place}
 use Rattle.weighted_automata.specs.declared.transitions.Entry.{Entry}
+use Rattle.weighted_automata.specs.Entries.{index_at}
 use Rattle.weighted_automata.specs.Places.{same_place}
 use Rattle.weighted_automata.proofs.CallerLemmas.{same_place_is}
 use Rattle.witness_graph.specs.declared.node.Node.{Node}
@@ -73,12 +74,11 @@ module _ {S W Map : Type 0} {s : Operations W Map} (laws : IsSemiring s) (value 
       })
 
   -- the front can be worked
-  pub front_ready : (st : CoreState S W Map) (x : Place) (q : List Place) → IsUnderWay s input nodes st → st.queue ≡ x ∷ q → IsReady s input.transitions x (past st q)
-  front_ready st x q now front =
+  pub front_ready : (st : CoreState S W Map) (k : ℕ) (x : Place) (q : List Place) → IsUnderWay s input nodes st → index_at x st.transitions ≡ Some k → IsReady s input.transitions k x (past st q)
+  front_ready st k x q now at =
       let good = sum_good st now.grown in
-      let P : List Place → Type 0 = IsIn x in
       record {
-        there = good.sound.shape.present x (subst P (sym front) (inl refl));
+        at = at;
         pairs = record { each = λ t there. (entry_fits laws value is.fits (SumRun p input.side input.opening ways runs) input.side st.nodes t (good.sound.sound t there), (good.sound.sound t there).node) };
         transitions = record { each = λ t there. (entry_fits laws value is.fits runs input.side nodes t (is.sound t there), omega (arith, good.more, (is.sound t there).node)) };
       }

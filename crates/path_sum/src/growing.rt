@@ -13,21 +13,20 @@ ghost use Rattle.path_sum.specs.private.Work.{edge_moves, into_moves, on_moves, 
 
 use crate::change::apply_parts;
 use crate::sum_input::SumInput;
-use saturation_core::PlaceQueue;
+use saturation_core::{NumberedPlace, QueuedTransitions};
 use semiring_laws::Semiring;
 use std::alloc::Global;
-use weighted_automata::{Entry, Label, Place, Transitions};
+use weighted_automata::{Entry, Label, Place};
 use witness_graph::{Graph, Overlay, Side};
 use wpds_base::OutOfMemory;
 
-/// A sum while it grows: a weight and a node for each pair that was reached, and the pairs that wait. A pair of a state
-/// of the pattern and a state of the automaton is a place between them that reads nothing. On an error it is left in an
+/// A sum while it grows: a weight and a node for each pair that was reached, which of them wait, and the nodes. A pair of a
+/// state of the pattern and a state of the automaton is a place between them that reads nothing. On an error it is left in an
 /// unspecified state.
 #[derive(Drop)]
 pub(crate) struct Growing<'g, S: Semiring> {
-    pub(crate) pairs: Transitions<S>,
+    pub(crate) pairs: QueuedTransitions<S>,
     pub(crate) nodes: Overlay<'g>,
-    pub(crate) waiting: PlaceQueue,
 }
 
 /// Where the answer stands among the pairs: the only place there that reads a symbol.
@@ -95,7 +94,6 @@ impl<'g, S: Semiring> Growing<'g, S> {
             semiring,
             &mut self.pairs,
             &mut self.nodes,
-            &mut self.waiting,
             place,
             weight,
             first,
@@ -103,40 +101,42 @@ impl<'g, S: Semiring> Growing<'g, S> {
         )
     }
 
-    // Goes along a transition from a pair with its source, to a pair with its target.
+    // The pair whose transition has this number.
+    fn pair(&self, number: u32) -> &Entry<S>
+        requires { number < length self.now.pairs.transitions }
+        ensures { slice_get self.now.pairs.transitions number ≡ Some result.now }
+    {
+        self.pairs.list().entry(u64::from(number))
+    }
+
+    // Goes along a transition from a pair with its source, to a pair with its target. The pair is read by its number each time,
+    // since its weight may have been lowered.
     fn follow(
         &mut self,
         alloc: Global,
         input: &SumInput<S>,
+        number: u32,
         i: u32,
         j: u32,
         transition: &Entry<S>,
     ) -> Result<(), OutOfMemory>
-        requires ready { CanDraw S.operations input.now
+        requires ready { CanDraw S.operations input.now number
             (pair_place i transition.now.place.from) (state_of self.old) }
         requires there { Present input.now.transitions transition.now }
         requires edge { IsTrue (can_move (ways_of input.now.pattern).edges
             i transition.now.place.label j) }
         ensures moves { OnOk result (MovesBy S.operations input.now
             (Along i j transition.now.place) (state_of self.old) (state_of self.new)) }
-        ensures ready { OnOk result (CanDraw S.operations input.now
+        ensures ready { OnOk result (CanDraw S.operations input.now number
             (pair_place i transition.now.place.from) (state_of self.new)) }
         ensures graph { self.new.nodes.graph ≡ self.old.nodes.graph }
     {
-        let pair = Place {
-            from: i,
-            label: Label::Empty,
-            to: transition.place.from,
-        };
         let goal = Place {
             from: j,
             label: Label::Empty,
             to: transition.place.to,
         };
-        let Some(k) = self.pairs.find(pair) else {
-            return Ok(());
-        };
-        let from = self.pairs.entry(k);
+        let from = self.pair(number);
         let semiring = input.semiring();
         let side = input.side();
         let weight = product(alloc, semiring, side, &from.weight, &transition.weight)?;
@@ -150,12 +150,13 @@ impl<'g, S: Semiring> Growing<'g, S> {
         &mut self,
         alloc: Global,
         input: &SumInput<S>,
+        number: u32,
         i: u32,
         symbol: u32,
         item: u32,
         transition: &Entry<S>,
     ) -> Result<(), OutOfMemory>
-        requires ready { CanDraw S.operations input.now
+        requires ready { CanDraw S.operations input.now number
             (pair_place i transition.now.place.from) (state_of self.old) }
         requires there { Present input.now.transitions transition.now }
         requires label { transition.now.place.label ≡ Symbol symbol }
@@ -169,14 +170,14 @@ impl<'g, S: Semiring> Growing<'g, S> {
             GrowsBy S.operations input.now
             (into_moves i symbol transition.now.place (item + 1) y)
             (state_of self.old) (state_of self.new)) }
-        ensures ready { OnOk result (CanDraw S.operations input.now
+        ensures ready { OnOk result (CanDraw S.operations input.now number
             (pair_place i transition.now.place.from) (state_of self.new)) }
         ensures graph { self.new.nodes.graph ≡ self.old.nodes.graph }
     {
         if !input.takes(item, symbol) {
             return Ok(());
         }
-        self.follow(alloc, input, i, item + 1, transition)?;
+        self.follow(alloc, input, number, i, item + 1, transition)?;
         Ok(())
     }
 
@@ -185,11 +186,12 @@ impl<'g, S: Semiring> Growing<'g, S> {
         &mut self,
         alloc: Global,
         input: &SumInput<S>,
+        number: u32,
         i: u32,
         symbol: u32,
         transition: &Entry<S>,
     ) -> Result<(), OutOfMemory>
-        requires ready { CanDraw S.operations input.now
+        requires ready { CanDraw S.operations input.now number
             (pair_place i transition.now.place.from) (state_of self.old) }
         requires there { Present input.now.transitions transition.now }
         requires label { transition.now.place.label ≡ Symbol symbol }
@@ -198,12 +200,12 @@ impl<'g, S: Semiring> Growing<'g, S> {
         ensures grows { OnOk result (GrowsBy S.operations input.now
             (on_moves i symbol transition.now.place (i + 1) (drop i input.now.pattern.items))
             (state_of self.old) (state_of self.new)) }
-        ensures ready { OnOk result (CanDraw S.operations input.now
+        ensures ready { OnOk result (CanDraw S.operations input.now number
             (pair_place i transition.now.place.from) (state_of self.new)) }
         ensures graph { self.new.nodes.graph ≡ self.old.nodes.graph }
     {
         for item in i..input.items() {
-            self.follow_into(alloc, input, i, symbol, item, transition)?;
+            self.follow_into(alloc, input, number, i, symbol, item, transition)?;
             if !input.is_starred(item) {
                 return Ok(());
             }
@@ -216,11 +218,12 @@ impl<'g, S: Semiring> Growing<'g, S> {
         &mut self,
         alloc: Global,
         input: &SumInput<S>,
+        number: u32,
         i: u32,
         symbol: u32,
         transition: &Entry<S>,
     ) -> Result<(), OutOfMemory>
-        requires ready { CanDraw S.operations input.now
+        requires ready { CanDraw S.operations input.now number
             (pair_place i transition.now.place.from) (state_of self.old) }
         requires there { Present input.now.transitions transition.now }
         requires label { transition.now.place.label ≡ Symbol symbol }
@@ -231,14 +234,14 @@ impl<'g, S: Semiring> Growing<'g, S> {
         ensures grows { OnOk result (GrowsBy S.operations input.now
             (back_moves i symbol transition.now.place (item_at i input.now.pattern.items))
             (state_of self.old) (state_of self.new)) }
-        ensures ready { OnOk result (CanDraw S.operations input.now
+        ensures ready { OnOk result (CanDraw S.operations input.now number
             (pair_place i transition.now.place.from) (state_of self.new)) }
         ensures graph { self.new.nodes.graph ≡ self.old.nodes.graph }
     {
         if i == 0 || !input.is_starred(i - 1) {
             return Ok(());
         }
-        self.follow_into(alloc, input, i, symbol, i - 1, transition)?;
+        self.follow_into(alloc, input, number, i, symbol, i - 1, transition)?;
         Ok(())
     }
 
@@ -247,26 +250,27 @@ impl<'g, S: Semiring> Growing<'g, S> {
         &mut self,
         alloc: Global,
         input: &SumInput<S>,
+        number: u32,
         i: u32,
         symbol: u32,
         transition: &Entry<S>,
     ) -> Result<(), OutOfMemory>
-        requires ready { CanDraw S.operations input.now
+        requires ready { CanDraw S.operations input.now number
             (pair_place i transition.now.place.from) (state_of self.old) }
         requires there { Present input.now.transitions transition.now }
         requires label { transition.now.place.label ≡ Symbol symbol }
         ensures grows { OnOk result (GrowsBy S.operations input.now
             (edge_moves i symbol transition.now.place (ways_of input.now.pattern).edges)
             (state_of self.old) (state_of self.new)) }
-        ensures ready { OnOk result (CanDraw S.operations input.now
+        ensures ready { OnOk result (CanDraw S.operations input.now number
             (pair_place i transition.now.place.from) (state_of self.new)) }
         ensures graph { self.new.nodes.graph ≡ self.old.nodes.graph }
     {
         if i > input.items() {
             return Ok(());
         }
-        self.follow_back(alloc, input, i, symbol, transition)?;
-        self.follow_on(alloc, input, i, symbol, transition)?;
+        self.follow_back(alloc, input, number, i, symbol, transition)?;
+        self.follow_on(alloc, input, number, i, symbol, transition)?;
         Ok(())
     }
 
@@ -275,22 +279,23 @@ impl<'g, S: Semiring> Growing<'g, S> {
         &mut self,
         alloc: Global,
         input: &SumInput<S>,
+        number: u32,
         i: u32,
         transition: &Entry<S>,
     ) -> Result<(), OutOfMemory>
-        requires ready { CanDraw S.operations input.now
+        requires ready { CanDraw S.operations input.now number
             (pair_place i transition.now.place.from) (state_of self.old) }
         requires there { Present input.now.transitions transition.now }
         ensures grows { OnOk result (GrowsBy S.operations input.now
             (moves_by input.now.opening (ways_of input.now.pattern) i transition.now)
             (state_of self.old) (state_of self.new)) }
-        ensures ready { OnOk result (CanDraw S.operations input.now
+        ensures ready { OnOk result (CanDraw S.operations input.now number
             (pair_place i transition.now.place.from) (state_of self.new)) }
         ensures graph { self.new.nodes.graph ≡ self.old.nodes.graph }
     {
         match transition.place.label {
-            Label::Empty => self.follow(alloc, input, i, i, transition),
-            Label::Symbol(symbol) => self.follow_edges(alloc, input, i, symbol, transition),
+            Label::Empty => self.follow(alloc, input, number, i, i, transition),
+            Label::Symbol(symbol) => self.follow_edges(alloc, input, number, i, symbol, transition),
         }
     }
 
@@ -299,35 +304,40 @@ impl<'g, S: Semiring> Growing<'g, S> {
         &mut self,
         alloc: Global,
         input: &SumInput<S>,
+        number: u32,
         i: u32,
         state: u32,
     ) -> Result<(), OutOfMemory>
-        requires ready { CanDraw S.operations input.now (pair_place i state) (state_of self.old) }
+        requires ready { CanDraw S.operations input.now number (pair_place i state)
+            (state_of self.old) }
         ensures grows { OnOk result (GrowsBy S.operations input.now
             (pair_moves input.now.opening (ways_of input.now.pattern) i state input.now.transitions)
             (state_of self.old) (state_of self.new)) }
-        ensures ready { OnOk result (CanDraw S.operations input.now
+        ensures ready { OnOk result (CanDraw S.operations input.now number
             (pair_place i state) (state_of self.new)) }
         ensures graph { self.new.nodes.graph ≡ self.old.nodes.graph }
     {
         let transitions = input.transitions();
         let mut at = transitions.first_out_of(state);
         while let Some(k) = at {
-            self.follow_any(alloc, input, i, transitions.entry(k))?;
+            self.follow_any(alloc, input, number, i, transitions.entry(k))?;
             at = transitions.next_out_of(k);
         }
         Ok(())
     }
 
     // Adds a pair of final states to the answer.
+    #[tactic(auto, using(crate::proofs::ReadyLemmas::numbered_entry))]
     fn finish(
         &mut self,
         alloc: Global,
         input: &SumInput<S>,
+        number: u32,
         i: u32,
         state: u32,
     ) -> Result<(), OutOfMemory>
-        requires ready { CanDraw S.operations input.now (pair_place i state) (state_of self.old) }
+        requires ready { CanDraw S.operations input.now number (pair_place i state)
+            (state_of self.old) }
         ensures grows { OnOk result (GrowsBy S.operations input.now
             (end_moves input.now.opening (ways_of input.now.pattern) i state)
             (state_of self.old) (state_of self.new)) }
@@ -336,15 +346,7 @@ impl<'g, S: Semiring> Growing<'g, S> {
         if !input.ends_at(i, state) {
             return Ok(());
         }
-        let pair = Place {
-            from: i,
-            label: Label::Empty,
-            to: state,
-        };
-        let Some(k) = self.pairs.find(pair) else {
-            return Ok(());
-        };
-        let from = self.pairs.entry(k);
+        let from = self.pair(number);
         let semiring = input.semiring();
         let weight = semiring.copy(alloc, &from.weight)?;
         let node = from.node;
@@ -352,23 +354,26 @@ impl<'g, S: Semiring> Growing<'g, S> {
         Ok(())
     }
 
-    /// Adds all that goes on from a place.
+    /// Adds all that goes on from a place. Its transition is read by its number.
     pub(crate) fn draw(
         &mut self,
         alloc: Global,
         input: &SumInput<S>,
-        place: Place,
+        taken: NumberedPlace,
     ) -> Result<(), OutOfMemory>
-        requires ready { CanDraw S.operations input.now place (state_of self.old) }
+        requires ready { CanDraw S.operations input.now taken.number taken.place
+            (state_of self.old) }
         ensures grows { OnOk result (GrowsBy S.operations input.now
-            (moves_of input.now.opening (ways_of input.now.pattern) input.now.transitions place)
+            (moves_of input.now.opening (ways_of input.now.pattern) input.now.transitions
+            taken.place)
             (state_of self.old) (state_of self.new)) }
         ensures graph { self.new.nodes.graph ≡ self.old.nodes.graph }
     {
+        let place = taken.place;
         match place.label {
             Label::Empty => {
-                self.follow_all(alloc, input, place.from, place.to)?;
-                self.finish(alloc, input, place.from, place.to)?;
+                self.follow_all(alloc, input, taken.number, place.from, place.to)?;
+                self.finish(alloc, input, taken.number, place.from, place.to)?;
                 Ok(())
             }
             Label::Symbol(_) => Ok(()),

@@ -45,7 +45,7 @@ impl<'a, S: Semiring> Model for SumInput<'a, S> {
 
 impl<'a, S: Semiring> SumInput<'a, S> {
     /// The input of a sum over these transitions, which read to the opening, and this pattern. The sets of its items are
-    /// sorted here, once. Refused only when out of memory.
+    /// made ready here, once. Refused only when out of memory.
     pub(crate) fn new(
         alloc: Global,
         semiring: &'a S,

@@ -14,7 +14,7 @@ use crate::growing::{ANSWER, Growing};
 use crate::sum_input::SumInput;
 use config_patterns::Pattern;
 use pushdown_rules::System;
-use saturation_core::{Book, PlaceQueue, queue_up, weight_now};
+use saturation_core::{Book, QueuedTransitions, weight_now};
 use saturation_laws::{Direction, Opening};
 use semiring_laws::Semiring;
 use short_listings::shorter;
@@ -39,17 +39,11 @@ fn start<'g, S: Semiring>(
         to: input.control(),
     };
     let mut nodes = Overlay::new(alloc, graph);
-    let mut pairs = Transitions::new(alloc);
-    let mut waiting = PlaceQueue::new(alloc);
+    let mut pairs = QueuedTransitions::new(alloc);
     let number = nodes.push_node(alloc, Node::Start)?;
     let one = input.semiring().one(alloc)?;
-    pairs.lower(alloc, first, one, number)?;
-    queue_up(&mut waiting, first)?;
-    Ok(Growing {
-        pairs,
-        nodes,
-        waiting,
-    })
+    pairs.lower(alloc, first, None, one, number)?;
+    Ok(Growing { pairs, nodes })
 }
 
 // The listing of the answer's node, made shorter, where it is asked for.
@@ -69,9 +63,10 @@ fn list_answer<S: Semiring>(
     if !listed {
         return Ok(None);
     }
-    match sum.pairs.find(ANSWER) {
+    let pairs = sum.pairs.list();
+    match pairs.find(ANSWER) {
         Some(k) => {
-            let node = sum.pairs.entry(k).node;
+            let node = pairs.entry(k).node;
             let listing = shorter(alloc, graph, added, node)?;
             Ok(Some(listing))
         }
@@ -107,10 +102,10 @@ pub fn sum_parts<S: Semiring, D: Direction<S>>(
     let side = direction.side();
     let input = SumInput::new(alloc, semiring, side, opening, transitions, pattern)?;
     let mut sum = start(alloc, &input, graph)?;
-    'rounds: while let Some(place) = sum.waiting.pop() {
-        sum.draw(alloc, &input, place)?;
+    'rounds: while let Some(taken) = sum.pairs.pop() {
+        sum.draw(alloc, &input, taken)?;
     }
-    let value = weight_now(alloc, semiring, &sum.pairs, ANSWER)?;
+    let value = weight_now(alloc, semiring, sum.pairs.list(), ANSWER)?;
     let listing = list_answer(alloc, &sum, listed)?;
     Ok(Answer { value, listing })
 }

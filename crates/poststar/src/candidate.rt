@@ -3,12 +3,13 @@ ghost use Rattle.semiring_laws.specs.Semiring.{Fits, FitsMap};
 ghost use Rattle.pushdown_rules.specs.InSystem.{IsRuleIn};
 ghost use Rattle.saturation_laws.specs.Jobs.{InputsFit};
 ghost use Rattle.saturation_laws.specs.States.{weight_of};
+ghost use Rattle.saturation_laws.specs.Views.{seen, seen_input};
 ghost use Rattle.poststar_laws.specs.Rows.{step_worth, returned_worth, glue_worth, rule_candidate, rule_named};
 ghost use Rattle.poststar_laws.specs.Rows.{rule_worth_of, returned_worth_of, candidate_of};
 
 use direction_parts::{after_return, input_weight};
 use pushdown_rules::{Rule, System};
-use saturation_laws::{Input, Job, JobKind};
+use saturation_laws::{Input, JobKind, JobView};
 use semiring_laws::Semiring;
 use std::alloc::Global;
 use wpds_base::OutOfMemory;
@@ -17,13 +18,13 @@ use wpds_base::OutOfMemory;
 fn input_then<S: Semiring>(
     alloc: Global,
     semiring: &S,
-    input: &Option<Input<S>>,
+    input: Option<&Input<S>>,
     weight: &S::W,
 ) -> Result<S::W, OutOfMemory>
-    requires input { IfSome input.now (λ t. Fits (S.operations semiring.now) t.weight) }
+    requires input { IfSome (seen_input input) (λ t. Fits (S.operations semiring.now) t.weight) }
     requires weight { Fits (S.operations semiring.now) weight.now }
     ensures { let s = S.operations semiring.now in
-        IfOk result (λ w. w ≡ s.extend (weight_of s input.now) weight.now) }
+        IfOk result (λ w. w ≡ s.extend (weight_of s (seen_input input.entry)) weight.now) }
 {
     match input {
         Some(t) => semiring.extend(alloc, &t.weight, weight),
@@ -39,13 +40,14 @@ fn step_worth<S: Semiring>(
     alloc: Global,
     semiring: &S,
     rule: &Rule<S>,
-    job: &Job<S>,
+    job: &JobView<'_, S>,
 ) -> Result<S::W, OutOfMemory>
     requires weight { Fits (S.operations semiring.now) rule.now.weight }
-    requires inputs { InputsFit (S.operations semiring.now) job.now }
-    ensures { IfOk result (λ w. w ≡ step_worth (S.operations semiring.now) rule.now job.now) }
+    requires inputs { InputsFit (S.operations semiring.now) (seen job.now) }
+    ensures { let s = S.operations semiring.now in
+        IfOk result (λ w. w ≡ step_worth s rule.now (seen job.now)) }
 {
-    input_then(alloc, semiring, &job.first, &rule.weight)
+    input_then(alloc, semiring, job.first, &rule.weight)
 }
 
 // What the return map of a push rule makes of a pop.
@@ -54,13 +56,13 @@ fn worth_in<S: Semiring>(
     semiring: &S,
     frame: &Rule<S>,
     rule: &Rule<S>,
-    job: &Job<S>,
+    job: &JobView<'_, S>,
 ) -> Result<S::W, OutOfMemory>
     requires map { IfSome frame.now.map (FitsMap (S.operations semiring.now)) }
     requires weight { Fits (S.operations semiring.now) rule.now.weight }
-    requires inputs { InputsFit (S.operations semiring.now) job.now }
+    requires inputs { InputsFit (S.operations semiring.now) (seen job.now) }
     ensures { let worth = returned_worth (S.operations semiring.now) (Some frame.now) in
-        IfOk result (λ w. w ≡ worth rule.now job.now) }
+        IfOk result (λ w. w ≡ worth rule.now (seen job.now)) }
 {
     let inside = step_worth(alloc, semiring, rule, job)?;
     after_return(alloc, semiring, frame, &inside)
@@ -72,12 +74,12 @@ fn returned_worth<S: Semiring>(
     system: &System<S>,
     frame: Option<u32>,
     rule: &Rule<S>,
-    job: &Job<S>,
+    job: &JobView<'_, S>,
 ) -> Result<S::W, OutOfMemory>
     requires rule { IsRuleIn S.operations system.now rule.now }
-    requires inputs { InputsFit (S.operations system.now.semiring) job.now }
+    requires inputs { InputsFit (S.operations system.now.semiring) (seen job.now) }
     ensures { let worth = returned_worth_of S.operations system.now frame in
-        IfOk result (λ w. w ≡ worth rule.now job.now) }
+        IfOk result (λ w. w ≡ worth rule.now (seen job.now)) }
 {
     let Some(m) = frame else {
         return system.semiring().zero(alloc);
@@ -94,20 +96,20 @@ fn rule_worth<S: Semiring>(
     alloc: Global,
     system: &System<S>,
     rule: &Rule<S>,
-    job: &Job<S>,
+    job: &JobView<'_, S>,
 ) -> Result<S::W, OutOfMemory>
     requires rule { IsRuleIn S.operations system.now rule.now }
-    requires inputs { InputsFit (S.operations system.now.semiring) job.now }
+    requires inputs { InputsFit (S.operations system.now.semiring) (seen job.now) }
     ensures { let s = S.operations system.now.semiring in
-        let frame = rule_named system.now.rules job.now.frame in
-        IfOk result (λ w. w ≡ rule_candidate s frame rule.now job.now) }
+        let frame = rule_named system.now.rules (seen job.now).frame in
+        IfOk result (λ w. w ≡ rule_candidate s frame rule.now (seen job.now)) }
 {
     let semiring = system.semiring();
     match job.kind {
         JobKind::PostStep | JobKind::PostPopOther => step_worth(alloc, semiring, rule, job),
         JobKind::PostPopMiddle => returned_worth(alloc, system, job.frame, rule, job),
         JobKind::PostEnter => semiring.copy(alloc, &rule.weight),
-        JobKind::PostLeave => input_weight(alloc, semiring, &job.first),
+        JobKind::PostLeave => input_weight(alloc, semiring, job.first),
         JobKind::PreStep | JobKind::PrePushControl | JobKind::PrePushOther | JobKind::PostGlue =>
             semiring.zero(alloc),
     }
@@ -118,10 +120,10 @@ fn named_worth<S: Semiring>(
     alloc: Global,
     system: &System<S>,
     number: Option<u32>,
-    job: &Job<S>,
+    job: &JobView<'_, S>,
 ) -> Result<S::W, OutOfMemory>
-    requires { InputsFit (S.operations system.now.semiring) job.now }
-    ensures { IfOk result (λ w. w ≡ rule_worth_of S.operations system.now number job.now) }
+    requires { InputsFit (S.operations system.now.semiring) (seen job.now) }
+    ensures { IfOk result (λ w. w ≡ rule_worth_of S.operations system.now number (seen job.now)) }
 {
     let Some(k) = number else {
         return system.semiring().zero(alloc);
@@ -134,15 +136,19 @@ fn named_worth<S: Semiring>(
 }
 
 // Where two meet, the deeper one first.
-fn glue_worth<S: Semiring>(alloc: Global, semiring: &S, job: &Job<S>) -> Result<S::W, OutOfMemory>
-    requires { InputsFit (S.operations semiring.now) job.now }
-    ensures { IfOk result (λ w. w ≡ glue_worth (S.operations semiring.now) job.now) }
+fn glue_worth<S: Semiring>(
+    alloc: Global,
+    semiring: &S,
+    job: &JobView<'_, S>,
+) -> Result<S::W, OutOfMemory>
+    requires { InputsFit (S.operations semiring.now) (seen job.now) }
+    ensures { IfOk result (λ w. w ≡ glue_worth (S.operations semiring.now) (seen job.now)) }
 {
-    match &job.second {
-        Some(empty) => input_then(alloc, semiring, &job.first, &empty.weight),
+    match job.second {
+        Some(empty) => input_then(alloc, semiring, job.first, &empty.weight),
         None => {
             let zero = semiring.zero(alloc)?;
-            input_then(alloc, semiring, &job.first, &zero)
+            input_then(alloc, semiring, job.first, &zero)
         }
     }
 }
@@ -151,10 +157,10 @@ fn glue_worth<S: Semiring>(alloc: Global, semiring: &S, job: &Job<S>) -> Result<
 pub(crate) fn worth<S: Semiring>(
     alloc: Global,
     system: &System<S>,
-    job: &Job<S>,
+    job: &JobView<'_, S>,
 ) -> Result<S::W, OutOfMemory>
-    requires { InputsFit (S.operations system.now.semiring) job.now }
-    ensures { IfOk result (λ w. w ≡ candidate_of S.operations system.now job.now) }
+    requires { InputsFit (S.operations system.now.semiring) (seen job.now) }
+    ensures { IfOk result (λ w. w ≡ candidate_of S.operations system.now (seen job.now)) }
 {
     match job.kind {
         JobKind::PostGlue => glue_worth(alloc, system.semiring(), job),

@@ -1,4 +1,5 @@
-ghost use Rattle.std.specs.Prelude.{◌≡◌, ◌++◌, IfOk, OnOk};
+ghost use Rattle.std.specs.Prelude.{◌≡◌, ◌++◌, map, OnOk};
+ghost use Rattle.saturation_laws.specs.Views.{seen};
 ghost use Rattle.semiring_laws.specs.Semiring.{Fits};
 ghost use Rattle.weighted_automata.specs.declared.place.Label.TheVariants.{Symbol};
 ghost use Rattle.poststar_laws.specs.Rows.{is_pop, skip, step_drawn, return_drawn, pop_drawn, enter_drawn, leave_drawn, drawn};
@@ -6,11 +7,10 @@ ghost use Rattle.poststar_laws.specs.Jobs.{drawn_job, rule_jobs};
 ghost use Rattle.poststar.specs.private.Passes.{kind_of};
 
 use crate::pass::Pass;
-use direction_parts::{one_symbol, two_symbols};
+use direction_parts::{Draw, one_symbol, two_symbols};
 use poststar_laws::Drawn;
-use pushdown_rules::Rule;
-use saturation_core::copy_input;
-use saturation_laws::Job;
+use pushdown_rules::{Rule, System};
+use saturation_laws::JobView;
 use semiring_laws::Semiring;
 use std::alloc::Global;
 use weighted_automata::{Entry, Label, Place};
@@ -132,43 +132,41 @@ fn drawn<S: Semiring>(
 }
 
 // The job of what a rule draws from a transition.
-fn drawn_job<S: Semiring>(
-    alloc: Global,
-    semiring: &S,
+fn drawn_job<'t, S: Semiring>(
     pass: Pass,
     number: u32,
     drawn: Drawn,
-    taken: &Entry<S>,
-) -> Result<Job<S>, OutOfMemory>
-    requires { Fits (S.operations semiring.now) taken.now.weight }
-    ensures { IfOk result (λ j. j ≡ drawn_job (kind_of pass) number drawn taken.now) }
+    taken: &'t Entry<S>,
+) -> JobView<'t, S>
+    ensures { seen result ≡ drawn_job (kind_of pass) number drawn taken.now }
 {
-    Ok(Job {
+    JobView {
         kind: pass.kind(),
         rule: Some(number),
         frame: drawn.frame,
-        first: Some(copy_input(alloc, semiring, taken)?),
+        first: Some(taken),
         second: None,
         goal: drawn.goal,
-    })
+    }
 }
 
-/// Adds the job of a rule, if it draws one from a transition. Its middle state is given, and the push rule of which the
+/// Draws the job of a rule, if it draws one from a transition. Its middle state is given, and the push rule of which the
 /// transition leads to the middle.
-pub(crate) fn list_rule<S: Semiring>(
+pub(crate) fn list_rule<S: Semiring, K: Draw<S>>(
     alloc: Global,
-    semiring: &S,
+    draw: &K,
+    system: &System<S>,
     pass: Pass,
     frame: Option<u32>,
     middle: u32,
     number: u32,
     rule: &Rule<S>,
     taken: &Entry<S>,
-    jobs: &mut Vec<Job<S>>,
+    into: &mut Vec<K::Made>,
 ) -> Result<(), OutOfMemory>
-    requires { Fits (S.operations semiring.now) taken.now.weight }
+    requires { Fits (S.operations system.now.semiring) taken.now.weight }
     ensures { let more = rule_jobs (kind_of pass) frame middle taken.now number rule.now in
-        OnOk result (jobs.new.items ≡ jobs.old.items ++ more) }
+        OnOk result (into.new.items ≡ into.old.items ++ map (K.made system.now) more) }
 {
     let Some(found) = drawn(pass, frame, middle, rule, taken.place.to) else {
         return Ok(());
@@ -177,7 +175,7 @@ pub(crate) fn list_rule<S: Semiring>(
         .place
         .is_from(rule.control, Label::Symbol(rule.symbol))
     {
-        jobs.push(drawn_job(alloc, semiring, pass, number, found, taken)?)?;
+        into.push(draw.draw(alloc, system, &drawn_job(pass, number, found, taken))?)?;
     }
     Ok(())
 }

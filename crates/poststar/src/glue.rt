@@ -1,4 +1,5 @@
-ghost use Rattle.std.specs.Prelude.{◌≡◌, ◌+◌, ◌++◌, Some, IfOk, OnOk};
+ghost use Rattle.std.specs.Prelude.{◌≡◌, ◌+◌, ◌++◌, map, Some, OnOk};
+ghost use Rattle.saturation_laws.specs.Views.{seen};
 ghost use Rattle.key_rows.specs.Rows.{index_where, index_from};
 ghost use Rattle.poststar.specs.private.Meetings.{may_glue};
 ghost use Rattle.std.specs.List.{flat_map};
@@ -9,8 +10,9 @@ ghost use Rattle.poststar_laws.specs.Rows.{are_glued};
 ghost use Rattle.poststar_laws.specs.Jobs.{glue_job, glue_jobs};
 ghost use Rattle.direction_parts.specs.Worths.{AreFit};
 
-use saturation_core::copy_input;
-use saturation_laws::{Job, JobKind};
+use direction_parts::Draw;
+use pushdown_rules::System;
+use saturation_laws::{JobKind, JobView};
 use semiring_laws::Semiring;
 use std::alloc::Global;
 use weighted_automata::{Entry, Label, Place, Transitions};
@@ -33,66 +35,61 @@ fn are_glued(deep: Place, empty: Place) -> bool
 }
 
 // The job of a transition that reads a symbol, and an empty one.
-fn glue_job<S: Semiring>(
-    alloc: Global,
-    semiring: &S,
-    deep: &Entry<S>,
-    empty: &Entry<S>,
-) -> Result<Job<S>, OutOfMemory>
-    requires deep { Fits (S.operations semiring.now) deep.now.weight }
-    requires empty { Fits (S.operations semiring.now) empty.now.weight }
-    ensures { IfOk result (λ j. j ≡ glue_job deep.now empty.now) }
+fn glue_job<'t, S: Semiring>(deep: &'t Entry<S>, empty: &'t Entry<S>) -> JobView<'t, S>
+    ensures { seen result ≡ glue_job deep.now empty.now }
 {
     let goal = Place {
         from: empty.place.from,
         label: deep.place.label,
         to: deep.place.to,
     };
-    Ok(Job {
+    JobView {
         kind: JobKind::PostGlue,
         rule: None,
         frame: None,
-        first: Some(copy_input(alloc, semiring, deep)?),
-        second: Some(copy_input(alloc, semiring, empty)?),
+        first: Some(deep),
+        second: Some(empty),
         goal,
-    })
+    }
 }
 
-// Adds the job of these two, if they meet.
-fn list_if_glued<S: Semiring>(
+// Draws the job of these two, if they meet.
+fn list_if_glued<S: Semiring, K: Draw<S>>(
     alloc: Global,
-    semiring: &S,
+    draw: &K,
+    system: &System<S>,
     deep: &Entry<S>,
     empty: &Entry<S>,
-    jobs: &mut Vec<Job<S>>,
+    into: &mut Vec<K::Made>,
 ) -> Result<(), OutOfMemory>
-    requires deep { Fits (S.operations semiring.now) deep.now.weight }
-    requires empty { Fits (S.operations semiring.now) empty.now.weight }
+    requires deep { Fits (S.operations system.now.semiring) deep.now.weight }
+    requires empty { Fits (S.operations system.now.semiring) empty.now.weight }
     ensures { let meets = are_glued deep.now.place empty.now.place in
-        let more = only_if meets (glue_job deep.now empty.now) in
-        OnOk result (jobs.new.items ≡ jobs.old.items ++ more) }
+        let more = map (K.made system.now) (only_if meets (glue_job deep.now empty.now)) in
+        OnOk result (into.new.items ≡ into.old.items ++ more) }
 {
     if are_glued(deep.place, empty.place) {
-        jobs.push(glue_job(alloc, semiring, deep, empty)?)?;
+        into.push(draw.draw(alloc, system, &glue_job(deep, empty))?)?;
     }
     Ok(())
 }
 
-// Adds the jobs of a transition and another, whichever of them reads a symbol.
-fn list_glue<S: Semiring>(
+// Draws the jobs of a transition and another, whichever of them reads a symbol.
+fn list_glue<S: Semiring, K: Draw<S>>(
     alloc: Global,
-    semiring: &S,
+    draw: &K,
+    system: &System<S>,
     taken: &Entry<S>,
     other: &Entry<S>,
-    jobs: &mut Vec<Job<S>>,
+    into: &mut Vec<K::Made>,
 ) -> Result<(), OutOfMemory>
-    requires taken { Fits (S.operations semiring.now) taken.now.weight }
-    requires other { Fits (S.operations semiring.now) other.now.weight }
-    ensures { let more = glue_jobs taken.now other.now in
-        OnOk result (jobs.new.items ≡ jobs.old.items ++ more) }
+    requires taken { Fits (S.operations system.now.semiring) taken.now.weight }
+    requires other { Fits (S.operations system.now.semiring) other.now.weight }
+    ensures { let more = map (K.made system.now) (glue_jobs taken.now other.now) in
+        OnOk result (into.new.items ≡ into.old.items ++ more) }
 {
-    list_if_glued(alloc, semiring, taken, other, jobs)?;
-    list_if_glued(alloc, semiring, other, taken, jobs)
+    list_if_glued(alloc, draw, system, taken, other, into)?;
+    list_if_glued(alloc, draw, system, other, taken, into)
 }
 
 // Where the first transition stands that may meet one at a place.
@@ -119,22 +116,23 @@ fn next_glued<S: Semiring>(transitions: &Transitions<S>, place: Place, i: u64) -
     }
 }
 
-/// Adds the jobs of a transition and each that it may meet, in their order.
-pub(crate) fn list_glues<S: Semiring>(
+/// Draws the jobs of a transition and each that it may meet, in their order.
+pub(crate) fn list_glues<S: Semiring, K: Draw<S>>(
     alloc: Global,
-    semiring: &S,
+    draw: &K,
+    system: &System<S>,
     transitions: &Transitions<S>,
     taken: &Entry<S>,
-    jobs: &mut Vec<Job<S>>,
+    into: &mut Vec<K::Made>,
 ) -> Result<(), OutOfMemory>
-    requires fit { AreFit (S.operations semiring.now) transitions.now.transitions }
-    requires taken { Fits (S.operations semiring.now) taken.now.weight }
+    requires fit { AreFit (S.operations system.now.semiring) transitions.now.transitions }
+    requires taken { Fits (S.operations system.now.semiring) taken.now.weight }
     ensures { let more = flat_map (glue_jobs taken.now) transitions.now.transitions in
-        OnOk result (jobs.new.items ≡ jobs.old.items ++ more) }
+        OnOk result (into.new.items ≡ into.old.items ++ map (K.made system.now) more) }
 {
     let mut at = first_glued(transitions, taken.place);
     'partners: while let Some(i) = at {
-        list_glue(alloc, semiring, taken, transitions.entry(i), jobs)?;
+        list_glue(alloc, draw, system, taken, transitions.entry(i), into)?;
         at = next_glued(transitions, taken.place, i);
     }
     Ok(())

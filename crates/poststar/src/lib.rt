@@ -10,6 +10,7 @@ mod middles;
 mod opening;
 mod pass;
 mod post;
+mod worths;
 
 pub use opening::post_opening;
 pub use post::Post;

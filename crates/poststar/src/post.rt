@@ -4,9 +4,11 @@ ghost use Rattle.poststar_laws.specs.Ways.{post_way};
 ghost use Rattle.poststar_laws.proofs.CallerLemmas.{post_laws, post_has_sums, jobs_once, same_candidates};
 
 use crate::candidate::worth;
-use crate::jobs::jobs_of;
+use crate::jobs::list_jobs;
+use crate::worths::Worths;
+use direction_parts::Copies;
 use pushdown_rules::System;
-use saturation_laws::{Direction, Job, JobList};
+use saturation_laws::{Change, Direction, Job, JobList};
 use semiring_laws::Semiring;
 use std::alloc::Global;
 use weighted_automata::Transitions;
@@ -38,9 +40,23 @@ impl<S: Semiring> Direction<S> for Post {
         transitions: &Transitions<S>,
         taken: u64,
     ) -> Result<JobList<S>, OutOfMemory> {
-        let taken = transitions.entry(taken);
-        let jobs = jobs_of(alloc, system, self.items, transitions, taken)?;
+        let mut jobs = Vec::new(alloc);
+        let (items, taken) = (self.items, transitions.entry(taken));
+        list_jobs(alloc, &Copies, system, items, transitions, taken, &mut jobs)?;
         Ok(JobList::from_vec(jobs))
+    }
+
+    /// The time is that of `jobs`. No input is copied.
+    fn changes(
+        &self,
+        alloc: Global,
+        system: &System<S>,
+        transitions: &Transitions<S>,
+        taken: u64,
+        into: &mut Vec<Change<S>>,
+    ) -> Result<(), OutOfMemory> {
+        let (items, taken) = (self.items, transitions.entry(taken));
+        list_jobs(alloc, &Worths, system, items, transitions, taken, into)
     }
 
     fn candidate(
@@ -49,7 +65,7 @@ impl<S: Semiring> Direction<S> for Post {
         system: &System<S>,
         job: &Job<S>,
     ) -> Result<S::W, OutOfMemory> {
-        worth(alloc, system, job)
+        worth(alloc, system, &job.view())
     }
 
     fn same_way(&self, other: &Self) -> bool {

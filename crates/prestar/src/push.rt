@@ -1,4 +1,5 @@
-ghost use Rattle.std.specs.Prelude.{◌≡◌, ◌+◌, ◌++◌, ◌&&◌, IfOk, OnOk};
+ghost use Rattle.std.specs.Prelude.{◌≡◌, ◌+◌, ◌++◌, ◌&&◌, map, OnOk};
+ghost use Rattle.saturation_laws.specs.Views.{seen};
 ghost use Rattle.std.specs.List.{flat_map};
 ghost use Rattle.semiring_laws.specs.Semiring.{Fits};
 ghost use Rattle.prestar_laws.specs.Jobs.{push_job, goes_on, are_inputs, pair_jobs, may_be_input, pairs_of};
@@ -11,10 +12,9 @@ ghost use Rattle.prestar.specs.private.Rows.{is_first, is_second};
 ghost use Rattle.key_rows.specs.Rows.{index_where, index_from};
 ghost use Rattle.direction_parts.specs.Passes.{only_if};
 
-use direction_parts::lower_index;
-use pushdown_rules::Rule;
-use saturation_core::copy_input;
-use saturation_laws::{Job, JobKind};
+use direction_parts::{Draw, lower_index};
+use pushdown_rules::{Rule, System};
+use saturation_laws::{JobKind, JobView};
 use semiring_laws::Semiring;
 use std::alloc::Global;
 use weighted_automata::{Entry, Label, Place, Transitions};
@@ -91,77 +91,72 @@ impl<'a, S: Semiring> Push<'a, S> {
     }
 
     // Its job from two transitions.
-    fn job(
-        &self,
-        alloc: Global,
-        semiring: &S,
-        first: &Entry<S>,
-        second: &Entry<S>,
-    ) -> Result<Job<S>, OutOfMemory>
-        requires first { Fits (S.operations semiring.now) first.now.weight }
-        requires second { Fits (S.operations semiring.now) second.now.weight }
+    fn job<'t>(&self, first: &'t Entry<S>, second: &'t Entry<S>) -> JobView<'t, S>
         ensures { let push = self.now in
             let made = push_job (kind_of push.callee) push.number push.rule.now in
-            IfOk result (λ j. j ≡ made first.now second.now) }
+            seen result ≡ made first.now second.now }
     {
         let goal = Place {
             from: self.rule.control,
             label: Label::Symbol(self.rule.symbol),
             to: second.place.to,
         };
-        Ok(Job {
+        JobView {
             kind: self.callee.kind(),
             rule: Some(self.number),
             frame: None,
-            first: Some(copy_input(alloc, semiring, first)?),
-            second: Some(copy_input(alloc, semiring, second)?),
+            first: Some(first),
+            second: Some(second),
             goal,
-        })
+        }
     }
 
-    // Adds its job from two transitions, where they are its inputs.
-    fn list_if(
+    // Draws its job from two transitions, where they are its inputs.
+    fn list_if<K: Draw<S>>(
         &self,
         alloc: Global,
-        semiring: &S,
+        draw: &K,
+        system: &System<S>,
         listed: bool,
         first: &Entry<S>,
         second: &Entry<S>,
-        jobs: &mut Vec<Job<S>>,
+        into: &mut Vec<K::Made>,
     ) -> Result<(), OutOfMemory>
-        requires first { Fits (S.operations semiring.now) first.now.weight }
-        requires second { Fits (S.operations semiring.now) second.now.weight }
+        requires first { Fits (S.operations system.now.semiring) first.now.weight }
+        requires second { Fits (S.operations system.now.semiring) second.now.weight }
         ensures { let push = self.now in
             let made = push_job (kind_of push.callee) push.number push.rule.now in
-            let more = only_if listed (made first.now second.now) in
-            OnOk result (jobs.new.items ≡ jobs.old.items ++ more) }
+            let more = map (K.made system.now) (only_if listed (made first.now second.now)) in
+            OnOk result (into.new.items ≡ into.old.items ++ more) }
     {
         if listed {
-            jobs.push(self.job(alloc, semiring, first, second)?)?;
+            into.push(draw.draw(alloc, system, &self.job(first, second))?)?;
         }
         Ok(())
     }
 
-    // Adds its jobs from a transition and another, whichever of them is the first input.
-    fn list_pair(
+    // Draws its jobs from a transition and another, whichever of them is the first input.
+    fn list_pair<K: Draw<S>>(
         &self,
         alloc: Global,
-        semiring: &S,
+        draw: &K,
+        system: &System<S>,
         taken: &Entry<S>,
         other: &Entry<S>,
-        jobs: &mut Vec<Job<S>>,
+        into: &mut Vec<K::Made>,
     ) -> Result<(), OutOfMemory>
-        requires taken { Fits (S.operations semiring.now) taken.now.weight }
-        requires other { Fits (S.operations semiring.now) other.now.weight }
+        requires taken { Fits (S.operations system.now.semiring) taken.now.weight }
+        requires other { Fits (S.operations system.now.semiring) other.now.weight }
         ensures { let push = self.now in
             let kind = kind_of push.callee in
-            let made = pair_jobs push.controls kind push.number push.rule.now push.top push.below in
-            OnOk result (jobs.new.items ≡ jobs.old.items ++ made taken.now other.now) }
+            let pair = pair_jobs push.controls kind push.number push.rule.now push.top push.below in
+            let more = map (K.made system.now) (pair taken.now other.now) in
+            OnOk result (into.new.items ≡ into.old.items ++ more) }
     {
         let first = self.takes(taken, other);
-        self.list_if(alloc, semiring, first, taken, other, jobs)?;
+        self.list_if(alloc, draw, system, first, taken, other, into)?;
         let second = !other.place.is(taken.place) && self.takes(other, taken);
-        self.list_if(alloc, semiring, second, other, taken, jobs)
+        self.list_if(alloc, draw, system, second, other, taken, into)
     }
 
     // Whether a transition can be its first input, and its callee goes on behind it.
@@ -258,52 +253,54 @@ impl<'a, S: Semiring> Push<'a, S> {
         None
     }
 
-    // Adds its jobs from a transition and each other that can be its other input, in their order.
-    fn list_pairs(
+    // Draws its jobs from a transition and each other that can be its other input, in their order.
+    fn list_pairs<K: Draw<S>>(
         &self,
         alloc: Global,
-        semiring: &S,
+        draw: &K,
+        system: &System<S>,
         transitions: &Transitions<S>,
         taken: &Entry<S>,
-        jobs: &mut Vec<Job<S>>,
+        into: &mut Vec<K::Made>,
     ) -> Result<(), OutOfMemory>
-        requires fit { AreFit (S.operations semiring.now) transitions.now.transitions }
-        requires taken { Fits (S.operations semiring.now) taken.now.weight }
+        requires fit { AreFit (S.operations system.now.semiring) transitions.now.transitions }
+        requires taken { Fits (S.operations system.now.semiring) taken.now.weight }
         ensures { let push = self.now in
             let kind = kind_of push.callee in
-            let made = pair_jobs push.controls kind push.number push.rule.now push.top push.below in
-            let more = flat_map (made taken.now) transitions.now.transitions in
-            OnOk result (jobs.new.items ≡ jobs.old.items ++ more) }
+            let pair = pair_jobs push.controls kind push.number push.rule.now push.top push.below in
+            let all = flat_map (pair taken.now) transitions.now.transitions in
+            OnOk result (into.new.items ≡ into.old.items ++ map (K.made system.now) all) }
     {
         let mut second = self.first_second(transitions, taken);
         let mut first = self.only_first(transitions, taken);
         'partners: while let Some(i) = lower_index(second, first) {
-            self.list_pair(alloc, semiring, taken, transitions.entry(i), jobs)?;
+            self.list_pair(alloc, draw, system, taken, transitions.entry(i), into)?;
             second = self.second_behind(transitions, taken, second, i);
             first = self.first_behind(transitions, taken, first, i);
         }
         Ok(())
     }
 
-    /// Adds its jobs of which a transition is an input.
-    pub(crate) fn list(
+    /// Draws its jobs of which a transition is an input.
+    pub(crate) fn list<K: Draw<S>>(
         &self,
         alloc: Global,
-        semiring: &S,
+        draw: &K,
+        system: &System<S>,
         transitions: &Transitions<S>,
         taken: &Entry<S>,
-        jobs: &mut Vec<Job<S>>,
+        into: &mut Vec<K::Made>,
     ) -> Result<(), OutOfMemory>
-        requires fit { AreFit (S.operations semiring.now) transitions.now.transitions }
-        requires taken { Fits (S.operations semiring.now) taken.now.weight }
+        requires fit { AreFit (S.operations system.now.semiring) transitions.now.transitions }
+        requires taken { Fits (S.operations system.now.semiring) taken.now.weight }
         ensures { let push = self.now in
-            let made = pairs_of push.controls (kind_of push.callee) transitions.now.transitions in
-            let more = made taken.now push.number push.rule.now push.top push.below in
-            OnOk result (jobs.new.items ≡ jobs.old.items ++ more) }
+            let pairs = pairs_of push.controls (kind_of push.callee) transitions.now.transitions in
+            let all = pairs taken.now push.number push.rule.now push.top push.below in
+            OnOk result (into.new.items ≡ into.old.items ++ map (K.made system.now) all) }
     {
         if !self.may_take(taken) {
             return Ok(());
         }
-        self.list_pairs(alloc, semiring, transitions, taken, jobs)
+        self.list_pairs(alloc, draw, system, transitions, taken, into)
     }
 }

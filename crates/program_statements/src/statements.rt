@@ -15,7 +15,7 @@ use crate::labels::LabelsRead;
 use crate::targets::TargetsRead;
 use boolean_programs::{ChoiceList, Numbers, Statement};
 use program_tables::ProcRow;
-use rule_reader::{TreeRead, ValueRead, WeightFaults};
+use rule_reader::{NamesRead, TreeRead, ValueRead, WeightFaults};
 use std::alloc::Global;
 use wpds_base::OutOfMemory;
 
@@ -176,6 +176,14 @@ fn misfits_callee(callee: Option<ProcRow>, targets: usize, arguments: usize) -> 
     }
 }
 
+// Whether a target stands twice, and the variables, without the names that they were told apart by.
+fn without_names(targets: TargetsRead<'_>) -> (bool, NamesRead)
+    ensures twice { result.0 ≡ targets.entry.once.twice }
+    ensures variables { result.1 ≡ targets.entry.variables }
+{
+    (targets.once.twice, targets.variables)
+}
+
 /// `[X, .. :=] call F ( [V, ..] )`, where this is known of `F`.
 pub(crate) fn call(
     targets: TargetsRead<'_>,
@@ -187,24 +195,17 @@ pub(crate) fn call(
         → callee ≡ option_map proc_row (proc_named w.procs f) → HasChoices names vs arguments
         → HasStatement w names begun returns (CallForm xs f vs) result }
 {
-    let mut faults = with_targets(
-        targets.once.twice,
-        targets.variables.unknown,
-        arguments.faults,
-    );
+    let (twice, variables) = without_names(targets);
+    let mut faults = with_targets(twice, variables.unknown, arguments.faults);
     faults.unknown |= callee.is_none();
-    faults.misfits = misfits_callee(
-        callee,
-        targets.variables.numbers.len(),
-        arguments.choices.len(),
-    );
+    faults.misfits = misfits_callee(callee, variables.numbers.len(), arguments.choices.len());
     let place = match callee {
         Some(row) => row.place,
         None => 0,
     };
     StatementRead {
         statement: Statement::Call {
-            targets: Numbers::from_vec(targets.variables.numbers),
+            targets: Numbers::from_vec(variables.numbers),
             callee: place,
             arguments: ChoiceList::from_vec(arguments.choices),
         },

@@ -96,7 +96,7 @@ fn firing(rt: HostRuntime) -> Result<(), Fail> {
         assert_eq!(rt; config.control(), control);
         assert!(rt; config.depth() == stack.len());
         for i in 0..config.depth() {
-            assert_eq!(rt; config.at(i), stack[i]);
+            assert_eq!(rt; Some(config.at(i)), stack.get(i).copied());
         }
     }
     Ok(())

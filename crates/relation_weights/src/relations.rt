@@ -28,7 +28,7 @@ const OR: u8 = 14;
 /// the empty relation and one the identity. Contracts see it as the number of bits.
 ///
 /// Extending by zero or the identity, combining with zero or an equal relation, and a return map that changes nothing
-/// share an operand, and make no operation on diagrams.
+/// share an operand, and make no operation on diagrams. That zero or an equal relation lowers nothing is told before any.
 #[derive(Clone, Copy, Debug)]
 pub struct Relations {
     n: u32,
@@ -174,6 +174,26 @@ impl Semiring for Relations {
             return a.share();
         }
         composed(alloc, self.n, a, b)
+    }
+
+    fn lowered(
+        &self,
+        alloc: Global,
+        old: &Relation,
+        weight: &Relation,
+    ) -> Result<Option<Relation>, OutOfMemory> {
+        if weight.is_empty() || weight.is_same(old) {
+            return Ok(None);
+        }
+        if old.is_empty() {
+            let weight = weight.share()?;
+            return Ok(Some(weight));
+        }
+        let sum = united(alloc, self.n, old, weight)?;
+        if sum.is_same(old) {
+            return Ok(None);
+        }
+        Ok(Some(sum))
     }
 
     fn copy(&self, _alloc: Global, a: &Relation) -> Result<Relation, OutOfMemory> {

@@ -1,45 +1,21 @@
 -- Names and their numbers, one name more.
-use Rattle.std.proofs.Common.{◌≡◌, ℕ, ◌+◌, ◌<◌, ◌^◌, inl, inr, Bool, true, false, not, cond, List, [], ◌∷◌, ◌++◌, length, Some, None, Bor, refl, sym, ap, ◌∙◌, subst, arith}
+use Rattle.std.proofs.Common.{◌≡◌, ℕ, ◌+◌, ◌<◌, ◌≤◌, ◌^◌, inl, inr, Bool, true, false, ◌||◌, cond, List, [], ◌∷◌, ◌++◌, length, Some, None, Bor, refl, sym, ap, ◌∙◌, subst, arith}
 use Rattle.std.proofs.Math.Logic.{⊎_elim}
-use Rattle.std.specs.Prelude.{nat_eq, unwrap_or, ◌⊎◌, bytes_eq, if◌then◌else◌}
-use Rattle.std.specs.BTreeMap.{BTreeMap}
-use Rattle.std.specs.Map.{update}
-use Rattle.std.proofs.lemmas.Bool.{or_parts, false_from_ne_true}
-use Rattle.std.proofs.lemmas.List.{length_push}
+use Rattle.std.specs.Prelude.{◌⊎◌, bytes_eq, option_map, unwrap_or}
+use Rattle.std.specs.Ordering.{eq_by_cmp}
+use Rattle.std.proofs.lemmas.Bool.{or_parts}
+use Rattle.std.proofs.lemmas.List.{length_push, map_push}
+use Rattle.std.proofs.lemmas.Map.Text.{is_eq-slice_cmp}
 use Rattle.std.proofs.lemmas.Slice.Eq.{bytes_eq-Decides}
 use Rattle.document_forms.specs.Names.{is_among, number_in}
+use Rattle.key_rows.specs.declared.rows.KeyRows.{KeyRows}
+use Rattle.key_rows.specs.Rows.{AreRows, index_where, has_key}
 use Rattle.wpds_base.specs.Lists.{IsIn, IsOnce}
-use Rattle.rule_reader.proofs.NamesOnceLemmas.{any_push}
 use Rattle.rule_reader.specs.Names.{number_among}
-use Rattle.rule_reader.specs.private.NameTables.{IsNumbered, at_name}
+use Rattle.rule_reader.specs.private.NameTables.{IsNumbered, bytes_of, keys_of, name_cmp}
 
 differ : false ≡ true → ⊥
 differ e = cc
-
-number_in-push :
-    (names : List (List ℕ)) (x y : List ℕ)
-    → number_in (names ++ x ∷ []) y
-    ≡ (if is_among names y then number_in names y else (if bytes_eq y x then length names else length names + 1))
-number_in-push [] x y = grind arith
-number_in-push (z ∷ zs) x y = grind (arith, number_in-push zs x y)
-
-number_among-push :
-    (names : List (List ℕ)) (x y : List ℕ) → is_among names x ≡ false
-    → number_among (names ++ x ∷ []) y ≡ update bytes_eq (number_among names) x (Some (length names)) y
-number_among-push names x y h = go (bytes_eq x y) refl
-  where
-    go :
-        (b : Bool) → bytes_eq x y ≡ b
-        → number_among (names ++ x ∷ []) y ≡ cond b (Some (length names)) (number_among names y)
-    go true e =
-        let s = (bytes_eq-Decides x y).0 e in
-        let t = (bytes_eq-Decides y x).1 (sym s) in
-        let n = subst (λ z. is_among names z ≡ false) s h in
-        rw (any_push (bytes_eq y) names x, number_in-push names x y, n, t) refl
-    go false e =
-        let turned = λ (f : bytes_eq y x ≡ true). (bytes_eq-Decides x y).1 (sym ((bytes_eq-Decides y x).0 f)) in
-        let t = false_from_ne_true (bytes_eq y x) (λ f. differ (sym e ∙ turned f)) in
-        grind (arith, any_push (bytes_eq y) names x, number_in-push names x y, t)
 
 in_push : (names : List (List ℕ)) (x y : List ℕ) → IsIn y (names ++ x ∷ []) → IsIn y names ⊎ (x ≡ y)
 in_push [] x y (inl e) = inr e
@@ -58,43 +34,41 @@ number_below : (names : List (List ℕ)) (x : List ℕ) → is_among names x ≡
 number_below [] x h = cc
 number_below (y ∷ ys) x h = grind (arith, number_below ys x)
 
--- only a new name gets the next number
-next_if_new :
-    (names : List (List ℕ)) (x : List ℕ)
-    → nat_eq (unwrap_or (number_among names x) (length names)) (length names) ≡ not (is_among names x)
-next_if_new names x = go (is_among names x) (number_below names x)
+-- what a name has as its number is a number of 32 bits
+pub number_fits :
+    (names : List (List ℕ)) (x : List ℕ) (n : ℕ) → length names ≤ 2 ^ 32 → number_among names x ≡ Some n → n < 2 ^ 32
+number_fits names x n few h = go (is_among names x) (number_below names x) h
   where
     go :
         (b : Bool) → (b ≡ true → number_in names x < length names)
-        → nat_eq (unwrap_or (if b then Some (number_in names x) else None) (length names)) (length names) ≡ not b
-    go true below = let m = below refl in grind (arith, m)
-    go false below = grind arith
+        → cond b (Some (number_in names x)) None ≡ Some n → n < 2 ^ 32
+    go true below e = let m = below refl in let same : number_in names x ≡ n = ap (λ o. unwrap_or o 0) e in omega (arith, m, same, few)
+    go false below e = cc
 
--- the number that a name has, or else the next, is the next exactly if the name is new
-pub next_is_new :
-    (names : List (List ℕ)) (x : List ℕ) (m : BTreeMap (Bor (List ℕ)) ℕ) (number next : ℕ)
-    → IsNumbered names m → next ≡ length names → number ≡ unwrap_or (at_name m x) next
-    → nat_eq number next ≡ not (is_among names x)
-next_is_new names x m number next h next_is number_is = rw (number_is, next_is, h.numbered x) (next_if_new names x)
+one_more : (here later : Bool) (n : ℕ)
+    → cond here (Some 0) (option_map (λ k. k + 1) (cond later (Some n) None))
+    ≡ cond (here || later) (Some (cond here 0 (n + 1))) None
+one_more true later n = refl
+one_more false true n = refl
+one_more false false n = refl
 
--- a new name gets the next number
+-- where the first stands that has a name is its number
+pub first_is_number :
+    (slices : List (Bor (List ℕ))) (x : Bor (List ℕ))
+    → index_where (has_key (eq_by_cmp name_cmp) x) (keys_of slices) ≡ number_among (bytes_of slices) x.now
+first_is_number [] x = refl
+first_is_number (s ∷ ss) x =
+    (λ i. cond (is_eq-slice_cmp x.now s.now i) (Some 0) (option_map (λ k. k + 1) (first_is_number ss x i)))
+    ∙ one_more (bytes_eq x.now s.now) (is_among (bytes_of ss) x.now) (number_in (bytes_of ss) x.now)
+
+-- a name that has no number is another one, and with it the names are one more
 pub numbered_push :
-    (names : List (List ℕ)) (x : List ℕ) (m n : BTreeMap (Bor (List ℕ)) ℕ) (number next : ℕ)
-    → IsNumbered names m → next ≡ length names → next < 2 ^ 32 → number ≡ unwrap_or (at_name m x) next
-    → ((y : List ℕ) → at_name n y ≡ (if bytes_eq x y then Some number else at_name m y))
-    → nat_eq number next ≡ true → IsNumbered (names ++ x ∷ []) n
-numbered_push names x m n number next h next_is few number_is given same = record {
-  once = once_push names x new h.once;
-  few = rw (length_push names x) (omega (arith, few, next_is));
-  numbered = λ y.
-      given y
-      ∙ ap (λ v. cond (bytes_eq x y) (Some number) v) (h.numbered y)
-      ∙ ap (λ k. update bytes_eq (number_among names) x (Some k) y) last
-      ∙ sym (number_among-push names x y new);
+    (slices : List (Bor (List ℕ))) (x : Bor (List ℕ)) (rows : KeyRows (Bor (List ℕ)))
+    → IsOnce (bytes_of slices) → length slices < 2 ^ 32 → is_among (bytes_of slices) x.now ≡ false
+    → AreRows name_cmp (keys_of slices ++ Some x ∷ []) rows
+    → IsNumbered (slices ++ x ∷ []) rows
+numbered_push slices x rows once few new are_rows = record {
+  once = subst IsOnce (sym (map_push (λ slice. slice.now) slices x)) (once_push (bytes_of slices) x.now new once);
+  few = rw (length_push slices x) (omega (arith, few));
+  are_rows = subst (λ ks. AreRows name_cmp ks rows) (sym (map_push Some slices x)) are_rows;
 }
-  where
-    new : is_among names x ≡ false
-    new = grind (arith, next_is_new names x m number next h next_is number_is)
-
-    last : number ≡ length names
-    last = grind arith

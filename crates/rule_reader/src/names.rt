@@ -1,11 +1,10 @@
-ghost use Rattle.std.specs.Prelude.{◌≡◌, ℕ, List, [], ◌∷◌, ◌++◌, length, not, bytes_eq, if◌then◌else◌, Some, None, unwrap_or, IfOk, OnErr};
+ghost use Rattle.std.specs.Prelude.{◌≡◌, ℕ, List, [], ◌∷◌, ◌++◌, length, not, if◌then◌else◌, IfOk, OnErr};
 ghost use Rattle.document_forms.specs.Names.{is_among};
 ghost use Rattle.rule_reader.specs.Names.{number_among};
-ghost use Rattle.rule_reader.specs.private.NameTables.{at_name};
 ghost use Rattle.wpds_base.specs.Lists.{IsOnce};
 
+use key_rows::KeyRows;
 use std::alloc::Global;
-use std::collections::BTreeMap;
 use std::marker::Model;
 use wpds_base::{OutOfMemory, Sequence};
 use wpds_port::Text;
@@ -13,12 +12,13 @@ use wpds_port::Text;
 /// The names of one class, in the order in which they are declared. A name's number is its place,
 /// from 0.
 ///
-/// They are looked up in an ordered tree, so no choice of names makes a look-up slow; a hash with a
-/// fixed seed has no such bound.
+/// They are looked up by a hash whose chains are made anew where one grows long, so no choice of names makes
+/// a look-up slow.
 #[derive(Drop)]
 pub struct NameTable<'t> {
     order: Vec<&'t [u8]>,
-    numbers: BTreeMap<&'t [u8], u32>,
+    // Where each name stands.
+    rows: KeyRows<&'t [u8]>,
 }
 
 impl<'t> Model for NameTable<'t> {
@@ -29,7 +29,7 @@ impl<'t> Model for NameTable<'t> {
 
     ghost view = { λ t. bytes_of t.order.items };
 
-    ghost invariant = { λ t. IsNumbered (bytes_of t.order.items) t.numbers };
+    ghost invariant = { λ t. IsNumbered t.order.items t.rows };
 }
 
 impl<'t> NameTable<'t> {
@@ -39,7 +39,7 @@ impl<'t> NameTable<'t> {
     {
         NameTable {
             order: Vec::new(alloc),
-            numbers: BTreeMap::new(alloc),
+            rows: KeyRows::new(alloc),
         }
     }
 
@@ -61,26 +61,33 @@ impl<'t> NameTable<'t> {
     pub fn number_of(&self, name: &[u8]) -> Option<u32>
         ensures { result ≡ number_among self.now name.now }
     {
-        self.numbers.get(name).copied()
+        match self.rows.first(name) {
+            Some(number) => Some(number as u32),
+            None => None,
+        }
     }
 
     /// Adds a name, unless it is there, and returns whether it was added.
     ///
-    /// A table of 2^32 names answers out of memory. After that answer the table is as it was.
+    /// A table of 2^32 - 1 names answers out of memory where one more is to be added. After that answer the table
+    /// is as it was.
     pub fn add(&mut self, name: &'t [u8]) -> Result<bool, OutOfMemory>
         ensures added { IfOk result (λ added. added ≡ not (is_among self.old name.now)) }
         ensures names { IfOk result (λ added.
             self.new ≡ (if added then self.old ++ name.now ∷ [] else self.old)) }
         ensures err { OnErr result (self.new ≡ self.old) }
     {
-        let next = u32::try_from(self.order.len()).map_err(|_| OutOfMemory)?;
-        self.order.reserve(1)?;
-        // The names that are there have lower numbers.
-        let added = number_for(&mut self.numbers, name, next)? == next;
-        if added {
-            self.order.push(name)?;
+        if self.number_of(name).is_some() {
+            return Ok(false);
         }
-        Ok(added)
+        if self.order.len() >= u32::MAX as usize {
+            return Err(OutOfMemory);
+        }
+        self.order.reserve(1)?;
+        self.rows.reserve(Some(name), 1)?;
+        self.rows.push(Some(name));
+        self.order.push_reserved(name);
+        Ok(true)
     }
 
     /// The same names in a table of their own. The bytes are borrowed again.
@@ -104,20 +111,4 @@ impl<'t> NameTable<'t> {
         }
         Ok(Sequence::from_vec(names))
     }
-}
-
-// The number of a name: the one that it has, or else the next, which it has from then on.
-fn number_for<'t>(
-    numbers: &mut BTreeMap<&'t [u8], u32>,
-    name: &'t [u8],
-    next: u32,
-) -> Result<u32, OutOfMemory>
-    ensures number { IfOk result (λ number.
-        number ≡ unwrap_or (at_name numbers.old name.now) next) }
-    ensures numbers { IfOk result (λ number. (x : List ℕ) → at_name numbers.new x
-        ≡ (if bytes_eq name.now x then Some number else at_name numbers.old x)) }
-    ensures err { OnErr result ((x : List ℕ) → at_name numbers.new x ≡ at_name numbers.old x) }
-{
-    let number = numbers.entry(name)?.or_insert(next);
-    Ok(*number)
 }

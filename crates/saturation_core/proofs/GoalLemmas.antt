@@ -15,7 +15,7 @@ use Rattle.saturation_laws.specs.Jobs.{node_of}
 use Rattle.saturation_core.specs.declared.plan.Planned.{Planned}
 use Rattle.saturation_core.specs.private.Finding.{found_at}
 use Rattle.saturation_core.specs.private.Plans.{put_from, goal_of}
-use Rattle.saturation_core.proofs.NoteLemmas.{one_more}
+use Rattle.saturation_core.proofs.QueueFacts.{one_more}
 use Rattle.saturation_core.proofs.PutPlan.{next_and}
 
 pub of_found : (P : ℕ → Type 0) (o : Option ℕ) (k : ℕ) → o ≡ Some k → IfSome o P → P k

@@ -2,12 +2,16 @@
 use Rattle.std.proofs.Common.{◌≡◌, ℕ, suc, zero, ◌+◌, ◌-◌, ◌*◌, ◌/◌, ◌^◌, ◌<◌, ◌≤◌, List, [], ◌∷◌, length, get_or, drop, set, refl, sym, ap, ◌∙◌, arith}
 use Rattle.std.specs.Prelude.{Option, None, Some, is_some, cond, option_map, MatchOption, IfSome}
 use Rattle.std.proofs.lemmas.List.{at_drop_more, length-drop, length-set}
+use Rattle.std.proofs.lemmas.Option.{same_Some}
 use Rattle.std.proofs.Math.Nat.{pow-succ'}
 use Rattle.std.proofs.Math.Pow.{pow_mono}
 use Rattle.std.specs.Int.{bit_at}
 use Rattle.std.proofs.lemmas.Nat.Bits.{bit_at_lowest, bit_at-suc, bit_at-zero}
 use Rattle.weighted_automata.specs.declared.place.Place.{Place}
+use Rattle.weighted_automata.specs.declared.transitions.Entry.{Entry}
+use Rattle.saturation_laws.specs.declared.event.Event.{Event}
 use Rattle.saturation_laws.specs.declared.holding.Holding.{Holding}
+use Rattle.saturation_laws.specs.Books.{BookValue}
 use Rattle.saturation_laws.specs.States.{hand_at}
 use Rattle.saturation_core.specs.Seats.{hands_out, seat_bits}
 
@@ -98,6 +102,9 @@ module _ {S W Map : Type 0} where
   hand_of None x e = cc
   hand_of (Some h) x e = (h, refl)
 
+  pub place_read : (hs : List (Option (Holding S W Map))) (k : ℕ) (x : Place) → option_map (λ h. h.place) (hand_at k hs) ≡ Some x → (h : Holding S W Map) × (hand_at k hs ≡ Some h) × (h.place ≡ x)
+  place_read hs k x e = let h = hand_of (hand_at k hs) x e in (h.0, h.1, same_Some h.0.place x (sym (ap (option_map (λ (i : Holding S W Map). i.place)) h.1) ∙ e))
+
   -- one fewer, where a hand goes whose place was read
   pub hands_out-read : (hs : List (Option (Holding S W Map))) (k : ℕ) (x : Place) → option_map (λ h. h.place) (hand_at k hs) ≡ Some x → hands_out hs ≡ 1 + hands_out (set hs k None)
   hands_out-read hs k x e = let h = hand_of (hand_at k hs) x e in hands_out-freed hs k h.0 h.1
@@ -105,8 +112,12 @@ module _ {S W Map : Type 0} where
   pub seat_read : (hs : List (Option (Holding S W Map))) (k : ℕ) (x : Place) → option_map (λ h. h.place) (hand_at k hs) ≡ Some x → k < length hs
   seat_read hs k x e = let h = hand_of (hand_at k hs) x e in seat_within hs k h.0 h.1
 
+-- a book with these transitions, this queue, these hands and this journal
+abbrev pub moved : {S W Map D : Type 0} → BookValue S W Map D → List (Entry S W Map) → List Place → List (Option (Holding S W Map)) → List Event → BookValue S W Map D
+moved b ts queue hands journal = record b { state = record { transitions = ts; nodes = b.state.nodes; queue = queue; hands = hands }; journal = journal }
+
 -- a queue with a front: what is taken is that, and the rest is left
-pub popped : {X : Type 0} (o : Option X) (old new : List X) (x : X) (P : Type 0) → old ≡ x ∷ drop 1 old
-    → MatchOption o (old ≡ []) (λ y. old ≡ y ∷ new) → IfSome o (λ _. P) → (old ≡ x ∷ new) × P
-popped None old new x P front none p = let f : [] ≡ x ∷ drop 1 old = sym none ∙ front in cc
-popped (Some y) old new x P front is p = (front ∙ ap (λ zs. x ∷ drop 1 zs) is, p)
+pub popped : {X Y : Type 0} (f : Y → X) (o : Option Y) (old new : List X) (x : X) (P : Type 0) → old ≡ x ∷ drop 1 old
+    → MatchOption o (old ≡ []) (λ y. old ≡ f y ∷ new) → IfSome o (λ _. P) → (old ≡ x ∷ new) × P
+popped f None old new x P front none p = let g : [] ≡ x ∷ drop 1 old = sym none ∙ front in cc
+popped f (Some y) old new x P front is p = (front ∙ ap (λ zs. x ∷ drop 1 zs) is, p)

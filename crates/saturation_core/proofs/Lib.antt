@@ -1,6 +1,8 @@
 mod HandLemmas
 mod QueueFacts
-mod NoteLemmas
+mod NumberLemmas
+mod QueuedLemmas
+mod JournalLemmas
 mod RecordLemmas
 mod ChangeLemmas
 mod StartLemmas

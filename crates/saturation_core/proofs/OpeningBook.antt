@@ -30,7 +30,7 @@ module _ {S W Map : Type 0} where
 
   -- the edges, and then what the side adds, make the opening state
   pub filled : (s z : Operations W Map) (p : Pushdown S W Map) (edges es : List Place) (side named : Side) (bare edged popped : Found S W Map) (hands : List (Option (Holding S W Map)))
-      → z ≡ s → es ≡ edges → named ≡ side → bare.transitions.transitions ≡ [] → bare.graph.nodes ≡ Start ∷ [] → bare.waiting.items ≡ []
+      → z ≡ s → es ≡ edges → named ≡ side → bare.transitions.transitions ≡ [] → bare.graph.nodes ≡ Start ∷ [] → bare.transitions.queue ≡ []
       → Becomes bare (with_edges z es) edged → Becomes edged (apply_all s (pops side p.rules)) popped → hands ≡ replicate 64 None
       → with_hands popped hands ≡ opening_state s named p edges
   filled s z p edges es side named bare edged popped hands same these way none start none_q by_edges by_pops no_hands =
@@ -39,8 +39,8 @@ module _ {S W Map : Type 0} where
       ∙ ap (apply_all s (pops side p.rules)) (by_edges (replicate 64 None)
       ∙ ap (λ o. with_edges o es (with_hands bare (replicate 64 None))) same
       ∙ ap (λ xs. with_edges s xs (with_hands bare (replicate 64 None))) these
-      ∙ ap (λ ts. with_edges s edges (st ts bare.graph.nodes bare.waiting.items)) none
-      ∙ ap (λ ns. with_edges s edges (st [] ns bare.waiting.items)) start
+      ∙ ap (λ ts. with_edges s edges (st ts bare.graph.nodes bare.transitions.queue)) none
+      ∙ ap (λ ns. with_edges s edges (st [] ns bare.transitions.queue)) start
       ∙ ap (λ q. with_edges s edges (st [] (Start ∷ []) q)) none_q)
       ∙ ap (λ i. apply_all s (pops i p.rules) (with_edges s edges (st [] (Start ∷ []) []))) (sym way)
 

@@ -17,7 +17,7 @@ module _ {S W Map : Type 0} where
     pub nodes : AreNodesFrom (length now.graph.nodes) ls
     pub room : HasRoomFor ls now
     pub same_side : now.graph.side ≡ first.graph.side
-    pub count : first.waiting.spare + length ls ≤ now.waiting.spare + all
+    pub count : first.transitions.spare + length ls ≤ now.transitions.spare + all
 
   module _ (l : Planned S W Map) (ls : List (Planned S W Map)) (all : ℕ) (now first : Found S W Map) (is : IsUnderWay (l ∷ ls) all now first) where
     pub next_node : IsNodeAt (length now.graph.nodes) l.node
@@ -29,13 +29,17 @@ module _ {S W Map : Type 0} where
     pub next_spare : 0 < now.graph.spare
     next_spare = omega (arith, is.room.spare)
 
-    pub next_queue : 0 < now.waiting.spare
+    pub next_queue : 0 < now.transitions.spare
     next_queue = omega (arith, is.room.queue)
 
+    pub next_mark : 0 < now.transitions.marks
+    next_mark = omega (arith, is.room.marks)
+
     pub step_on : (new : Found S W Map) → ((x : Place) → IsTrue (has_place x now.transitions.room) → IsTrue (has_place x new.transitions.room)) → new.graph.nodes ≡ now.graph.nodes ++ l.node ∷ []
-        → now.graph.spare ≤ new.graph.spare + 1 → new.graph.side ≡ now.graph.side → now.waiting.spare ≤ new.waiting.spare + 1
+        → now.graph.spare ≤ new.graph.spare + 1 → new.graph.side ≡ now.graph.side → now.transitions.spare ≤ new.transitions.spare + 1
+        → now.transitions.marks ≤ new.transitions.marks + 1
         → IsUnderWay ls all new first
-    step_on new keeps added spare way more =
+    step_on new keeps added spare way more marks =
         let P : ℕ → Type 0 = λ k. AreNodesFrom k ls in
         let e : suc (length now.graph.nodes) ≡ length new.graph.nodes = omega (arith, ap length added, length_push now.graph.nodes l.node) in
         record {
@@ -44,6 +48,7 @@ module _ {S W Map : Type 0} where
             places = room_rest now.transitions.room new.transitions.room l ls is.room.places keeps;
             spare = omega (arith, is.room.spare, spare);
             queue = omega (arith, is.room.queue, more);
+            marks = omega (arith, is.room.marks, marks);
           };
           same_side = way ∙ is.same_side;
           count = omega (arith, is.count, more);

@@ -33,14 +33,14 @@ missing (x ∷ xs) (suc k) within e = let w : suc k < suc (length xs) = within i
 module _ {S W Map : Type 0} (s : Operations W Map) where
   pub edge_more : (es : List Place) (i : ℕ) (d : Place) (old new : Found S W Map) (w : W) (hands : List (Option (Holding S W Map))) (all : CoreState S W Map)
       → i < length es → with_edges s (drop i es) (with_hands old hands) ≡ all
-      → w ≡ s.one → new.transitions.transitions ≡ lowered (get_or es i d) w 0 old.transitions.transitions → new.graph.nodes ≡ old.graph.nodes → new.waiting.items ≡ queued (get_or es i d) old.waiting.items
+      → w ≡ s.one → new.transitions.transitions ≡ lowered (get_or es i d) w 0 old.transitions.transitions → new.graph.nodes ≡ old.graph.nodes → new.transitions.queue ≡ queued (get_or es i d) old.transitions.queue
       → with_edges s (drop (i + 1) es) (with_hands new hands) ≡ all
   edge_more es i d old new w hands all within was one found same last =
       let x = get_or es i d in
       let st : List (Entry S W Map) → List Node → List Place → CoreState S W Map = λ ts ns q. record { transitions = ts; nodes = ns; queue = q; hands = hands } in
       let ts = old.transitions.transitions in
-      ap (λ us. with_edges s (drop (i + 1) es) (st us new.graph.nodes new.waiting.items)) (found ∙ ap (λ v. lowered x v 0 ts) one)
-      ∙ ap (λ ns. with_edges s (drop (i + 1) es) (st (lowered x s.one 0 ts) ns new.waiting.items)) same
+      ap (λ us. with_edges s (drop (i + 1) es) (st us new.graph.nodes new.transitions.queue)) (found ∙ ap (λ v. lowered x v 0 ts) one)
+      ∙ ap (λ ns. with_edges s (drop (i + 1) es) (st (lowered x s.one 0 ts) ns new.transitions.queue)) same
       ∙ ap (λ q. with_edges s (drop (i + 1) es) (st (lowered x s.one 0 ts) old.graph.nodes q)) last
       ∙ sym (at_drop_more (λ xs. with_edges s xs (with_hands old hands)) es i d within) ∙ was
 

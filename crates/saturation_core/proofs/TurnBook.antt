@@ -9,13 +9,13 @@ use Rattle.weighted_automata.specs.declared.place.Place.{Place}
 use Rattle.saturation_laws.specs.declared.job.Job.{Job}
 use Rattle.saturation_laws.specs.declared.holding.Holding.{Holding}
 use Rattle.saturation_laws.specs.Jobs.{Tables}
-use Rattle.saturation_laws.specs.States.{CoreState, Change, hand_at, jobs_at, apply, change_of, apply_jobs, free, settle}
+use Rattle.saturation_laws.specs.States.{CoreState, Change, hand_at, jobs_at, apply, apply_all, change_of, apply_jobs, free, settle}
 use Rattle.saturation_laws.specs.declared.event.Event.{Event}
 use Rattle.saturation_laws.specs.declared.event.Event.TheVariants.{Take, Settle}
-use Rattle.saturation_laws.specs.Books.{BookValue, Makes, IsBook, CanWork}
+use Rattle.saturation_laws.specs.Books.{BookValue, Makes, IsBook}
 use Rattle.saturation_laws.specs.Ways.{Way, IsLawful}
 use Rattle.weighted_automata.specs.Entries.{entry_at}
-use Rattle.saturation_laws.proofs.CallerLemmas.{after, taken, taken_works, event_keeps}
+use Rattle.saturation_laws.proofs.CallerLemmas.{after, taken, event_keeps}
 use Rattle.saturation_core.specs.declared.found.Found.{Found}
 use Rattle.saturation_core.specs.Seats.{hands_out}
 use Rattle.saturation_core.specs.private.Plans.{changes_with}
@@ -23,13 +23,18 @@ use Rattle.saturation_core.specs.private.Steps.{IsFitChange, with_hands}
 use Rattle.saturation_core.proofs.PutPlan.{earlier_more}
 use Rattle.saturation_core.proofs.SettleBook.{changes_fit}
 
-module _ {S W Map : Type 0} (s : Operations W Map) (d : Tables S W Map) where
-  -- one job more
-  pub job_more : (js : List (Job S W Map)) (i : ℕ) (j : Job S W Map) (now new all : CoreState S W Map) → i < length js → j ≡ get_or js i j
-      → apply_jobs s d (drop i js) now ≡ all → new ≡ apply s (change_of s d j) now → apply_jobs s d (drop (i + 1) js) new ≡ all
-  job_more js i j now new all within read was made =
-      ap (apply_jobs s d (drop (i + 1) js)) (made ∙ ap (λ k. apply s (change_of s d k) now) read)
-      ∙ sym (at_drop_more (λ ks. apply_jobs s d ks now) js i j within) ∙ was
+module _ {S W Map : Type 0} (s : Operations W Map) where
+  -- one change more
+  pub change_more : (cs : List (Change W)) (i : ℕ) (c : Change W) (now new all : CoreState S W Map) → i < length cs → c ≡ get_or cs i c
+      → apply_all s (drop i cs) now ≡ all → new ≡ apply s c now → apply_all s (drop (i + 1) cs) new ≡ all
+  change_more cs i c now new all within read was made =
+      ap (apply_all s (drop (i + 1) cs)) (made ∙ ap (λ e. apply s e now) read)
+      ∙ sym (at_drop_more (λ es. apply_all s es now) cs i c within) ∙ was
+
+  -- the changes of jobs, one after another
+  pub apply_listed : (d : Tables S W Map) (js : List (Job S W Map)) (st : CoreState S W Map) → apply_all s (map (change_of s d) js) st ≡ apply_jobs s d js st
+  apply_listed d [] st = refl
+  apply_listed d (j ∷ js) st = apply_listed d js (apply s (change_of s d j) st)
 
 -- parts that are earlier nodes stay so
 pub fit_more : {W Map : Type 0} (s : Operations W Map) (m n : ℕ) (c : Change W) → m ≤ n → IsFitChange s m c → IsFitChange s n c
@@ -37,7 +42,7 @@ fit_more s m n c le fit = record { weight = fit.weight; first = earlier_more m n
 
 module _ {S W Map : Type 0} where
   all_changes : (s : Operations W Map) (d : Tables S W Map) (m : ℕ) (js : List (Job S W Map)) → AllByRecursion (IsFitChange s m) (changes_with js (map d.candidate js))
-      → AllByRecursion (λ j. IsFitChange s m (change_of s d j)) js
+      → AllByRecursion (IsFitChange s m) (map (change_of s d) js)
   all_changes s d m [] fit = tt
   all_changes s d m (j ∷ js) fit = (fit.0, all_changes s d m js fit.1)
 
@@ -89,14 +94,11 @@ module _ {S W Map D : Type 0} (operations : S → Operations W Map) (way : Way S
       pub book_meanwhile : IsBook operations way meanwhile
       book_meanwhile = event_keeps operations laws way direction b is (Take seat x) meanwhile took
 
-      -- the jobs can be worked out, and are changes that fit
-      pub jobs_work : CanWork operations way b js
-      jobs_work = taken_works operations laws way direction b is seat x queue hands_meanwhile (b.journal ++ Take seat x ∷ []) took within js js refl refl
-
-      pub jobs_change : All (λ j. IsFitChange (operations b.system.semiring) (length b.state.nodes) (change_of (operations b.system.semiring) (way.tables b.direction b.system) j)) js
+      -- what the jobs change fits
+      pub jobs_change : All (IsFitChange (operations b.system.semiring) (length b.state.nodes)) (map (change_of (operations b.system.semiring) (way.tables b.direction b.system)) js)
       jobs_change =
           let s = operations b.system.semiring in
           let d = way.tables b.direction b.system in
           let m = length b.state.nodes in
-          All-from_recursion (λ j. IsFitChange s m (change_of s d j)) js
+          All-from_recursion (IsFitChange s m) (map (change_of s d) js)
           (all_changes s d m js (changes_fit operations laws way direction meanwhile book_meanwhile seat hand_meanwhile hand_is js (λ j there. there)))

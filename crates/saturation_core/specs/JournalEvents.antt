@@ -1,7 +1,11 @@
--- Events in the order in which they came, and for how many more there is room.
+-- Events by the numbers of the transitions that are taken, in the order in which they came, and for how many more there is room.
 use Rattle.std.specs.Prelude.{ℕ, List}
-use Rattle.saturation_laws.specs.declared.event.Event.{Event}
+
+pub data NumberedEvent : Type 0 where
+  Take : (seat : ℕ) → (number : ℕ) → NumberedEvent
+  Settle : (seat : ℕ) → NumberedEvent
+  GiveBack : (seat : ℕ) → NumberedEvent
 
 pub record JournalEvents : Type 0 where
-  pub events : List Event
+  pub events : List NumberedEvent
   pub spare : ℕ

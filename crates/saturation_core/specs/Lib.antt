@@ -1,6 +1,6 @@
 pub mod Seats
 pub mod Calls
-pub mod WaitingPlaces
+pub mod QueuedList
 pub mod JournalEvents
 pub mod BookView
 pub mod DoneValue

@@ -2,6 +2,8 @@
 pub mod Plans
 pub mod Steps
 pub mod Finding
+pub mod Numbers
+pub mod Queued
 pub mod GoalRows
-pub mod Notes
 pub mod Records
+pub mod Written

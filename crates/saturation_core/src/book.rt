@@ -16,7 +16,7 @@ use crate::queue::list_jobs;
 use crate::same::{agree, lists, same_side};
 use crate::{Done, Hand, Lowered, SettleFault, Taken};
 use pushdown_rules::System;
-use saturation_laws::{Direction, Holding, Opening, SharedJobs};
+use saturation_laws::{Change, Direction, Holding, Opening, SharedJobs};
 use semiring_laws::Semiring;
 use std::alloc::Global;
 use std::marker::Model;
@@ -33,6 +33,8 @@ pub struct Book<'s, S: Semiring, D: Direction<S>> {
     found: Found<S>,
     out: Vec<Option<Holding<S>>>,
     journal: Journal,
+    // kept from one turn to the next for its memory alone
+    changes: Vec<Change<S>>,
 }
 
 impl<'s, S: Semiring, D: Direction<S>> Model for Book<'s, S, D> {
@@ -42,11 +44,13 @@ impl<'s, S: Semiring, D: Direction<S>> Model for Book<'s, S, D> {
     ghost Value = { BookValue S S.W S.Ret D };
 
     ghost use Rattle.saturation_core.specs.BookView.{book_view, HasRoom};
+    ghost use Rattle.saturation_core.specs.private.Written.{AreThere};
 
     ghost view = { book_view };
 
     ghost invariant = { λ b. IsBook S.operations D.way (book_view b) × HasRoom b
-        × (b.found.graph.side ≡ (D.way.tables b.direction b.system.now).side) };
+        × (b.found.graph.side ≡ (D.way.tables b.direction b.system.now).side)
+        × AreThere b.found.transitions.transitions b.journal.events };
 }
 
 impl<'s, S: Semiring, D: Direction<S>> Book<'s, S, D> {
@@ -79,6 +83,7 @@ impl<'s, S: Semiring, D: Direction<S>> Book<'s, S, D> {
             found,
             out: no_hands(alloc)?,
             journal: Journal::new(alloc),
+            changes: Vec::new(alloc),
         })
     }
 
@@ -108,7 +113,7 @@ impl<'s, S: Semiring, D: Direction<S>> Book<'s, S, D> {
     pub fn transitions(&self) -> &Transitions<S>
         ensures { result.now.transitions ≡ self.now.state.transitions }
     {
-        &self.found.transitions
+        self.found.transitions.list()
     }
 
     /// The runs that were found so far.
@@ -123,7 +128,7 @@ impl<'s, S: Semiring, D: Direction<S>> Book<'s, S, D> {
     pub fn is_closed(&self) -> bool
         ensures { IsTrue result ↔ IsClosed self.now }
     {
-        match self.found.waiting.front() {
+        match self.found.transitions.front() {
             None => none_out(&self.out),
             Some(_) => false,
         }
@@ -159,7 +164,7 @@ impl<'s, S: Semiring, D: Direction<S>> Book<'s, S, D> {
     {
         let at = seat as usize;
         if let Some(place) = place_out(&self.out, at) {
-            self.found.waiting.enqueue(place);
+            self.found.transitions.enqueue(place);
             self.journal.give_back(seat);
             put(&mut self.out, at, None);
         }
@@ -173,17 +178,18 @@ impl<'s, S: Semiring, D: Direction<S>> Book<'s, S, D> {
         ensures works { IfOk result (λ t. HandWorks S.operations D.way self.old t) }
         ensures err { OnErr result (self.new ≡ self.old) }
     {
-        match self.found.waiting.front() {
+        match self.found.transitions.front() {
             None if none_out(&self.out) => Ok(Taken::Closed),
             None => Ok(Taken::Idle(seats_out(&self.out))),
-            Some(place) => {
+            Some(next) => {
                 let (direction, system) = (&self.direction, self.system);
                 let transitions = &self.found.transitions;
-                let listed = list_jobs(alloc, direction, system, transitions, place)?;
+                let listed = list_jobs(alloc, direction, system, transitions, next)?;
                 let jobs = SharedJobs::new(alloc, listed)?;
                 let kept = jobs.share()?;
-                self.journal.take(seat, place)?;
-                self.found.waiting.pop();
+                let place = next.place;
+                self.journal.take(seat, next.number)?;
+                self.found.transitions.pop();
                 put(
                     &mut self.out,
                     seat as usize,
@@ -205,13 +211,14 @@ impl<'s, S: Semiring, D: Direction<S>> Book<'s, S, D> {
     {
         let mut book = self;
         let (system, direction) = (book.system, book.direction);
-        let Some(place) = book.found.waiting.pop() else {
+        let Some(next) = book.found.transitions.pop() else {
             unreachable!()
         };
-        book.journal.take(seat, place)?;
-        let jobs = list_jobs(alloc, &direction, system, &book.found.transitions, place)?;
+        book.journal.take(seat, next.number)?;
+        let mut changes = book.changes;
         book.found
-            .apply_jobs(alloc, &direction, system, jobs.as_slice())?;
+            .apply_place(alloc, &direction, system, next, &mut changes)?;
+        book.changes = changes;
         book.journal.settle(seat);
         Ok(book)
     }

@@ -1,25 +1,14 @@
-ghost use Rattle.std.specs.Prelude.{◌≡◌, ◌<◌, ℕ, IfOk, IfSome, OnOk, length, option_and_then, option_map, slice_get};
+ghost use Rattle.std.specs.Prelude.{◌≡◌, ◌<◌, ℕ, IfOk, IfSome, length, option_and_then, option_map, slice_get};
 ghost use Rattle.semiring_laws.specs.Semiring.{Fits};
 ghost use Rattle.weighted_automata.specs.Entries.{entry_at};
 ghost use Rattle.saturation_laws.specs.Jobs.{node_of};
-ghost use Rattle.saturation_laws.specs.Queues.{queued};
 ghost use Rattle.saturation_laws.specs.States.{weight_at, weight_of};
 ghost use Rattle.saturation_laws.specs.Openings.{AreKept, changed_weight};
 
-use crate::place_queue::PlaceQueue;
 use semiring_laws::Semiring;
 use std::alloc::Global;
 use weighted_automata::{Place, Transitions};
 use wpds_base::OutOfMemory;
-
-/// Puts a place last, unless it waits, and makes room for it.
-pub fn queue_up(waiting: &mut PlaceQueue, place: Place) -> Result<(), OutOfMemory>
-    ensures { OnOk result (waiting.new.items ≡ queued place waiting.old.items) }
-{
-    waiting.reserve(1)?;
-    waiting.enqueue(place);
-    Ok(())
-}
 
 /// The weight at a place, and zero where there is none.
 pub fn weight_now<S: Semiring>(
@@ -39,7 +28,7 @@ pub fn weight_now<S: Semiring>(
 }
 
 /// The node at a place.
-pub fn node_now<S: Semiring>(transitions: &Transitions<S>, place: Place) -> Option<u64>
+pub(crate) fn node_now<S: Semiring>(transitions: &Transitions<S>, place: Place) -> Option<u64>
     ensures { result ≡ option_map node_of (entry_at place transitions.now.transitions) }
 {
     match transitions.find(place) {
@@ -49,7 +38,7 @@ pub fn node_now<S: Semiring>(transitions: &Transitions<S>, place: Place) -> Opti
 }
 
 /// What a weight makes of the one that is there, where it changes it.
-pub fn weight_after<S: Semiring>(
+pub(crate) fn weight_after<S: Semiring>(
     alloc: Global,
     semiring: &S,
     old: &S::W,
@@ -59,15 +48,12 @@ pub fn weight_after<S: Semiring>(
     requires weight { Fits (S.operations semiring.now) weight.now }
     ensures { IfOk result (λ o. o ≡ changed_weight (S.operations semiring.now) old.now weight.now) }
 {
-    let sum = semiring.combine(alloc, old, weight)?;
-    if semiring.same(&sum, old) {
-        return Ok(None);
-    }
-    Ok(Some(sum))
+    semiring.lowered(alloc, old, weight)
 }
 
-/// What a weight makes of that of the transition with a number, and of zero where there is none, where it changes it.
-pub(crate) fn changed_at<S: Semiring>(
+/// What a weight makes of that of the transition with a number, as [`Transitions::find`] gives it, and of zero where there is
+/// none; `None` exactly where it changes nothing. The weight that is there is not copied. Refused only when out of memory.
+pub fn changed_at<S: Semiring>(
     alloc: Global,
     semiring: &S,
     transitions: &Transitions<S>,
@@ -90,8 +76,8 @@ pub(crate) fn changed_at<S: Semiring>(
     }
 }
 
-/// The node of the transition with a number.
-pub(crate) fn node_at<S: Semiring>(transitions: &Transitions<S>, at: Option<u64>) -> Option<u64>
+/// The node of the transition with a number, as [`Transitions::find`] gives it.
+pub fn node_at<S: Semiring>(transitions: &Transitions<S>, at: Option<u64>) -> Option<u64>
     requires { IfSome at (λ k. k < length transitions.now.transitions) }
     ensures { let found = option_and_then (slice_get transitions.now.transitions) at in
         result ≡ option_map node_of found }

@@ -1,37 +1,38 @@
-ghost use Rattle.std.specs.Prelude.{◌≡◌, ◌<◌, ◌≤◌, ◌+◌, ◌^◌, [], ◌∷◌, IfOk, OnOk, IsTrue, All, length};
+ghost use Rattle.std.specs.Prelude.{◌≡◌, ◌<◌, ◌≤◌, ◌+◌, ◌^◌, [], ◌∷◌, Some, IfOk, OnOk, IsTrue, All, length, map};
 ghost use Rattle.wpds_base.specs.Limits.{most_seats};
 ghost use Rattle.semiring_laws.specs.Semiring.{Fits};
 ghost use Rattle.weighted_automata.specs.declared.place.Place.{Place as PlaceValue};
 ghost use Rattle.weighted_automata.specs.Places.{has_place};
+ghost use Rattle.weighted_automata.specs.Entries.{index_at};
 ghost use Rattle.witness_graph.specs.declared.node.Node.TheVariants.{Start};
 ghost use Rattle.witness_graph.specs.Nodes.{IsNodeAt};
-ghost use Rattle.saturation_laws.specs.Jobs.{row_of, InputsFit};
 ghost use Rattle.saturation_laws.specs.States.{apply, apply_all, apply_jobs, change_of};
-ghost use Rattle.saturation_laws.specs.Ways.{AreRows, HaveFitInputs};
+ghost use Rattle.saturation_laws.specs.Ways.{HaveFitWeights, jobs_of_place};
+ghost use Rattle.saturation_laws.specs.declared.opening.Opening.{Opening};
 ghost use Rattle.saturation_laws.specs.Openings.{with_edges, pops_at, pops_from, pops};
 ghost use Rattle.saturation_core.specs.private.Plans.{put, put_all, AreNodesFrom};
 ghost use Rattle.saturation_core.specs.private.Steps.{Becomes, IsKept, HasRoomFor, IsFitChange, rule_change, change_by};
 
-use crate::change::{changed_at, node_at, queue_up};
-use crate::parts::{Parts, parts_of};
-use crate::place_queue::PlaceQueue;
+use crate::change::{changed_at, node_at};
+use crate::parts::Parts;
 use crate::plan::{Plan, Planned};
+use crate::queued::{NumberedPlace, QueuedTransitions};
+use crate::work::list_changes;
 use pushdown_rules::System;
-use saturation_laws::{Direction, Job};
+use saturation_laws::{Change, Direction};
 use semiring_laws::Semiring;
 use std::alloc::Global;
 use std::collections::VecDeque;
-use weighted_automata::{Label, Place, Transitions};
+use weighted_automata::{Label, Place};
 use witness_graph::{Graph, Node, Side};
 use wpds_base::OutOfMemory;
 
-/// What was found so far: the transitions, the nodes of their runs, and the places that wait, longest first. Where a call
-/// that adds to it is refused, it is left in an unspecified state.
+/// What was found so far: the transitions, which of them wait, and the nodes of their runs. Where a call that adds to it
+/// is refused, it is left in an unspecified state.
 #[derive(Drop)]
 pub(crate) struct Found<S: Semiring> {
-    pub(crate) transitions: Transitions<S>,
+    pub(crate) transitions: QueuedTransitions<S>,
     pub(crate) graph: Graph,
-    pub(crate) waiting: PlaceQueue,
 }
 
 impl<S: Semiring> Found<S> {
@@ -39,15 +40,14 @@ impl<S: Semiring> Found<S> {
     pub(crate) fn new(alloc: Global, side: Side) -> Result<Found<S>, OutOfMemory>
         ensures transitions { IfOk result (λ f. f.transitions.transitions ≡ []) }
         ensures nodes { IfOk result (λ f. f.graph.nodes ≡ Start ∷ []) }
-        ensures queue { IfOk result (λ f. f.waiting.items ≡ []) }
+        ensures queue { IfOk result (λ f. f.transitions.queue ≡ []) }
         ensures side { IfOk result (λ f. f.graph.side ≡ side) }
     {
         let mut graph = Graph::new(alloc, side);
         graph.push_node(alloc, Node::Start)?;
         Ok(Found {
-            transitions: Transitions::new(alloc),
+            transitions: QueuedTransitions::new(alloc),
             graph,
-            waiting: PlaceQueue::new(alloc),
         })
     }
 
@@ -67,8 +67,8 @@ impl<S: Semiring> Found<S> {
     {
         for edge in edges {
             let one = semiring.one(alloc)?;
-            self.transitions.lower(alloc, *edge, one, 0)?;
-            queue_up(&mut self.waiting, *edge)?;
+            let at = self.transitions.list().find(*edge);
+            self.transitions.lower(alloc, *edge, at, one, 0)?;
         }
         Ok(())
     }
@@ -171,69 +171,95 @@ impl<S: Semiring> Found<S> {
             (length self.old.graph.nodes ≤ length self.new.graph.nodes) }
         ensures side { self.new.graph.side ≡ self.old.graph.side }
     {
-        let at = self.transitions.find(place);
-        let Some(new) = changed_at(alloc, semiring, &self.transitions, at, weight)? else {
+        let transitions = self.transitions.list();
+        let at = transitions.find(place);
+        let Some(new) = changed_at(alloc, semiring, transitions, at, weight)? else {
             return Ok(());
         };
         let node = Node::Lower {
-            before: node_at(&self.transitions, at),
+            before: node_at(transitions, at),
             rule: parts.rule,
             first: parts.first,
             second: parts.second,
         };
         let number = self.graph.push_node(alloc, node)?;
-        self.transitions.lower(alloc, place, new, number)?;
-        queue_up(&mut self.waiting, place)?;
+        self.transitions.lower(alloc, place, at, new, number)?;
         Ok(())
     }
 
-    // Works out a job, and combines what it is worth into its goal.
-    fn apply_job<D: Direction<S>>(
+    // Combines a change of a list into its goal.
+    fn apply_listed(
         &mut self,
         alloc: Global,
-        direction: &D,
-        system: &System<S>,
-        job: &Job<S>,
+        semiring: &S,
+        change: &Change<S>,
     ) -> Result<(), OutOfMemory>
-        requires row { IsTrue ((D.way.tables direction.now system.now).rows (row_of job.now)) }
-        requires inputs { InputsFit (S.operations system.now.semiring) job.now }
-        requires kept { IsKept (S.operations system.now.semiring) self.old }
-        requires fit { let s = S.operations system.now.semiring in
-            IsFitChange s (length self.old.graph.nodes)
-            (change_of s (D.way.tables direction.now system.now) job.now) }
-        ensures state { let s = S.operations system.now.semiring in OnOk result (Becomes self.old
-            (apply s (change_of s (D.way.tables direction.now system.now) job.now)) self.new) }
-        ensures kept { OnOk result (IsKept (S.operations system.now.semiring) self.new) }
+        requires kept { IsKept (S.operations semiring.now) self.old }
+        requires fit { IsFitChange (S.operations semiring.now) (length self.old.graph.nodes)
+            change.now }
+        ensures state { OnOk result
+            (Becomes self.old (apply (S.operations semiring.now) change.now) self.new) }
+        ensures kept { OnOk result (IsKept (S.operations semiring.now) self.new) }
         ensures nodes { OnOk result
             (length self.old.graph.nodes ≤ length self.new.graph.nodes) }
         ensures side { self.new.graph.side ≡ self.old.graph.side }
     {
-        let weight = direction.candidate(alloc, system, job)?;
-        let parts = parts_of(job);
-        self.apply_change(alloc, system.semiring(), job.goal, &weight, parts)
+        let parts = Parts {
+            rule: change.rule,
+            first: change.first,
+            second: change.second,
+        };
+        self.apply_change(alloc, semiring, change.goal, &change.weight, parts)
     }
 
-    /// Works out jobs, and combines what they are worth into their goals, one after another.
-    pub(crate) fn apply_jobs<D: Direction<S>>(
+    // Combines changes into their goals, one after another.
+    fn apply_changes(
+        &mut self,
+        alloc: Global,
+        semiring: &S,
+        changes: &[Change<S>],
+    ) -> Result<(), OutOfMemory>
+        requires kept { IsKept (S.operations semiring.now) self.old }
+        requires fit { All (IsFitChange (S.operations semiring.now)
+            (length self.old.graph.nodes)) changes.now }
+        ensures state { OnOk result
+            (Becomes self.old (apply_all (S.operations semiring.now) changes.now) self.new) }
+        ensures side { self.new.graph.side ≡ self.old.graph.side }
+    {
+        for change in changes {
+            self.apply_listed(alloc, semiring, change)?;
+        }
+        Ok(())
+    }
+
+    /// Combines what the transition at a place gives into the goals. The buffer is emptied first: only its memory counts.
+    pub(crate) fn apply_place<D: Direction<S>>(
         &mut self,
         alloc: Global,
         direction: &D,
         system: &System<S>,
-        jobs: &[Job<S>],
+        taken: NumberedPlace,
+        buffer: &mut Vec<Change<S>>,
     ) -> Result<(), OutOfMemory>
-        requires rows { AreRows D.way direction.now system.now jobs.now }
-        requires inputs { HaveFitInputs S.operations system.now jobs.now }
+        requires fits { (o : Opening) × IsTrue (D.way.fits_opening direction.now system.now o) }
+        requires weights { HaveFitWeights S.operations system.now self.old.transitions.transitions }
+        requires at { index_at taken.place self.old.transitions.transitions ≡ Some taken.number }
         requires kept { IsKept (S.operations system.now.semiring) self.old }
         requires fit { let s = S.operations system.now.semiring in
-            All (λ j. IsFitChange s (length self.old.graph.nodes)
-            (change_of s (D.way.tables direction.now system.now) j)) jobs.now }
-        ensures state { let s = S.operations system.now.semiring in OnOk result (Becomes self.old
-            (apply_jobs s (D.way.tables direction.now system.now) jobs.now) self.new) }
+            let d = D.way.tables direction.now system.now in
+            let ts = self.old.transitions.transitions in
+            let jobs = jobs_of_place S.operations D.way direction.now system.now taken.place ts in
+            All (IsFitChange s (length self.old.graph.nodes)) (map (change_of s d) jobs) }
+        ensures state { let s = S.operations system.now.semiring in
+            let d = D.way.tables direction.now system.now in
+            let ts = self.old.transitions.transitions in
+            let jobs = jobs_of_place S.operations D.way direction.now system.now taken.place ts in
+            OnOk result (Becomes self.old (apply_jobs s d jobs) self.new) }
         ensures side { self.new.graph.side ≡ self.old.graph.side }
     {
-        for job in jobs {
-            self.apply_job(alloc, direction, system, job)?;
-        }
+        buffer.clear();
+        list_changes(alloc, direction, system, &self.transitions, taken, buffer)?;
+        self.apply_changes(alloc, system.semiring(), buffer.as_slice())?;
         Ok(())
     }
 
@@ -241,15 +267,14 @@ impl<S: Semiring> Found<S> {
     pub(crate) fn make_room(&mut self, alloc: Global, plan: &Plan<S>) -> Result<(), OutOfMemory>
         ensures state { Becomes self.old (λ st. st) self.new }
         ensures side { self.new.graph.side ≡ self.old.graph.side }
-        ensures kept { self.old.waiting.spare ≤ self.new.waiting.spare }
+        ensures kept { self.old.transitions.spare ≤ self.new.transitions.spare }
         ensures room { OnOk result (HasRoomFor plan.now self.new) }
-        ensures queue { OnOk result (length plan.now + most_seats ≤ self.new.waiting.spare) }
+        ensures queue { OnOk result (length plan.now + most_seats ≤ self.new.transitions.spare) }
     {
         let places = plan.goals(alloc)?;
         let count = plan.len();
-        self.transitions.reserve(alloc, &places)?;
+        self.transitions.reserve(alloc, &places, count)?;
         self.graph.reserve(alloc, count as u64)?;
-        self.waiting.reserve(count + 64)?;
         Ok(())
     }
 
@@ -259,7 +284,7 @@ impl<S: Semiring> Found<S> {
         requires room { HasRoomFor plan self.old }
         ensures state { Becomes self.old (put_all plan) self.new }
         ensures side { self.new.graph.side ≡ self.old.graph.side }
-        ensures queue { self.old.waiting.spare ≤ self.new.waiting.spare + length plan }
+        ensures queue { self.old.transitions.spare ≤ self.new.transitions.spare + length plan }
     {
         let mut rest = VecDeque::from(plan.into_steps());
         'steps: while let Some(step) = rest.pop_front() {
@@ -272,18 +297,18 @@ impl<S: Semiring> Found<S> {
         requires node { IsNodeAt (length self.old.graph.nodes) step.node }
         requires place { IsTrue (has_place step.goal self.old.transitions.room) }
         requires spare { 0 < self.old.graph.spare }
-        requires queue { 0 < self.old.waiting.spare }
+        requires queue { 0 < self.old.transitions.spare }
+        requires marks { 0 < self.old.transitions.marks }
         ensures state { Becomes self.old (put step) self.new }
         ensures room { (x : PlaceValue) → IsTrue (has_place x self.old.transitions.room)
             → IsTrue (has_place x self.new.transitions.room) }
         ensures spare { self.old.graph.spare ≤ self.new.graph.spare + 1 }
         ensures side { self.new.graph.side ≡ self.old.graph.side }
-        ensures queue { self.old.waiting.spare ≤ self.new.waiting.spare + 1 }
+        ensures queue { self.old.transitions.spare ≤ self.new.transitions.spare + 1 }
+        ensures marks { self.old.transitions.marks ≤ self.new.transitions.marks + 1 }
     {
         let number = self.graph.push_node(alloc, step.node).unwrap();
         self.transitions
-            .lower(alloc, step.goal, step.weight, number)
-            .unwrap();
-        self.waiting.enqueue(step.goal);
+            .lower_reserved(alloc, step.goal, step.weight, number);
     }
 }

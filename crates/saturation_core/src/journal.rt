@@ -1,15 +1,14 @@
 ghost use Rattle.std.specs.Prelude.{◌≡◌, ◌<◌, ◌≤◌, ◌+◌, ◌++◌, ◌∷◌, [], OnOk, OnErr, length};
 ghost use Rattle.wpds_base.specs.Limits.{most_seats};
-ghost use Rattle.saturation_laws.specs.declared.event.Event.TheVariants.{Take, Settle, GiveBack};
-ghost use Rattle.saturation_laws.specs.Bound.{takes, takes_of};
+ghost use Rattle.saturation_core.specs.JournalEvents.{Take, Settle, GiveBack};
 ghost use Rattle.saturation_core.specs.private.Records.{is_taken_by, taken_by};
+ghost use Rattle.saturation_core.specs.private.Written.{takes_in, takes_in_of};
 
 use std::alloc::Global;
 use std::marker::Model;
-use weighted_automata::Place;
 use wpds_base::OutOfMemory;
 
-/// An event without its place, by one of 64 seats.
+/// An event without its transition, by one of 64 seats.
 #[derive(Clone, Copy, Debug)]
 pub(crate) enum Mark {
     Take { seat: u8 },
@@ -17,13 +16,13 @@ pub(crate) enum Mark {
     GiveBack { seat: u8 },
 }
 
-/// The events of a book, in order. The places of takes stand apart, so that an event is a mark of two bytes, and a take
-/// has a place besides.
+/// The events of a book, in order. The transitions that are taken stand apart, by number, so that an event is a mark of
+/// two bytes, and a take has four bytes besides.
 #[derive(Drop)]
 pub struct Journal {
     marks: Vec<Mark>,
     // Those of the takes, in order.
-    places: Vec<Place>,
+    numbers: Vec<u32>,
 }
 
 impl Model for Journal {
@@ -34,11 +33,11 @@ impl Model for Journal {
     ghost Value = { JournalEvents };
 
     ghost view = { λ j. record {
-      events = events_of j.marks.items j.places.items;
+      events = events_of j.marks.items j.numbers.items;
       spare = vec_capacity j.marks - vec_len j.marks;
     } };
 
-    ghost invariant = { λ j. taken j.marks.items ≡ length j.places.items };
+    ghost invariant = { λ j. taken j.marks.items ≡ length j.numbers.items };
 }
 
 // Whether the mark is a take of this seat.
@@ -72,20 +71,20 @@ impl Journal {
     {
         Journal {
             marks: Vec::new(alloc),
-            places: Vec::new(alloc),
+            numbers: Vec::new(alloc),
         }
     }
 
-    /// Writes down that a seat takes the transition at a place, and makes room for one more event of each seat.
-    pub(crate) fn take(&mut self, seat: u32, place: Place) -> Result<(), OutOfMemory>
+    /// Writes down that a seat takes the transition with a number, and makes room for one more event of each seat.
+    pub(crate) fn take(&mut self, seat: u32, number: u32) -> Result<(), OutOfMemory>
         requires { seat < most_seats }
-        ensures ok { OnOk result (self.new.events ≡ self.old.events ++ Take seat place ∷ []) }
+        ensures ok { OnOk result (self.new.events ≡ self.old.events ++ Take seat number ∷ []) }
         ensures room { OnOk result (most_seats ≤ self.new.spare) }
         ensures err { OnErr result (self.new.events ≡ self.old.events) }
         ensures kept { OnErr result (self.old.spare ≤ self.new.spare) }
     {
         self.marks.reserve(65)?;
-        self.places.push(place)?;
+        self.numbers.push(number)?;
         self.marks.push_reserved(Mark::Take { seat: seat as u8 });
         Ok(())
     }
@@ -113,14 +112,14 @@ impl Journal {
 
     /// How many of the events are takes.
     pub(crate) fn takes(&self) -> u128
-        ensures { result ≡ takes self.now.events }
+        ensures { result ≡ takes_in self.now.events }
     {
-        self.places.len() as u128
+        self.numbers.len() as u128
     }
 
     /// How many of the events are takes of this seat.
     pub(crate) fn takes_of(&self, seat: u32) -> u128
-        ensures { result ≡ takes_of seat self.now.events }
+        ensures { result ≡ takes_in_of seat self.now.events }
     {
         count_takes_of(&self.marks, seat)
     }

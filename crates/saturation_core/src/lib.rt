@@ -4,23 +4,22 @@
 
 mod book;
 mod change;
-mod copies;
 mod found;
 mod hand;
 mod hands;
 mod journal;
 mod laws;
+mod number_queue;
 mod parts;
-mod place_queue;
 mod plan;
 mod queue;
+mod queued;
 mod same;
 mod work;
 
 pub use book::Book;
-pub use change::{node_now, queue_up, weight_after, weight_now};
-pub use copies::copy_input;
+pub use change::{changed_at, node_at, weight_now};
 pub use hand::{Done, Hand, Lowered, SeatSet, SettleFault, Taken, WeightList, WorkFault};
 pub use journal::Journal;
 pub use laws::bits_are_seats;
-pub use place_queue::PlaceQueue;
+pub use queued::{NumberedPlace, QueuedTransitions};

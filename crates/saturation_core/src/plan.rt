@@ -12,7 +12,6 @@ ghost use Rattle.saturation_core.specs.private.Finding.{found_at};
 
 use crate::change::{node_now, weight_after, weight_now};
 use crate::found::Found;
-use crate::parts::{first_node, input_node, named_rule};
 use key_rows::KeyRows;
 use saturation_laws::Job;
 use semiring_laws::Semiring;
@@ -191,11 +190,12 @@ fn lowering<S: Semiring>(
     let Some(weight) = weight_after(alloc, semiring, &old, worth)? else {
         return Ok(None);
     };
+    let view = job.view();
     let node = Node::Lower {
         before: node_in(transitions, nodes, plan, goal),
-        rule: named_rule(job),
-        first: first_node(job),
-        second: input_node(&job.second),
+        rule: view.named_rule(),
+        first: view.first_node(),
+        second: view.second_node(),
     };
     Ok(Some(Planned { goal, weight, node }))
 }
@@ -215,7 +215,7 @@ pub(crate) fn plan_jobs<S: Semiring>(
         (changes_with jobs.now worths.now) (length found.now.graph.nodes)
         found.now.transitions.transitions) }
 {
-    let transitions = &found.transitions;
+    let transitions = found.transitions.list();
     let nodes = found.graph.len();
     let mut plan = Plan::new(alloc);
     for i in 0..jobs.len() {

@@ -20,7 +20,7 @@ use Rattle.saturation_laws.specs.Invariants.{LockInvariant}
 use Rattle.saturation_laws.proofs.ValueLemmas.{worth_fits}
 use Rattle.saturation_laws.proofs.ListMembers.{in_present}
 
-all_of : {X : Type 0} (P : X → Type 0) (xs : List X) → ((x : X) → IsIn x xs → P x) → AllByRecursion P xs
+pub all_of : {X : Type 0} (P : X → Type 0) (xs : List X) → ((x : X) → IsIn x xs → P x) → AllByRecursion P xs
 all_of P [] each = tt
 all_of P (x ∷ xs) each = (each x (inl refl), all_of P xs (λ y h. each y (inr h)))
 

@@ -8,6 +8,7 @@ mod OpeningState
 mod OpeningLemmas
 mod OpeningWeights
 mod HandJobs
+mod ListedJobs
 mod CombinationLemmas
 mod ListMembers
 mod ReplayLemmas

@@ -1,6 +1,7 @@
 pub mod Jobs
 pub mod Queues
 pub mod States
+pub mod Views
 pub mod Directions
 pub mod Invariants
 pub mod Bound

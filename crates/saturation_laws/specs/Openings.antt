@@ -1,7 +1,8 @@
 -- The state that a saturation begins with.
-use Rattle.std.specs.Prelude.{ℕ, suc, ◌<◌, List, [], ◌∷◌, ◌++◌, Option, None, Some, replicate, slice_get, if◌then◌else◌}
+use Rattle.std.specs.Prelude.{ℕ, suc, ◌<◌, List, [], ◌∷◌, ◌++◌, Option, None, Some, replicate, slice_get}
 use Rattle.wpds_base.specs.Limits.{most_seats}
 use Rattle.semiring_laws.specs.Semiring.{Operations, Fits}
+use Rattle.semiring_laws.specs.Lowering.{lowered_weight}
 use Rattle.weighted_automata.specs.declared.place.Place.{Place}
 use Rattle.weighted_automata.specs.declared.place.Label.TheVariants.{Symbol}
 use Rattle.weighted_automata.specs.Entries.{lowered, Present}
@@ -60,7 +61,7 @@ module _ {S W Map : Type 0} (s : Operations W Map) where
 
 -- what a weight makes of the one that is there, where it changes it
 abbrev pub changed_weight : {W Map : Type 0} → Operations W Map → W → W → Option W
-changed_weight s old weight = if s.same (s.combine old weight) old then None else Some (s.combine old weight)
+changed_weight s old weight = lowered_weight s old weight
 
 -- a state while it is opened, when no hand is out
 abbrev pub found_so_far : {S W Map : Type 0} → List (Entry S W Map) → List Node → List Place → CoreState S W Map

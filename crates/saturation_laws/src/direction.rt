@@ -1,11 +1,12 @@
-ghost use Rattle.std.specs.Prelude.{◌≡◌, ◌<◌, ◌↔◌, length, slice_get, IsTrue, IfOk};
+ghost use Rattle.std.specs.Prelude.{◌≡◌, ◌<◌, ◌++◌, ◌↔◌, length, map, slice_get, IsTrue, IfOk, OnOk};
 ghost use Rattle.weighted_automata.specs.declared.transitions.Entry.{Entry};
 ghost use Rattle.pushdown_rules.specs.Pushdown.{Pushdown};
 ghost use Rattle.saturation_laws.specs.declared.opening.Opening.{Opening};
 ghost use Rattle.saturation_laws.specs.Jobs.{row_of, InputsFit};
+ghost use Rattle.saturation_laws.specs.States.{change_of};
 ghost use Rattle.saturation_laws.specs.Ways.{Way, HaveFitWeights, IsLawful, IsSummable, HasOneCandidate, ListsJobsOnce};
 
-use crate::{Job, JobList};
+use crate::{Change, Job, JobList};
 use pushdown_rules::System;
 use semiring_laws::Semiring;
 use std::alloc::Global;
@@ -48,6 +49,37 @@ pub trait Direction<S: Semiring>: Copy {
         requires row { IsTrue (((way).tables self.now system.now).rows (row_of job.now)) }
         requires inputs { InputsFit (S.operations system.now.semiring) job.now }
         ensures { IfOk result (λ w. w ≡ ((way).tables self.now system.now).candidate job.now) };
+
+    /// What the transition's jobs change, in their order, behind what is there. A direction may work it out from where the
+    /// inputs stand, without copies of them.
+    fn changes(
+        &self,
+        alloc: Global,
+        system: &System<S>,
+        transitions: &Transitions<S>,
+        taken: u64,
+        into: &mut Vec<Change<S>>,
+    ) -> Result<(), OutOfMemory>
+        requires fits { (o : Opening) × IsTrue ((way).fits_opening self.now system.now o) }
+        requires taken { taken < length transitions.now.transitions }
+        requires fit { HaveFitWeights S.operations system.now transitions.now.transitions }
+        ensures { (t : Entry S S.W S.Ret) → slice_get transitions.now.transitions taken ≡ Some t →
+            let ts = transitions.now.transitions in
+            let d = (way).tables self.now system.now in
+            let more = map (change_of (S.operations system.now.semiring) d) (d.jobs ts t) in
+            OnOk result (into.new.items ≡ into.old.items ++ more) }
+    {
+        // the rules are of the semiring, and the transitions' places are distinct
+        let _semiring = system.semiring();
+        let _count = transitions.len();
+        let _taken = transitions.entry(taken);
+        let jobs = self.jobs(alloc, system, transitions, taken)?;
+        for job in jobs.as_slice() {
+            let weight = self.candidate(alloc, system, job)?;
+            into.push(job.view().change(weight))?;
+        }
+        Ok(())
+    }
 
     /// Whether two directions are one.
     fn same_way(&self, other: &Self) -> bool

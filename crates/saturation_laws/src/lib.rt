@@ -2,13 +2,16 @@
 //! give or give them back, the same holds of what was found. The book that keeps it is `saturation_core`.
 #![tactic(auto)]
 
+mod change;
 mod direction;
 mod event;
 mod holding;
 mod job;
 mod laws;
 mod opening;
+mod view;
 
+pub use change::Change;
 pub use direction::Direction;
 pub use event::Event;
 pub use holding::{Holding, SharedJobs};
@@ -18,3 +21,4 @@ pub use laws::{
     parts_replay_in_steps, takes_are_bounded,
 };
 pub use opening::{Opening, PlaceList, StateList};
+pub use view::JobView;

@@ -1,4 +1,6 @@
 pub mod Semiring
+pub mod Lowering
+pub mod LoweringLaws
 pub mod Reach
 pub mod ReachLaws
 pub mod Combination

@@ -1,5 +1,6 @@
 ghost use Rattle.std.specs.Prelude.{◌≡◌, ◌↔◌, IsTrue, IfOk};
 ghost use Rattle.semiring_laws.specs.Semiring.{Operations, Fits, FitsMap, IsSemiring};
+ghost use Rattle.semiring_laws.specs.Lowering.{lowered_weight};
 
 use std::alloc::Global;
 use wpds_base::OutOfMemory;
@@ -37,6 +38,25 @@ pub trait Semiring: Drop {
         requires left { Fits (operations self.now) a.now }
         requires right { Fits (operations self.now) b.now }
         ensures { IfOk result (λ w. w ≡ (operations self.now).extend a.now b.now) };
+
+    /// What a weight makes of the one that is there, and `None` where it changes nothing. A semiring that sees from
+    /// the two that nothing changes makes no weight to tell it.
+    fn lowered(
+        &self,
+        alloc: Global,
+        old: &Self::W,
+        weight: &Self::W,
+    ) -> Result<Option<Self::W>, OutOfMemory>
+        requires old { Fits (operations self.now) old.now }
+        requires weight { Fits (operations self.now) weight.now }
+        ensures { IfOk result (λ o. o ≡ lowered_weight (operations self.now) old.now weight.now) }
+    {
+        let sum = self.combine(alloc, old, weight)?;
+        if self.same(&sum, old) {
+            return Ok(None);
+        }
+        Ok(Some(sum))
+    }
 
     /// An equal weight.
     fn copy(&self, alloc: Global, a: &Self::W) -> Result<Self::W, OutOfMemory>

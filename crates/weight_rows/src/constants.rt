@@ -254,6 +254,31 @@ fn zero_and_one(rt: HostRuntime) -> Result<(), Fail> {
     Ok(())
 }
 
+// The forms of what a weight makes of another, and `None` where it changes nothing.
+fn lowered(
+    alloc: Global,
+    copies: &CopyConst,
+    old: (Form, Form),
+    weight: (Form, Form),
+) -> Result<Option<CopyW>, OutOfMemory> {
+    let (old, weight) = (pair(alloc, copies, old)?, pair(alloc, copies, weight)?);
+    copies.lowered(alloc, &old, &weight)
+}
+
+#[test]
+fn what_is_lowered(rt: HostRuntime) -> Result<(), Fail> {
+    let alloc = rt.alloc();
+    let copies = CopyConst::new(2);
+    let (old, weight) = ((number(7), Form::Varying), (UNDEFINED, X));
+    assert!(rt; lowered(alloc, &copies, old, old)?.is_none());
+    assert!(rt; lowered(alloc, &copies, old, weight)?.is_none());
+    let made = lowered(alloc, &copies, weight, old)?;
+    assert!(rt; made.is_some_and(|w| forms(&w) == [number(7), Form::Varying].as_slice()));
+    let made = lowered(alloc, &copies, old, (X, Y))?;
+    assert!(rt; made.is_some_and(|w| forms(&w) == [number_or(7, 1), Form::Varying].as_slice()));
+    Ok(())
+}
+
 // The form of x where one branch makes it `a` and the other `b`.
 fn joined(alloc: Global, a: Form, b: Form) -> Result<Form, OutOfMemory> {
     let copies = CopyConst::new(2);

@@ -16,6 +16,7 @@ struct Answered<W> {
     combined: W,
     extended: W,
     returned: W,
+    lowered: Option<W>,
     same: bool,
     is_zero: bool,
 }
@@ -34,6 +35,7 @@ fn answers_for<S: Semiring>(
         combined: semiring.combine(alloc, &a, b)?,
         extended: semiring.extend(alloc, &a, b)?,
         returned: semiring.after(alloc, &semiring.plain(), &a)?,
+        lowered: semiring.lowered(alloc, &a, b)?,
         same: semiring.same(&a, b),
         is_zero: semiring.is_zero(&a),
     })
@@ -64,6 +66,7 @@ fn reachability(rt: HostRuntime) -> Result<(), Fail> {
             combined,
             extended,
             returned: a,
+            lowered: if combined == a { None } else { Some(combined) },
             same: a == b,
             is_zero: !a,
         };

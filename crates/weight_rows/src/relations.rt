@@ -266,6 +266,51 @@ fn operations_in_the_other_order(rt: HostRuntime) -> Result<(), Fail> {
     check_pairs(&rt, alloc, &answers.extended, " 03 03 03 03 47 47 47 47")
 }
 
+// Whether what a weight makes of another is their combine, and `None` where it changes nothing.
+fn lowered_to_both<S: Semiring>(
+    semiring: &S,
+    alloc: Global,
+    old: &S::W,
+    weight: &S::W,
+) -> Result<Option<bool>, OutOfMemory>
+    requires old { Fits (S.operations semiring.now) old.now }
+    requires weight { Fits (S.operations semiring.now) weight.now }
+{
+    let both = semiring.combine(alloc, old, weight)?;
+    match semiring.lowered(alloc, old, weight)? {
+        Some(lowered) => Ok(Some(semiring.same(&lowered, &both))),
+        None => Ok(None),
+    }
+}
+
+// No run; the identity; x := y; y := *, which has the identity.
+#[test]
+fn what_is_lowered(rt: HostRuntime) -> Result<(), Fail> {
+    let alloc = rt.alloc();
+    let relations = Relations::new(3);
+    let never = relations.assume(alloc, &Expr::Const(false))?;
+    let same = relations.choose(alloc, &[])?;
+    let copied = relations.assign(alloc, &[(0, Value::of(variable(1)))])?;
+    let freed = relations.choose(alloc, &[1])?;
+    assert_eq!(rt; lowered_to_both(&relations, alloc, &never, &never)?, None);
+    assert_eq!(rt; lowered_to_both(&relations, alloc, &copied, &never)?, None);
+    assert_eq!(rt; lowered_to_both(&relations, alloc, &copied, &copied)?, None);
+    assert_eq!(rt; lowered_to_both(&relations, alloc, &freed, &same)?, None);
+    assert_eq!(rt;
+        lowered_to_both(&relations, alloc, &never, &same)?,
+        Some(true)
+    );
+    assert_eq!(rt;
+        lowered_to_both(&relations, alloc, &same, &freed)?,
+        Some(true)
+    );
+    assert_eq!(rt;
+        lowered_to_both(&relations, alloc, &copied, &freed)?,
+        Some(true)
+    );
+    Ok(())
+}
+
 // A call that inverts x and sets z.
 fn inverted_and_set(alloc: Global, relations: &Relations) -> Result<Relation, OutOfMemory>
     requires { relations.now ≡ 3 }

@@ -1,8 +1,8 @@
 -- What a list of transitions has at a place.
-use Rattle.std.proofs.Common.{◌++◌, set, zero, suc, ◌≡◌, ℕ, ◌+◌, true, false, List, [], ◌∷◌, length, refl, sym, ap, ◌∙◌, subst, inl, inr, arith}
+use Rattle.std.proofs.Common.{◌++◌, set, zero, suc, ◌≡◌, ℕ, ◌+◌, ◌<◌, true, false, List, [], ◌∷◌, length, get_or, refl, sym, ap, ◌∙◌, subst, inl, inr, arith}
 use Rattle.std.specs.Prelude.{Option, None, Some, cond, option_map, option_and_then, unwrap_or, slice_get}
 use Rattle.std.proofs.lemmas.Bool.{cond-true, cond-false, cond_both, cases_Bool}
-use Rattle.std.proofs.lemmas.Option.{same_Some}
+use Rattle.std.proofs.lemmas.Option.{same_Some, get_or_from_slice_get, slice_get_read}
 use Rattle.weighted_automata.specs.declared.place.Place.{Place}
 use Rattle.weighted_automata.specs.declared.transitions.Entry.{Entry}
 use Rattle.weighted_automata.specs.Places.{same_place}
@@ -148,7 +148,7 @@ places-added (u ∷ ts) t = ap (λ ys. u.place ∷ ys) (places-added ts t)
 
 -- Where no place stands twice, what stands at a place is the transition there.
 module _ {S W Map : Type 0} where
-  get_at_place : (ts : List (Entry S W Map)) → HasDistinctPlaces ts → (i : ℕ) (t : Entry S W Map) → slice_get ts i ≡ Some t → index_at t.place ts ≡ Some i
+  pub get_at_place : (ts : List (Entry S W Map)) → HasDistinctPlaces ts → (i : ℕ) (t : Entry S W Map) → slice_get ts i ≡ Some t → index_at t.place ts ≡ Some i
   get_at_place [] d i t e = cc
   get_at_place (u ∷ ts) d zero t e =
       cond-true (same_place u.place t.place) (Some 0) (option_map (λ k. k + 1) (index_at t.place ts)) (ap (λ (v : Entry S W Map). same_place u.place v.place) (sym (same_Some u t e)) ∙ same_place_itself u.place)
@@ -170,3 +170,21 @@ module _ {S W Map : Type 0} where
       → slice_get ts i ≡ Some t → slice_get ts j ≡ Some u → t.place ≡ u.place → i ≡ j
   stands_once ts d i j t u at_i at_j same =
       same_Some i j (sym (get_at_place ts d i t at_i) ∙ ap (λ p. index_at p ts) same ∙ get_at_place ts d j u at_j)
+
+-- To write a weight and a node where a transition stands is to lower its place.
+module _ {S W Map : Type 0} (ts us : List (Entry S W Map)) (distinct : HasDistinctPlaces ts) (k : ℕ) (read : Entry S W Map) (is_read : read ≡ get_or ts k read) (w : W) (n : ℕ)
+    (written : us ≡ set ts k (new_entry read.place w n)) where
+  pub written_at : (t : Entry S W Map) → slice_get ts k ≡ Some t → us ≡ lowered t.place w n ts
+  written_at t there =
+      let same : read ≡ t = is_read ∙ get_or_from_slice_get ts k t read there in
+      written ∙ ap (λ (v : Entry S W Map). set ts k (new_entry v.place w n)) same ∙ sym (lowered_at t.place w n ts k (get_at_place ts distinct k t there))
+
+  module _ (within : k < length ts) where
+    there : slice_get ts k ≡ Some read
+    there = slice_get_read ts (length ts) k read refl within is_read
+
+    pub written_distinct : HasDistinctPlaces us
+    written_distinct = subst HasDistinctPlaces (sym (written_at read there)) (distinct-lowered read.place w n ts distinct)
+
+    pub written_places : places_of us ≡ places_of ts
+    written_places = ap places_of (written_at read there) ∙ places-lowered read.place w n ts k (get_at_place ts distinct k read there)

@@ -1,3 +1,4 @@
 -- What the code keeps.
 pub mod Index
 pub mod Room
+pub mod Spread

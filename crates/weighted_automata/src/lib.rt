@@ -2,6 +2,7 @@
 #![tactic(auto)]
 
 mod index;
+mod keys;
 mod laws;
 mod place;
 mod room;

@@ -1,4 +1,4 @@
-ghost use Rattle.std.specs.Prelude.{◌≡◌, ◌+◌, ◌<◌, ◌++◌, List, [], ◌∷◌, None, Some, length, slice_get, filter, IsTrue, IsFalse, IsOk, IsSome, IfOk, OnOk, OnErr, IfSome, option_and_then};
+ghost use Rattle.std.specs.Prelude.{◌≡◌, ◌+◌, ◌^◌, ◌<◌, ◌++◌, List, [], ◌∷◌, None, Some, length, slice_get, filter, IsTrue, IsFalse, IsOk, IsSome, IfOk, OnOk, OnErr, IfSome, option_and_then};
 ghost use Rattle.weighted_automata.specs.declared.place.Place.{Place as PlaceValue};
 ghost use Rattle.weighted_automata.specs.Places.{same_label, has_place, AreAmong};
 ghost use Rattle.weighted_automata.specs.Entries.{entry_at, index_at, index_where, index_from, lowered, Present, indices_from, is_from, is_out_of, is_into, is_empty_into, HasDistinctPlaces};
@@ -68,6 +68,7 @@ impl<S: Semiring> Transitions<S> {
     /// How many transitions there are.
     pub fn len(&self) -> u64
         ensures len { result ≡ length self.now.transitions }
+        ensures limit { result < 2 ^ 63 }
         ensures distinct { HasDistinctPlaces self.now.transitions }
     {
         self.entries.len() as u64
@@ -215,6 +216,22 @@ impl<S: Semiring> Transitions<S> {
                 Ok(k)
             }
         }
+    }
+
+    /// Replaces the weight and the node of the `k`-th transition, which keeps its place. It takes no memory.
+    pub fn lower_at(&mut self, k: u64, weight: S::W, node: u64)
+        requires { k < length self.old.transitions }
+        ensures lowered { (t : EntryValue S S.W S.Ret) → slice_get self.old.transitions k ≡ Some t →
+            self.new.transitions ≡ lowered t.place weight node self.old.transitions }
+        ensures room { self.new.room ≡ self.old.room }
+    {
+        let place = self.entries[k as usize].place;
+        let entry = Entry {
+            place,
+            weight,
+            node,
+        };
+        replace(&mut self.entries, k as usize, entry);
     }
 
     /// Makes room for these places. It is refused only when out of memory, and changes nothing then.

@@ -86,7 +86,7 @@ impl<'g> Overlay<'g> {
         ensures runs { IfOk result (λ l.
             listing_runs l ≡ runs_of self.now.graph.side self.now.nodes root) }
     {
-        let parts = NodeParts::new(self.base.as_slice(), &self.added);
+        let parts = NodeParts::new(self.base, &self.added);
         let nodes = list_nodes(alloc, &parts, root)?;
         Ok(Listing {
             side: self.base.side(),

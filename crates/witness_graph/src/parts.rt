@@ -1,13 +1,13 @@
 ghost use Rattle.std.specs.Prelude.{◌≡◌, ◌<◌, ◌++◌, length};
 ghost use Rattle.witness_graph.specs.Nodes.{node_at};
 
-use crate::Node;
+use crate::{Graph, Node};
 use std::marker::Model;
 
-/// Nodes in two parts, of which the second is numbered on from the first.
+/// The nodes of a graph and others, which are numbered on from them.
 #[derive(Drop)]
 pub(crate) struct NodeParts<'a> {
-    base: &'a [Node],
+    base: &'a Graph,
     added: &'a [Node],
 }
 
@@ -17,13 +17,13 @@ impl<'a> Model for NodeParts<'a> {
 
     ghost Value = { List NodeValue };
 
-    ghost view = { λ p. p.base.now ++ p.added.now };
+    ghost view = { λ p. p.base.now.nodes ++ p.added.now };
 }
 
 impl<'a> NodeParts<'a> {
-    /// The nodes of the first part, and then those of the second.
-    pub(crate) fn new(base: &'a [Node], added: &'a [Node]) -> NodeParts<'a>
-        ensures { result ≡ base.now ++ added.now }
+    /// The nodes of the graph, and then the others.
+    pub(crate) fn new(base: &'a Graph, added: &'a [Node]) -> NodeParts<'a>
+        ensures { result ≡ base.now.nodes ++ added.now }
     {
         NodeParts { base, added }
     }
@@ -33,12 +33,11 @@ impl<'a> NodeParts<'a> {
         requires { k < length self.now }
         ensures { result ≡ node_at self.now k }
     {
-        let k = k as usize;
         let first = self.base.len();
         if k < first {
-            self.base[k]
+            self.base.node(k)
         } else {
-            self.added[k - first]
+            self.added[(k - first) as usize]
         }
     }
 }

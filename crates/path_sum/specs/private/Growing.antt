@@ -1,9 +1,9 @@
 -- A sum while it grows, as a state, and its steps.
-use Rattle.std.specs.Prelude.{◌≡◌, ℕ, Bool, IsTrue, List, ◌∷◌, ◌++◌, length, Option, None, Some, IsSome}
+use Rattle.std.specs.Prelude.{◌≡◌, ℕ, Bool, IsTrue, List, ◌∷◌, ◌++◌, length, Option, None, Some}
 use Rattle.saturation_laws.specs.Openings.{AreKept, found_so_far}
 use Rattle.saturation_laws.specs.States.{CoreState, Change}
 use Rattle.semiring_laws.specs.Semiring.{Operations}
-use Rattle.weighted_automata.specs.Entries.{entry_at}
+use Rattle.weighted_automata.specs.Entries.{index_at}
 use Rattle.weighted_automata.specs.declared.place.Place.{Place}
 use Rattle.weighted_automata.specs.declared.transitions.Entry.{Entry}
 use Rattle.witness_graph.specs.Nodes.{Overlaid}
@@ -17,19 +17,19 @@ use Rattle.path_sum.specs.private.Inputs.{SumInputValue}
 
 -- the pairs, nodes and waiting places of a sum
 abbrev pub state_of : {S W Map : Type 0} → Growing S W Map → CoreState S W Map
-state_of g = found_so_far g.pairs.transitions g.nodes.nodes g.waiting.items
+state_of g = found_so_far g.pairs.transitions g.nodes.nodes g.pairs.queue
 
 module _ {S W Map : Type 0} (s : Operations W Map) where
-  -- The transition at a place is there, and weights and nodes are those of the state.
-  pub record IsReady (ts : List (Entry S W Map)) (x : Place) (st : CoreState S W Map) : Type 0 where
-    pub there : IsSome (entry_at x st.transitions)
+  -- The transition at a place has this number, and weights and nodes are those of the state.
+  pub record IsReady (ts : List (Entry S W Map)) (k : ℕ) (x : Place) (st : CoreState S W Map) : Type 0 where
+    pub at : index_at x st.transitions ≡ Some k
     pub pairs : AreKept s st.transitions (length st.nodes)
     pub transitions : AreKept s ts (length st.nodes)
 
 module _ {S W Map : Type 0} (operations : S → Operations W Map) (input : SumInputValue S W Map) where
-  -- what goes on from a place can be added
-  abbrev pub CanDraw : Place → CoreState S W Map → Type 0
-  CanDraw x st = IsReady (operations input.semiring) input.transitions x st
+  -- what goes on from a place can be added, and its transition has this number
+  abbrev pub CanDraw : ℕ → Place → CoreState S W Map → Type 0
+  CanDraw k x st = IsReady (operations input.semiring) input.transitions k x st
 
   -- the move, and these moves, make the second state of the first
   abbrev pub MovesBy : Move → CoreState S W Map → CoreState S W Map → Type 0

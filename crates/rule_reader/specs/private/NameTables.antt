@@ -1,22 +1,26 @@
--- The names of one class, and the map that numbers them.
-use Rattle.std.specs.Prelude.{◌≡◌, ℕ, ◌≤◌, ◌^◌, List, map, length, Option}
+-- The names of one class, and the rows that number them.
+use Rattle.std.specs.Prelude.{ℕ, ◌≤◌, ◌^◌, List, map, length, Option, Some}
 use Rattle.std.specs.Borrow.{Bor}
-use Rattle.std.specs.BTreeMap.{BTreeMap, get_by}
 use Rattle.std.specs.Cmp.Lexicographic.{slice_cmp}
 use Rattle.std.specs.Ordering.{nat_cmp}
-use Rattle.rule_reader.specs.Names.{number_among}
+use Rattle.std.specs.declared.cmp.Ordering.{Ordering}
+use Rattle.key_rows.specs.declared.rows.KeyRows.{KeyRows}
+use Rattle.key_rows.specs.Rows.{AreRows}
 use Rattle.wpds_base.specs.Lists.{IsOnce}
 
 -- the bytes that the slices are of
 abbrev pub bytes_of : List (Bor (List ℕ)) → List (List ℕ)
 bytes_of slices = map (λ slice. slice.now) slices
 
--- what the map has at a name
-abbrev pub at_name : BTreeMap (Bor (List ℕ)) ℕ → List ℕ → Option ℕ
-at_name numbers x = get_by (λ key. slice_cmp nat_cmp x key.now) numbers
+abbrev pub name_cmp : Bor (List ℕ) → Bor (List ℕ) → Ordering
+name_cmp x y = slice_cmp nat_cmp x.now y.now
 
--- each name stands once, and the map has its number at it and nothing elsewhere
-pub record IsNumbered (names : List (List ℕ)) (numbers : BTreeMap (Bor (List ℕ)) ℕ) : Type 0 where
-  pub once : IsOnce names
-  pub few : length names ≤ 2 ^ 32
-  pub numbered : (x : List ℕ) → at_name numbers x ≡ number_among names x
+-- each has itself as its key
+abbrev pub keys_of : List (Bor (List ℕ)) → List (Option (Bor (List ℕ)))
+keys_of slices = map Some slices
+
+-- each name stands once, and the rows are those of the names
+pub record IsNumbered (slices : List (Bor (List ℕ))) (rows : KeyRows (Bor (List ℕ))) : Type 0 where
+  pub once : IsOnce (bytes_of slices)
+  pub few : length slices ≤ 2 ^ 32
+  pub are_rows : AreRows name_cmp (keys_of slices) rows

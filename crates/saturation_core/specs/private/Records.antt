@@ -1,12 +1,11 @@
--- The events that marks are, with the places of those that take, in order.
+-- The events that marks are, with the numbers of those that take, in order.
 use Rattle.std.specs.Prelude.{ℕ, suc, ◌+◌, List, [], ◌∷◌, Bool, false, nat_eq, if◌then◌else◌}
-use Rattle.weighted_automata.specs.declared.place.Place.{Place}
-use Rattle.saturation_laws.specs.declared.event.Event.{Event}
-use Rattle.saturation_laws.specs.declared.event.Event.TheVariants as event
+use Rattle.saturation_core.specs.JournalEvents.{NumberedEvent}
+use Rattle.saturation_core.specs.JournalEvents as event
 use Rattle.saturation_core.specs.declared.journal.Mark.{Mark}
 use Rattle.saturation_core.specs.declared.journal.Mark.TheVariants.{Take, Settle, GiveBack}
 
-abbrev pub events_of : List Mark → List Place → List Event
+abbrev pub events_of : List Mark → List ℕ → List NumberedEvent
 events_of [] ps = []
 events_of (Take s ∷ ms) [] = []
 events_of (Take s ∷ ms) (p ∷ ps) = event.Take s p ∷ events_of ms ps

@@ -1,10 +1,8 @@
 -- What was found so far, as a state, and how it changes.
-use Rattle.std.specs.Prelude.{◌≡◌, ℕ, ◌≤◌, ◌<◌, List, Option, None, Some, IfSome, IsTrue, is_some, ◌||◌, option_map, length}
+use Rattle.std.specs.Prelude.{◌≡◌, ℕ, ◌≤◌, ◌<◌, List, Option, None, Some, IfSome, IsTrue, is_some, ◌||◌, length}
 use Rattle.semiring_laws.specs.Semiring.{Operations, Fits}
 use Rattle.weighted_automata.specs.declared.place.Place.{Place}
-use Rattle.saturation_laws.specs.declared.job.Job.{Job}
 use Rattle.saturation_laws.specs.declared.holding.Holding.{Holding}
-use Rattle.saturation_laws.specs.Jobs.{node_of, named_rule, named_first}
 use Rattle.saturation_laws.specs.States.{CoreState, Change}
 use Rattle.saturation_laws.specs.Openings.{AreKept}
 use Rattle.saturation_core.specs.declared.found.Found.{Found}
@@ -15,7 +13,7 @@ use Rattle.saturation_core.specs.private.Plans.{HaveRoom}
 module _ {S W Map : Type 0} where
   -- the state with these hands
   abbrev pub with_hands : Found S W Map → List (Option (Holding S W Map)) → CoreState S W Map
-  with_hands f hands = record { transitions = f.transitions.transitions; nodes = f.graph.nodes; queue = f.waiting.items; hands = hands }
+  with_hands f hands = record { transitions = f.transitions.transitions; nodes = f.graph.nodes; queue = f.transitions.queue; hands = hands }
 
   -- the step makes the one of the other, whatever hands are out
   abbrev pub Becomes : Found S W Map → (CoreState S W Map → CoreState S W Map) → Found S W Map → Type 0
@@ -29,7 +27,8 @@ module _ {S W Map : Type 0} where
   pub record HasRoomFor (plan : List (Planned S W Map)) (f : Found S W Map) : Type 0 where
     pub places : HaveRoom f.transitions.room plan
     pub spare : length plan ≤ f.graph.spare
-    pub queue : length plan ≤ f.waiting.spare
+    pub queue : length plan ≤ f.transitions.spare
+    pub marks : length plan ≤ f.transitions.marks
 
 -- the weight of a rule for a place, whose runs get the rule alone
 abbrev pub rule_change : {W : Type 0} → Place → W → ℕ → Change W
@@ -38,10 +37,6 @@ rule_change place weight rule = record { goal = place; weight = weight; rule = S
 -- a weight for a place, whose runs are made of these parts
 abbrev pub change_by : {W : Type 0} → Place → W → Parts → Change W
 change_by place weight parts = record { goal = place; weight = weight; rule = parts.rule; first = parts.first; second = parts.second }
-
--- the parts that a job's node names
-abbrev pub named_parts : {S W Map : Type 0} → Job S W Map → Parts
-named_parts j = record { rule = named_rule j; first = option_map node_of (named_first j); second = option_map node_of j.second }
 
 -- A change with a weight of the semiring, whose parts are earlier nodes.
 pub record IsFitChange {W Map : Type 0} (s : Operations W Map) (m : ℕ) (c : Change W) : Type 0 where

@@ -2,6 +2,7 @@ use Rattle.std.proofs.Common.{◌++◌, ◌∷◌, ◌<◌, length, refl, sym, a
 use Rattle.std.specs.Prelude.{Some}
 use Rattle.std.proofs.lemmas.List.{append_cancel_left}
 use Rattle.std.proofs.lemmas.Option.{slice_get_within}
+use Rattle.weighted_automata.specs.Entries.{entry_at}
 use Rattle.witness_graph.specs.declared.node.Node.TheVariants.{Start}
 use Rattle.witness_graph.specs.Nodes.{Nodes, AreNodes}
 use Rattle.saturation_laws.proofs.CallerLemmas.{indexed}
@@ -14,12 +15,13 @@ use Rattle.path_sum.proofs.summing.list_answer.Goals as goal
 
 pub entry-requires : goal.entry-requires
 entry-requires g c =
-    let there = indexed answer_place c.args.sum.now.pairs.transitions c.in-Some.k (sym c.find.ensures.index ∙ c.in-Some.is) in
-    slice_get_within c.args.sum.now.pairs.transitions c.in-Some.k there.0 there.1
+    let ts = c.list-pairs.result.now.transitions in
+    let there = indexed answer_place ts c.in-Some.k (sym c.find.ensures.index ∙ c.in-Some.is) in
+    slice_get_within ts c.in-Some.k there.0 there.1
 
 pub shorter-requires : goal.shorter-requires
 shorter-requires g c =
-    let at = found_here answer_place c.args.sum.now.pairs.transitions c.in-Some.k c.find.result c.entry.result.now c.find.ensures.entry c.in-Some.is c.entry.ensures.entry in
+    let at = sym (ap (entry_at answer_place) c.list-pairs.ensures) ∙ found_here answer_place c.list-pairs.result.now.transitions c.in-Some.k c.find.result c.entry.result.now c.find.ensures.entry c.in-Some.is c.entry.ensures.entry in
     let root = (c.requires.kept.1.each c.entry.result.now (present_here answer_place c.args.sum.now.pairs.transitions c.entry.result.now at)).1 in
     let added = c.added-added.result.now in
     let begins = c.requires.begins in
@@ -39,7 +41,7 @@ returns-then-not-listed g c =
 
 pub returns-in_ok-listing-in-Some : goal.returns-in_ok-listing-in-Some
 returns-in_ok-listing-in-Some g c =
-    let at = found_here answer_place c.args.sum.now.pairs.transitions c.in-Some.k c.find.result c.entry.result.now c.find.ensures.entry c.in-Some.is c.entry.ensures.entry in
+    let at = sym (ap (entry_at answer_place) c.list-pairs.ensures) ∙ found_here answer_place c.list-pairs.result.now.transitions c.in-Some.k c.find.result c.entry.result.now c.find.ensures.entry c.in-Some.is c.entry.ensures.entry in
     let l = c.in_ok-listing-in-Some in
     let added = c.added-added.result.now in
     let short = subst (λ (v : Nodes). IsListingOf v.side v.nodes added (Some c.entry.result.now) (Some l.listing)) c.graph-graph.ensures (l.listing, refl, l.ensures.side, l.ensures.nodes, l.ensures.runs) in

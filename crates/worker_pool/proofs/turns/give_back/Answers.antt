@@ -3,7 +3,7 @@ use Rattle.saturation_laws.specs.declared.event.Event.TheVariants.{GiveBack}
 use Rattle.saturation_laws.specs.Books.{Makes}
 use Rattle.worker_pool.specs.Steps.{HasOut}
 use Rattle.worker_pool.proofs.PassLemmas.{finds}
-use Rattle.worker_pool.proofs.WorkerTurnLemmas.{event_grown, event_more}
+use Rattle.worker_pool.proofs.WorkerTurnLemmas.{event_grown, event_keeps, event_more}
 use Rattle.worker_pool.proofs.turns.give_back.Goals as goal
 
 pub give_back-requires : goal.give_back-requires
@@ -28,6 +28,13 @@ give-requires-clause-grown g c =
 pub returns-clause-given : goal.returns-clause-given
 returns-clause-given g c =
     event_more g.S.Semiring.operations g.D.Direction.way c.turn-held.result.value.book c.give_back.new.book c.args.pass.seat.me.0 c.turn-held.result.seat.me.0 c.turn-held.result.ticket c.args.pass.is.some_claim
+    c.turn-held.ensures.fits c.turn-held.ensures.turn c.give.result.seat.me.0 c.give.ensures.gave (GiveBack _) refl
+    (subst (λ (k : ℕ). Makes g.S.Semiring.operations g.D.Direction.way c.turn-held.result.value.book (GiveBack k) c.give_back.new.book) (c.number-seat.ensures ∙ sym c.args.pass.is.names)
+    (subst (λ z. Makes g.S.Semiring.operations g.D.Direction.way z.book (GiveBack c.number-seat.result) c.give_back.new.book) c.value.ensures.value c.give_back.ensures))
+
+pub returns-clause-keeps : goal.returns-clause-keeps
+returns-clause-keeps g c =
+    event_keeps g.S.Semiring.operations g.D.Direction.way c.turn-held.result.value.book c.give_back.new.book c.args.pass.seat.me.0 c.turn-held.result.seat.me.0 c.turn-held.result.ticket c.args.pass.is.some_claim
     c.turn-held.ensures.fits c.turn-held.ensures.turn c.give.result.seat.me.0 c.give.ensures.gave (GiveBack _) refl
     (subst (λ (k : ℕ). Makes g.S.Semiring.operations g.D.Direction.way c.turn-held.result.value.book (GiveBack k) c.give_back.new.book) (c.number-seat.ensures ∙ sym c.args.pass.is.names)
     (subst (λ z. Makes g.S.Semiring.operations g.D.Direction.way z.book (GiveBack c.number-seat.result) c.give_back.new.book) c.value.ensures.value c.give_back.ensures))

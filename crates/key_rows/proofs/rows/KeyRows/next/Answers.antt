@@ -1,4 +1,5 @@
-use Rattle.std.proofs.Common.{◌≡◌, ◌+◌, ◌<◌, ◌^◌, sym, ap, ◌∙◌, arith, refl}
+use Rattle.std.proofs.Common.{◌≡◌, ◌+◌, ◌<◌, ◌^◌, sym, ap, ◌∙◌, subst, arith, refl}
+use Rattle.std.specs.Option.{SomeIff}
 use Rattle.std.specs.Prelude.{None, Some, slice_get}
 use Rattle.std.specs.Ordering.{eq_by_cmp}
 use Rattle.std.proofs.lemmas.Option.{slice_get_read, slice_get_past}
@@ -21,7 +22,8 @@ returns-else-gap-eq0 g c = λ ks rows.
     ap (λ xs. slice_get xs c.args.k) (sym c.deref.ensures.value)
     ∙ slice_get_read c.deref.result.now _ c.args.k c.in-Some.gap.now refl (c.in-Some.ensures.lookup.3.0) c.in-Some.ensures.lookup.1 in
     let below = gap_in (eq_by_cmp g.K.Ord.cmp) ks c.args.self.now.gaps.items c.args.k c.in-Some.gap.now rows.gaps_are read in
-    holds_some c.checked_add.result (c.args.k + c.in-Some.gap.now < 2 ^ 64) (c.args.k + c.in-Some.gap.now) c.checked_add.ensures
+    holds_some c.checked_add.result (c.args.k + c.in-Some.gap.now < 2 ^ 64) (c.args.k + c.in-Some.gap.now)
+    (subst (λ n. SomeIff c.checked_add.result (c.args.k + n < 2 ^ 64) (c.args.k + n)) c.from.ensures c.checked_add.ensures)
     (omega (arith, below, c.args.self.now.gaps.ok, c.args.self.now.gaps.small))
     ∙ sym (next_some c.args.k c.in-Some.gap.now c.if-gap-eq0.false)
     ∙ next_in (eq_by_cmp g.K.Ord.cmp) ks c.args.self.now.gaps.items c.args.k (Some c.in-Some.gap.now) rows.gaps_are read

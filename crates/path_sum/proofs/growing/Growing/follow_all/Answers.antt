@@ -22,7 +22,7 @@ pub follow_any-requires-clause-ready : goal.follow_any-requires-clause-ready
 follow_any-requires-clause-ready g c =
     let s = g.S.Semiring.operations c.args.input.now.semiring in
     let from = row_from c.args.state c.loop-at.invariant.0.0 c.in-Some.k c.transitions-transitions.result.now.transitions (sym c.loop-at.invariant.0.1 ∙ c.in-Some.is) c.entry.result.now c.entry.ensures.entry in
-    subst (λ q. IsReady s c.args.input.now.transitions (pair_place c.args.i q) (state_of c.loop-at.self)) (sym from) c.loop-at.invariant.1
+    subst (λ q. IsReady s c.args.input.now.transitions c.args.number (pair_place c.args.i q) (state_of c.loop-at.self)) (sym from) c.loop-at.invariant.1
 
 pub follow_any-requires-clause-there : goal.follow_any-requires-clause-there
 follow_any-requires-clause-there g c =
@@ -58,7 +58,7 @@ loop-at-preserved g c =
         pair_more s input.side input.opening input.transitions ways c.args.i c.args.state k ts t now new _ c.entry.ensures.entry from
             (sym (ap (grow s input.side input.opening input.transitions ways now) left) ∙ c.loop-at.invariant.0.2) c.in_ok-follow_any.ensures.grows,
       ),
-      subst (λ q. IsReady s input.transitions (pair_place c.args.i q) new) from c.in_ok-follow_any.ensures.ready,
+      subst (λ q. IsReady s input.transitions c.args.number (pair_place c.args.i q) new) from c.in_ok-follow_any.ensures.ready,
       c.follow_any.ensures.graph ∙ c.loop-at.invariant.2,
     )
 

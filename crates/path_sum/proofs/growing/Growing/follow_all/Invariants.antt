@@ -15,7 +15,7 @@ invariant-loop-at g l =
     ((n : ℕ) × (l.at ≡ index_from (is_out_of l.state) n ts)
     × (grow s l.input.side l.input.opening l.input.transitions ways (state_of l.self) (pair_moves l.input.opening ways l.i l.state (drop n ts))
     ≡ grow s l.input.side l.input.opening l.input.transitions ways (state_of l.initial.self) (pair_moves l.input.opening ways l.i l.state ts)))
-    × IsReady s l.input.transitions (pair_place l.i l.state) (state_of l.self)
+    × IsReady s l.input.transitions l.number (pair_place l.i l.state) (state_of l.self)
     × (l.self.nodes.graph ≡ l.initial.self.nodes.graph)
 
 abbrev pub decreases-loop-at : goal.decreases-loop-at

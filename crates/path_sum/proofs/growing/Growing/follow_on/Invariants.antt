@@ -13,5 +13,5 @@ invariant-loop-item g l =
     (grow s l.input.side l.input.opening l.input.transitions ways (state_of l.self) left
     ≡ grow s l.input.side l.input.opening l.input.transitions ways (state_of l.initial.self) (on_moves l.i l.symbol x (l.i + 1) (drop l.i l.input.pattern.items)))
     × HaveMoves ways.edges l.i l.symbol x left
-    × IsReady s l.input.transitions (pair_place l.i x.from) (state_of l.self)
+    × IsReady s l.input.transitions l.number (pair_place l.i x.from) (state_of l.self)
     × (l.self.nodes.graph ≡ l.initial.self.nodes.graph)

@@ -1,4 +1,4 @@
-use Rattle.std.proofs.Common.{◌≡◌, [], length, refl, sym, ap, ◌∙◌, subst, arith}
+use Rattle.std.proofs.Common.{◌≡◌, [], ◌∷◌, ◌++◌, length, refl, sym, ap, ◌∙◌, subst, arith}
 use Rattle.std.specs.Prelude.{All}
 use Rattle.semiring_laws.specs.Semiring.{Fits}
 use Rattle.saturation_laws.specs.declared.event.Event.TheVariants.{Settle}
@@ -9,6 +9,8 @@ use Rattle.saturation_core.specs.private.Steps.{with_hands, IsKept}
 use Rattle.saturation_core.specs.BookView.{book_view}
 use Rattle.saturation_laws.proofs.CallerLemmas.{event_keeps}
 use Rattle.saturation_core.proofs.HandLemmas.{hands_out-seats}
+use Rattle.saturation_core.specs.private.Written.{AreThere, events_at}
+use Rattle.saturation_core.proofs.JournalLemmas.{events_stay, put_grows_to, settle_then, settle_there, there_stay}
 use Rattle.saturation_core.proofs.SettleBook.{on_refusal, one_out, seat_out, put_on, planned_is, ready, settled, settled_nodes, book_keeps, worths_fit, worths_long, nodes_next}
 use Rattle.saturation_core.proofs.book.Book.apply.Goals as goal
 
@@ -37,18 +39,19 @@ pub invariant_of-self : goal.invariant_of-self
 invariant_of-self g c =
     let b = book_view c.self.inside in
     let same = c.make_room.ensures.state c.self.inside.out.items in (
-      subst (λ st. IsBook g.S.Semiring.operations g.D.Direction.way (record b { state = st })) (sym same) c.self.invariant.0,
+      subst (λ st. IsBook g.S.Semiring.operations g.D.Direction.way (record b { state = st; journal = events_at st.transitions c.self.inside.journal.events })) (sym same) c.self.invariant.0,
       record {
         journal = c.self.invariant.1.journal;
         queue = omega (arith, c.self.invariant.1.queue, c.make_room.ensures.kept);
       },
       c.make_room.ensures.side ∙ c.self.invariant.2,
+      subst (λ st. AreThere st.transitions c.self.inside.journal.events) (sym same) c.self.invariant.3,
     )
 
 pub returns-in_err-make_room-clause-err : goal.returns-in_err-make_room-clause-err
 returns-in_err-make_room-clause-err g c =
     let b = book_view c.self.inside in
-    on_refusal c.from_residual-in_err-make_room.result (ap (λ st. record b { state = st }) (c.make_room.ensures.state c.self.inside.out.items) ∙ c.self.view_is)
+    on_refusal c.from_residual-in_err-make_room.result (ap (λ st. record b { state = st; journal = events_at st.transitions c.self.inside.journal.events }) (c.make_room.ensures.state c.self.inside.out.items) ∙ c.self.view_is)
 
 pub lower_all-requires-clause-nodes : goal.lower_all-requires-clause-nodes
 lower_all-requires-clause-nodes g c =
@@ -77,7 +80,7 @@ settle-requires-clause-room g c =
 made : (g : _) (c : goal.After-put g) → Makes g.S.Semiring.operations g.D.Direction.way (book_view c.self.inside) (Settle c.seat-seat.result)
     (record (book_view c.self.inside) {
       state = with_hands c.lower_all.new.self c.put.new.out.items;
-      journal = c.settle.new.self.events;
+      journal = events_at c.lower_all.new.self.transitions.transitions c.settle.new.self.events;
     })
 made g c =
     let r = ready g.S.Semiring.operations g.D.Direction.way g.met.D.Direction.same_candidate (book_view c.self.inside) c.args.self.now c.self.view_is c.args.done.now c.requires c.candidates.ensures.worked
@@ -87,9 +90,11 @@ made g c =
     let b = book_view c.self.inside in
     settled g.S.Semiring.operations g.D.Direction.way b c.seat-seat.result c.as_slice-jobs.result.now c.as_slice-worths.result.now (length c.self.inside.found.graph.nodes) c.in_ok-plan.plan
     r.out r.worths refl planned
-    c.lower_all.new.self c.put.new.out.items c.settle.new.self.events
+    c.lower_all.new.self c.put.new.out.items (events_at c.lower_all.new.self.transitions.transitions c.settle.new.self.events)
     (put_on c.in_ok-plan.plan c.self.inside.found c.make_room.new.self c.lower_all.new.self c.make_room.ensures.state c.lower_all.ensures.state c.self.inside.out.items)
-    c.put.ensures c.settle.ensures.events
+    c.put.ensures
+    (settle_then c.lower_all.new.self.transitions.transitions c.self.inside.journal.events c.settle.new.self.events c.seat-seat.result c.settle.ensures.events
+    ∙ ap (λ es. es ++ Settle c.seat-seat.result ∷ []) (events_stay c.self.inside.found.transitions.transitions c.lower_all.new.self.transitions.transitions (put_grows_to c.in_ok-plan.plan c.self.inside.found c.make_room.new.self c.lower_all.new.self c.make_room.ensures.state c.lower_all.ensures.state) c.self.inside.journal.events c.self.invariant.3))
 
 pub invariant_of-self-2 : goal.invariant_of-self-2
 invariant_of-self-2 g c =
@@ -106,13 +111,15 @@ invariant_of-self-2 g c =
         queue = omega (arith, few, seats, c.in_ok-make_room.ensures.queue, c.lower_all.ensures.queue);
       },
       c.lower_all.ensures.side ∙ c.make_room.ensures.side ∙ c.self.invariant.2,
+      settle_there c.lower_all.new.self.transitions.transitions c.self.inside.journal.events c.settle.new.self.events c.seat-seat.result c.settle.ensures.events
+          (there_stay c.self.inside.found.transitions.transitions c.lower_all.new.self.transitions.transitions (put_grows_to c.in_ok-plan.plan c.self.inside.found c.make_room.new.self c.lower_all.new.self c.make_room.ensures.state c.lower_all.ensures.state) c.self.inside.journal.events c.self.invariant.3),
     )
 
 pub returns-clause-settled : goal.returns-clause-settled
 returns-clause-settled g c =
     let new : BookValue g.row.S.Denot g.row.S-W.Denot g.row.S-Ret.Denot g.row.D.Denot = record (book_view c.self.inside) {
       state = with_hands c.lower_all.new.self c.put.new.out.items;
-      journal = c.settle.new.self.events;
+      journal = events_at c.lower_all.new.self.transitions.transitions c.settle.new.self.events;
     } in
     subst (λ k. Makes g.S.Semiring.operations g.D.Direction.way c.args.self.now (Settle k) new) c.seat-seat.ensures
     (subst (λ b. Makes g.S.Semiring.operations g.D.Direction.way b (Settle c.seat-seat.result) new) c.self.view_is (made g c))

@@ -1,16 +1,19 @@
 use Rattle.std.proofs.Common.{◌≡◌, length, sym, ap, ◌∙◌, subst, arith}
-use Rattle.std.specs.Prelude.{option_map}
+use Rattle.std.specs.Prelude.{IsSome, option_map}
+use Rattle.weighted_automata.specs.Entries.{entry_at}
 use Rattle.saturation_laws.specs.declared.event.Event.TheVariants.{GiveBack}
 use Rattle.saturation_laws.specs.States.{hand_at}
 use Rattle.saturation_laws.specs.Books.{Makes}
 use Rattle.saturation_core.specs.Seats.{hands_out}
 use Rattle.saturation_core.specs.BookView.{book_view}
-use Rattle.saturation_laws.proofs.CallerLemmas.{event_keeps, after, given}
-use Rattle.saturation_core.proofs.HandLemmas.{hands_out-read, seat_read}
+use Rattle.saturation_laws.proofs.CallerLemmas.{event_keeps, given}
+use Rattle.saturation_core.specs.private.Written.{AreThere, events_at}
+use Rattle.saturation_core.proofs.JournalLemmas.{give_then, give_there}
+use Rattle.saturation_core.proofs.HandLemmas.{hands_out-read, moved, place_read, seat_read}
 use Rattle.saturation_core.proofs.book.Book.give_back.Goals as goal
 
-pub enqueue-requires : goal.enqueue-requires
-enqueue-requires g c = omega (arith, hands_out-read c.self.inside.out.items c.args.seat c.in-Some.place (ap (λ hands. option_map (λ h. h.place) (hand_at c.args.seat hands)) (sym c.deref.ensures.value) ∙ sym c.place_out.ensures ∙ c.in-Some.is), c.self.invariant.1.queue)
+pub enqueue-requires-clause-spare : goal.enqueue-requires-clause-spare
+enqueue-requires-clause-spare g c = omega (arith, hands_out-read c.self.inside.out.items c.args.seat c.in-Some.place (ap (λ hands. option_map (λ h. h.place) (hand_at c.args.seat hands)) (sym c.deref.ensures.value) ∙ sym c.place_out.ensures ∙ c.in-Some.is), c.self.invariant.1.queue)
 
 pub give_back-requires-clause-seat : goal.give_back-requires-clause-seat
 give_back-requires-clause-seat g c =
@@ -20,14 +23,21 @@ give_back-requires-clause-seat g c =
 pub give_back-requires-clause-room : goal.give_back-requires-clause-room
 give_back-requires-clause-room g c = omega (arith, hands_out-read c.self.inside.out.items c.args.seat c.in-Some.place (ap (λ hands. option_map (λ h. h.place) (hand_at c.args.seat hands)) (sym c.deref.ensures.value) ∙ sym c.place_out.ensures ∙ c.in-Some.is), c.self.invariant.1.journal)
 
+pub enqueue-requires-clause-there : goal.enqueue-requires-clause-there
+enqueue-requires-clause-there g c =
+    let h = place_read c.self.inside.out.items c.args.seat c.in-Some.place (ap (λ hands. option_map (λ h. h.place) (hand_at c.args.seat hands)) (sym c.deref.ensures.value) ∙ sym c.place_out.ensures ∙ c.in-Some.is) in
+    subst (λ x. IsSome (entry_at x c.self.inside.found.transitions.transitions)) h.2 (c.self.invariant.0.lock.hands c.args.seat h.0 h.1).place
+
 made : (g : _) (c : goal.After-put g) → Makes g.S.Semiring.operations g.D.Direction.way (book_view c.self.inside) (GiveBack c.args.seat)
-    (after (book_view c.self.inside) c.enqueue.new.self.items c.put.new.out.items c.give_back.new.self.events)
-made g c = given g.S.Semiring.operations g.D.Direction.way (book_view c.self.inside) c.args.seat c.in-Some.place
-    c.enqueue.new.self.items c.put.new.out.items c.give_back.new.self.events
+    (moved (book_view c.self.inside) c.enqueue.new.self.transitions c.enqueue.new.self.queue c.put.new.out.items (events_at c.enqueue.new.self.transitions c.give_back.new.self.events))
+made g c = subst (λ ts. Makes g.S.Semiring.operations g.D.Direction.way (book_view c.self.inside) (GiveBack c.args.seat)
+    (moved (book_view c.self.inside) ts c.enqueue.new.self.queue c.put.new.out.items (events_at ts c.give_back.new.self.events))) (sym c.enqueue.ensures.transitions)
+    (given g.S.Semiring.operations g.D.Direction.way (book_view c.self.inside) c.args.seat c.in-Some.place
+    c.enqueue.new.self.queue c.put.new.out.items (events_at c.self.inside.found.transitions.transitions c.give_back.new.self.events)
     (ap (λ hands. option_map (λ h. h.place) (hand_at c.args.seat hands)) (sym c.deref.ensures.value) ∙ sym c.place_out.ensures ∙ c.in-Some.is)
-    c.enqueue.ensures.items
+    c.enqueue.ensures.queue
     c.put.ensures
-    c.give_back.ensures.events
+    (give_then c.self.inside.found.transitions.transitions c.self.inside.journal.events c.give_back.new.self.events c.args.seat c.give_back.ensures.events))
 
 pub invariant_of-self : goal.invariant_of-self
 invariant_of-self g c = (
@@ -40,9 +50,11 @@ invariant_of-self g c = (
         queue = omega (arith, one, now, c.self.invariant.1.queue, c.enqueue.ensures.spare);
       },
   c.self.invariant.2,
+  subst (λ ts. AreThere ts c.give_back.new.self.events) (sym c.enqueue.ensures.transitions)
+      (give_there c.self.inside.found.transitions.transitions c.self.inside.journal.events c.give_back.new.self.events c.args.seat c.give_back.ensures.events c.self.invariant.3),
 )
 
 pub returns-in-Some : goal.returns-in-Some
 returns-in-Some g c =
     subst (λ b. Makes g.S.Semiring.operations g.D.Direction.way b (GiveBack c.args.seat)
-    (after (book_view c.self.inside) c.enqueue.new.self.items c.put.new.out.items c.give_back.new.self.events)) c.self.view_is (made g c)
+    (moved (book_view c.self.inside) c.enqueue.new.self.transitions c.enqueue.new.self.queue c.put.new.out.items (events_at c.enqueue.new.self.transitions c.give_back.new.self.events))) c.self.view_is (made g c)

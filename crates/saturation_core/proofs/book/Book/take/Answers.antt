@@ -6,25 +6,30 @@ use Rattle.saturation_core.specs.declared.hand.Hand.{Hand}
 use Rattle.saturation_laws.specs.States.{hand_at, jobs_at}
 use Rattle.saturation_laws.specs.Books.{BookValue, Makes, CanWork}
 use Rattle.saturation_core.specs.BookView.{book_view}
-use Rattle.saturation_laws.proofs.CallerLemmas.{book_fits, event_keeps, taken_works, after, taken}
-use Rattle.saturation_core.proofs.HandLemmas.{hands_out-seats, hands_out-set, popped}
+use Rattle.saturation_laws.proofs.CallerLemmas.{book_fits, event_keeps, taken_works, taken}
+use Rattle.saturation_core.specs.declared.queued.NumberedPlace.{NumberedPlace}
+use Rattle.saturation_core.specs.private.Written.{AreThere, events_at}
+use Rattle.saturation_core.proofs.JournalLemmas.{take_then, take_there}
+use Rattle.saturation_core.proofs.HandLemmas.{hands_out-seats, hands_out-set, moved, popped}
 use Rattle.saturation_core.proofs.book.Book.take.Goals as goal
 
-made : (g : _) (c : goal.After-put g) → Makes g.S.Semiring.operations g.D.Direction.way (book_view c.self.inside) (Take c.args.seat c.in-Some.place)
-    (after (book_view c.self.inside) c.pop.new.self.items c.put.new.out.items c.take.new.self.events)
+made : (g : _) (c : goal.After-put g) → Makes g.S.Semiring.operations g.D.Direction.way (book_view c.self.inside) (Take c.args.seat c.in-Some.next.place)
+    (moved (book_view c.self.inside) c.pop.new.self.transitions c.pop.new.self.queue c.put.new.out.items (events_at c.pop.new.self.transitions c.take.new.self.events))
 made g c =
     let seats : length c.self.inside.out.items ≡ 64 = c.self.invariant.0.lock.shape.seats in
     let seat : c.args.seat < 64 = c.requires.seat in
     let within : c.args.seat < length c.self.inside.out.items = omega arith in
-    taken g.S.Semiring.operations g.D.Direction.way (book_view c.self.inside) c.args.seat c.in-Some.place
-    c.pop.new.self.items c.put.new.out.items c.take.new.self.events
+    subst (λ ts. Makes g.S.Semiring.operations g.D.Direction.way (book_view c.self.inside) (Take c.args.seat c.in-Some.next.place)
+    (moved (book_view c.self.inside) ts c.pop.new.self.queue c.put.new.out.items (events_at ts c.take.new.self.events))) (sym c.pop.ensures.transitions)
+    (taken g.S.Semiring.operations g.D.Direction.way (book_view c.self.inside) c.args.seat c.in-Some.next.place
+    c.pop.new.self.queue c.put.new.out.items (events_at c.self.inside.found.transitions.transitions c.take.new.self.events)
     within
     (ap (λ b. hand_at c.args.seat b.state.hands) c.self.view_is ∙ c.requires.free)
-    (popped c.pop.result c.self.inside.found.waiting.items c.pop.new.self.items c.in-Some.place _ c.in-Some.ensures c.pop.ensures.place c.pop.ensures.spare).0
+    (popped (λ (n : NumberedPlace). n.place) c.pop.result c.self.inside.found.transitions.queue c.pop.new.self.queue c.in-Some.next.place _ c.in-Some.ensures.place c.pop.ensures.place c.pop.ensures.spare).0
     c.in_ok-kept-in-Some.kept
     (c.in_ok-kept-in-Some.ensures ∙ c.in_ok-jobs-in-Some.ensures ∙ c.in_ok-listed-in-Some.ensures)
     c.put.ensures
-    c.in_ok-take-in-Some.ensures.ok
+    (take_then c.self.inside.found.transitions.transitions c.self.inside.journal.events c.take.new.self.events c.args.seat c.in-Some.next.number c.in-Some.next.place c.in-Some.ensures.at c.in_ok-take-in-Some.ensures.ok))
 
 pub invariant_of-self-in-Some : goal.invariant_of-self-in-Some
 invariant_of-self-in-Some g c =
@@ -32,25 +37,27 @@ invariant_of-self-in-Some g c =
     let seat : c.args.seat < 64 = c.requires.seat in
     let more = hands_out-set c.self.inside.out.items c.put.new.out.items c.args.seat _ c.put.ensures in
     let few = hands_out-seats c.self.inside.out.items c.put.new.out.items c.args.seat _ c.put.ensures in
-    let one = popped c.pop.result c.self.inside.found.waiting.items c.pop.new.self.items c.in-Some.place (c.self.inside.found.waiting.spare + 1 ≤ c.pop.new.self.spare) c.in-Some.ensures c.pop.ensures.place c.pop.ensures.spare in (
+    let one = popped (λ (n : NumberedPlace). n.place) c.pop.result c.self.inside.found.transitions.queue c.pop.new.self.queue c.in-Some.next.place (c.self.inside.found.transitions.spare + 1 ≤ c.pop.new.self.spare) c.in-Some.ensures.place c.pop.ensures.place c.pop.ensures.spare in (
       event_keeps g.S.Semiring.operations g.S.Semiring.laws g.D.Direction.way
           g.met.D.Direction.laws
-          (book_view c.self.inside) c.self.invariant.0 (Take c.args.seat c.in-Some.place) _ (made g c),
+          (book_view c.self.inside) c.self.invariant.0 (Take c.args.seat c.in-Some.next.place) _ (made g c),
       record {
         journal = omega (arith, few, seats, c.in_ok-take-in-Some.ensures.room);
         queue = omega (arith, more, one.1, c.self.invariant.1.queue);
       },
       c.self.invariant.2,
+      subst (λ ts. AreThere ts c.take.new.self.events) (sym c.pop.ensures.transitions)
+          (take_there c.self.inside.found.transitions.transitions c.self.inside.journal.events c.take.new.self.events c.args.seat c.in-Some.next.number c.in-Some.next.place c.in-Some.ensures.at c.in_ok-take-in-Some.ensures.ok c.self.invariant.3),
     )
 
 pub returns-in_ok-take-in-Some-clause-taken : goal.returns-in_ok-take-in-Some-clause-taken
 returns-in_ok-take-in-Some-clause-taken g c =
-    let new = after (book_view c.self.inside) c.pop.new.self.items c.put.new.out.items c.take.new.self.events in
+    let new = moved (book_view c.self.inside) c.pop.new.self.transitions c.pop.new.self.queue c.put.new.out.items (events_at c.pop.new.self.transitions c.take.new.self.events) in
     let hand : List (Job g.row.S.Denot g.row.S-W.Denot g.row.S-Ret.Denot) → Hand g.row.S.Denot g.row.S-W.Denot g.row.S-Ret.Denot = λ js. record { seat = c.args.seat; jobs = js } in
     let jobs : BookValue g.row.S.Denot g.row.S-W.Denot g.row.S-Ret.Denot g.row.D.Denot → List (Job g.row.S.Denot g.row.S-W.Denot g.row.S-Ret.Denot) =
-    λ b. jobs_at (g.S.Semiring.operations b.system.semiring) (g.D.Direction.way.tables b.direction b.system) (entry_at c.in-Some.place b.state.transitions) b.state.transitions in (
-      c.in-Some.place,
-      subst (λ b. Makes g.S.Semiring.operations g.D.Direction.way b (Take c.args.seat c.in-Some.place) new) c.self.view_is (made g c),
+    λ b. jobs_at (g.S.Semiring.operations b.system.semiring) (g.D.Direction.way.tables b.direction b.system) (entry_at c.in-Some.next.place b.state.transitions) b.state.transitions in (
+      c.in-Some.next.place,
+      subst (λ b. Makes g.S.Semiring.operations g.D.Direction.way b (Take c.args.seat c.in-Some.next.place) new) c.self.view_is (made g c),
       ap hand (c.in_ok-jobs-in-Some.ensures ∙ c.in_ok-listed-in-Some.ensures ∙ ap jobs c.self.view_is),
     )
 
@@ -65,6 +72,7 @@ returns-in_ok-take-in-Some-clause-works g c =
     let seat : c.args.seat < 64 = c.requires.seat in
     subst (λ b. CanWork g.S.Semiring.operations g.D.Direction.way b c.in_ok-jobs-in-Some.jobs) c.self.view_is
     (taken_works g.S.Semiring.operations g.S.Semiring.laws g.D.Direction.way g.met.D.Direction.laws
-    (book_view c.self.inside) c.self.invariant.0 c.args.seat c.in-Some.place c.pop.new.self.items c.put.new.out.items c.take.new.self.events
-    (made g c) (omega (arith, seats, seat)) c.in_ok-kept-in-Some.kept c.in_ok-jobs-in-Some.jobs c.put.ensures
+    (book_view c.self.inside) c.self.invariant.0 c.args.seat c.in-Some.next.place c.pop.new.self.queue c.put.new.out.items (events_at c.self.inside.found.transitions.transitions c.take.new.self.events)
+    (subst (λ ts. Makes g.S.Semiring.operations g.D.Direction.way (book_view c.self.inside) (Take c.args.seat c.in-Some.next.place)
+    (moved (book_view c.self.inside) ts c.pop.new.self.queue c.put.new.out.items (events_at ts c.take.new.self.events))) c.pop.ensures.transitions (made g c)) (omega (arith, seats, seat)) c.in_ok-kept-in-Some.kept c.in_ok-jobs-in-Some.jobs c.put.ensures
     (sym c.in_ok-kept-in-Some.ensures))

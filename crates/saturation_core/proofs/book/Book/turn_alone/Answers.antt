@@ -1,51 +1,39 @@
-use Rattle.std.proofs.Common.{◌≡◌, ◌<◌, [], ◌∷◌, ◌++◌, length, refl, ap, ◌∙◌, subst, arith}
+use Rattle.std.proofs.Common.{◌≡◌, ◌<◌, [], ◌∷◌, ◌++◌, length, sym, ap, ◌∙◌, subst, arith}
 use Rattle.saturation_laws.specs.declared.event.Event.TheVariants.{Take, Settle}
 use Rattle.saturation_laws.specs.States.{hand_at}
+use Rattle.saturation_laws.specs.Openings.{AreKept}
+use Rattle.saturation_laws.specs.Ways.{HaveFitWeights, jobs_of_place}
 use Rattle.saturation_laws.specs.Books.{Makes}
 use Rattle.saturation_core.specs.BookView.{book_view}
 use Rattle.saturation_laws.proofs.CallerLemmas.{book_fits, event_keeps}
+use Rattle.saturation_core.specs.private.Written.{AreThere, events_at}
+use Rattle.saturation_core.proofs.JournalLemmas.{events_stay, jobs_grow_to, settle_then, settle_there, take_then, take_there, there_stay}
+use Rattle.saturation_core.proofs.HandLemmas.{moved}
 use Rattle.saturation_core.proofs.SettleBook.{book_keeps}
-use Rattle.saturation_core.proofs.TurnBook.{nobody_out, hands_meanwhile, meanwhile, took, settled_in_place, book_meanwhile, jobs_work, jobs_change}
+use Rattle.saturation_core.proofs.TurnBook.{nobody_out, hands_meanwhile, meanwhile, took, settled_in_place, book_meanwhile, jobs_change}
 use Rattle.saturation_core.proofs.book.Book.turn_alone.Goals as goal
 
-pub list_jobs-requires-clause-weights : goal.list_jobs-requires-clause-weights
-list_jobs-requires-clause-weights g c = book_fits g.S.Semiring.operations g.S.Semiring.laws g.D.Direction.way g.met.D.Direction.laws (book_view c.book.inside) c.book.invariant.0
+pub apply_place-requires-clause-weights : goal.apply_place-requires-clause-weights
+apply_place-requires-clause-weights g c =
+    subst (HaveFitWeights g.S.Semiring.operations c.book.inside.system.now) (sym c.pop.ensures.transitions)
+    (book_fits g.S.Semiring.operations g.S.Semiring.laws g.D.Direction.way g.met.D.Direction.laws (book_view c.book.inside) c.book.invariant.0)
 
-pub apply_jobs-requires-clause-rows : goal.apply_jobs-requires-clause-rows
-apply_jobs-requires-clause-rows g c =
+pub apply_place-requires-clause-kept : goal.apply_place-requires-clause-kept
+apply_place-requires-clause-kept g c =
+    let b = book_view c.book.inside in
+    subst (λ ts. AreKept (g.S.Semiring.operations b.system.semiring) ts (length b.state.nodes)) (sym c.pop.ensures.transitions)
+    (book_keeps g.S.Semiring.operations g.S.Semiring.laws g.D.Direction.way g.met.D.Direction.laws (book_view c.book.inside) c.book.invariant.0)
+
+pub apply_place-requires-clause-fit : goal.apply_place-requires-clause-fit
+apply_place-requires-clause-fit g c =
     let b = book_view c.book.inside in
     let seats : length c.book.inside.out.items ≡ 64 = c.book.invariant.0.lock.shape.seats in
     let seat : c.args.seat < 64 = c.requires.seat in
     let within : c.args.seat < length c.book.inside.out.items = omega (arith, seats, seat) in
     let none = ap (λ v. hand_at c.args.seat v.state.hands) c.book.view_is ∙ c.requires.free c.args.seat in
-    let js = c.as_slice.result.now in
-    let listed = c.as_slice.ensures ∙ c.in_ok-jobs.ensures in
-    (jobs_work g.S.Semiring.operations g.D.Direction.way b c.args.seat c.in-Some.place c.pop.new.self.items js within none c.in-Some.ensures.place listed g.S.Semiring.laws g.met.D.Direction.laws c.book.invariant.0).rows
-
-pub apply_jobs-requires-clause-inputs : goal.apply_jobs-requires-clause-inputs
-apply_jobs-requires-clause-inputs g c =
-    let b = book_view c.book.inside in
-    let seats : length c.book.inside.out.items ≡ 64 = c.book.invariant.0.lock.shape.seats in
-    let seat : c.args.seat < 64 = c.requires.seat in
-    let within : c.args.seat < length c.book.inside.out.items = omega (arith, seats, seat) in
-    let none = ap (λ v. hand_at c.args.seat v.state.hands) c.book.view_is ∙ c.requires.free c.args.seat in
-    let js = c.as_slice.result.now in
-    let listed = c.as_slice.ensures ∙ c.in_ok-jobs.ensures in
-    (jobs_work g.S.Semiring.operations g.D.Direction.way b c.args.seat c.in-Some.place c.pop.new.self.items js within none c.in-Some.ensures.place listed g.S.Semiring.laws g.met.D.Direction.laws c.book.invariant.0).inputs
-
-pub apply_jobs-requires-clause-kept : goal.apply_jobs-requires-clause-kept
-apply_jobs-requires-clause-kept g c = book_keeps g.S.Semiring.operations g.S.Semiring.laws g.D.Direction.way g.met.D.Direction.laws (book_view c.book.inside) c.book.invariant.0
-
-pub apply_jobs-requires-clause-fit : goal.apply_jobs-requires-clause-fit
-apply_jobs-requires-clause-fit g c =
-    let b = book_view c.book.inside in
-    let seats : length c.book.inside.out.items ≡ 64 = c.book.invariant.0.lock.shape.seats in
-    let seat : c.args.seat < 64 = c.requires.seat in
-    let within : c.args.seat < length c.book.inside.out.items = omega (arith, seats, seat) in
-    let none = ap (λ v. hand_at c.args.seat v.state.hands) c.book.view_is ∙ c.requires.free c.args.seat in
-    let js = c.as_slice.result.now in
-    let listed = c.as_slice.ensures ∙ c.in_ok-jobs.ensures in
-    jobs_change g.S.Semiring.operations g.D.Direction.way b c.args.seat c.in-Some.place c.pop.new.self.items js within none c.in-Some.ensures.place listed g.S.Semiring.laws g.met.D.Direction.laws c.book.invariant.0
+    let js = jobs_of_place g.S.Semiring.operations g.D.Direction.way b.direction b.system c.in-Some.next.place c.pop.new.self.transitions in
+    let listed = ap (jobs_of_place g.S.Semiring.operations g.D.Direction.way b.direction b.system c.in-Some.next.place) c.pop.ensures.transitions in
+    jobs_change g.S.Semiring.operations g.D.Direction.way b c.args.seat c.in-Some.next.place c.pop.new.self.queue js within none c.in-Some.ensures.place listed g.S.Semiring.laws g.met.D.Direction.laws c.book.invariant.0
 
 pub invariant_of-book : goal.invariant_of-book
 invariant_of-book g c =
@@ -54,18 +42,26 @@ invariant_of-book g c =
     let seat : c.args.seat < 64 = c.requires.seat in
     let within : c.args.seat < length c.book.inside.out.items = omega (arith, seats, seat) in
     let none = ap (λ v. hand_at c.args.seat v.state.hands) c.book.view_is ∙ c.requires.free c.args.seat in
-    let js = c.as_slice.result.now in
-    let listed = c.as_slice.ensures ∙ c.in_ok-jobs.ensures in
+    let js = jobs_of_place g.S.Semiring.operations g.D.Direction.way b.direction b.system c.in-Some.next.place c.pop.new.self.transitions in
+    let listed = ap (jobs_of_place g.S.Semiring.operations g.D.Direction.way b.direction b.system c.in-Some.next.place) c.pop.ensures.transitions in
     let nobody = nobody_out c.book.inside.out.items (λ k. ap (λ v. hand_at k v.state.hands) c.book.view_is ∙ c.requires.free k) in
+    let ts = c.pop.new.self.transitions in
+    let there : AreThere ts c.book.inside.journal.events = subst (λ vs. AreThere vs c.book.inside.journal.events) (sym c.pop.ensures.transitions) c.book.invariant.3 in
+    let grows = (jobs_grow_to (g.S.Semiring.operations b.system.semiring) (g.D.Direction.way.tables b.direction b.system) js (record { transitions = c.pop.new.self; graph = c.book.inside.found.graph }) c.apply_place.new.self c.in_ok-apply_place.ensures.state) in
     let settled =
-    settled_in_place g.S.Semiring.operations g.D.Direction.way b c.args.seat c.in-Some.place c.pop.new.self.items js within none c.in-Some.ensures.place listed
-    (record { transitions = c.book.inside.found.transitions; graph = c.book.inside.found.graph; waiting = c.pop.new.self }) c.apply_jobs.new.self c.settle.new.self.events
-    refl (c.in_ok-apply_jobs.ensures.state (hands_meanwhile g.S.Semiring.operations g.D.Direction.way b c.args.seat c.in-Some.place c.pop.new.self.items js))
-    (c.settle.ensures.events ∙ ap (λ es. es ++ Settle c.args.seat ∷ []) c.in_ok-take.ensures.ok) in (
+    settled_in_place g.S.Semiring.operations g.D.Direction.way b c.args.seat c.in-Some.next.place c.pop.new.self.queue js within none c.in-Some.ensures.place listed
+    (record { transitions = c.pop.new.self; graph = c.book.inside.found.graph }) c.apply_place.new.self (events_at c.apply_place.new.self.transitions.transitions c.settle.new.self.events)
+    (ap (λ ts. (moved b ts c.pop.new.self.queue (hands_meanwhile g.S.Semiring.operations g.D.Direction.way b c.args.seat c.in-Some.next.place c.pop.new.self.queue js) []).state) c.pop.ensures.transitions) (c.in_ok-apply_place.ensures.state (hands_meanwhile g.S.Semiring.operations g.D.Direction.way b c.args.seat c.in-Some.next.place c.pop.new.self.queue js))
+    (settle_then c.apply_place.new.self.transitions.transitions c.take.new.self.events c.settle.new.self.events c.args.seat c.settle.ensures.events
+    ∙ ap (λ es. es ++ Settle c.args.seat ∷ [])
+    (events_stay ts c.apply_place.new.self.transitions.transitions grows c.take.new.self.events (take_there ts c.book.inside.journal.events c.take.new.self.events c.args.seat c.in-Some.next.number c.in-Some.next.place c.in-Some.ensures.at c.in_ok-take.ensures.ok there)
+    ∙ take_then ts c.book.inside.journal.events c.take.new.self.events c.args.seat c.in-Some.next.number c.in-Some.next.place c.in-Some.ensures.at c.in_ok-take.ensures.ok ∙ ap (λ vs. events_at vs c.book.inside.journal.events ++ Take c.args.seat c.in-Some.next.place ∷ []) c.pop.ensures.transitions)) in (
       event_keeps g.S.Semiring.operations g.S.Semiring.laws g.D.Direction.way g.met.D.Direction.laws _
-          (book_meanwhile g.S.Semiring.operations g.D.Direction.way b c.args.seat c.in-Some.place c.pop.new.self.items js within none c.in-Some.ensures.place listed g.S.Semiring.laws g.met.D.Direction.laws c.book.invariant.0) (Settle c.args.seat) _ settled,
+          (book_meanwhile g.S.Semiring.operations g.D.Direction.way b c.args.seat c.in-Some.next.place c.pop.new.self.queue js within none c.in-Some.ensures.place listed g.S.Semiring.laws g.met.D.Direction.laws c.book.invariant.0) (Settle c.args.seat) _ settled,
       record { journal = omega (arith, nobody); queue = omega (arith, nobody) },
-      c.apply_jobs.ensures.side ∙ c.book.invariant.2,
+      c.apply_place.ensures.side ∙ c.book.invariant.2,
+      settle_there c.apply_place.new.self.transitions.transitions c.take.new.self.events c.settle.new.self.events c.args.seat c.settle.ensures.events
+          (there_stay ts c.apply_place.new.self.transitions.transitions grows c.take.new.self.events (take_there ts c.book.inside.journal.events c.take.new.self.events c.args.seat c.in-Some.next.number c.in-Some.next.place c.in-Some.ensures.at c.in_ok-take.ensures.ok there)),
     )
 
 pub returns : goal.returns
@@ -75,12 +71,18 @@ returns g c =
     let seat : c.args.seat < 64 = c.requires.seat in
     let within : c.args.seat < length c.book.inside.out.items = omega (arith, seats, seat) in
     let none = ap (λ v. hand_at c.args.seat v.state.hands) c.book.view_is ∙ c.requires.free c.args.seat in
-    let js = c.as_slice.result.now in
-    let listed = c.as_slice.ensures ∙ c.in_ok-jobs.ensures in
-    let mid = meanwhile g.S.Semiring.operations g.D.Direction.way b c.args.seat c.in-Some.place c.pop.new.self.items js in
+    let js = jobs_of_place g.S.Semiring.operations g.D.Direction.way b.direction b.system c.in-Some.next.place c.pop.new.self.transitions in
+    let listed = ap (jobs_of_place g.S.Semiring.operations g.D.Direction.way b.direction b.system c.in-Some.next.place) c.pop.ensures.transitions in
+    let mid = meanwhile g.S.Semiring.operations g.D.Direction.way b c.args.seat c.in-Some.next.place c.pop.new.self.queue js in
+    let ts = c.pop.new.self.transitions in
+    let there : AreThere ts c.book.inside.journal.events = subst (λ vs. AreThere vs c.book.inside.journal.events) (sym c.pop.ensures.transitions) c.book.invariant.3 in
+    let grows = (jobs_grow_to (g.S.Semiring.operations b.system.semiring) (g.D.Direction.way.tables b.direction b.system) js (record { transitions = c.pop.new.self; graph = c.book.inside.found.graph }) c.apply_place.new.self c.in_ok-apply_place.ensures.state) in
     let settled =
-    settled_in_place g.S.Semiring.operations g.D.Direction.way b c.args.seat c.in-Some.place c.pop.new.self.items js within none c.in-Some.ensures.place listed
-    (record { transitions = c.book.inside.found.transitions; graph = c.book.inside.found.graph; waiting = c.pop.new.self }) c.apply_jobs.new.self c.settle.new.self.events
-    refl (c.in_ok-apply_jobs.ensures.state (hands_meanwhile g.S.Semiring.operations g.D.Direction.way b c.args.seat c.in-Some.place c.pop.new.self.items js))
-    (c.settle.ensures.events ∙ ap (λ es. es ++ Settle c.args.seat ∷ []) c.in_ok-take.ensures.ok) in
-    (c.in-Some.place, mid, subst (λ v. Makes g.S.Semiring.operations g.D.Direction.way v (Take c.args.seat c.in-Some.place) mid) c.book.view_is (took g.S.Semiring.operations g.D.Direction.way b c.args.seat c.in-Some.place c.pop.new.self.items js within none c.in-Some.ensures.place listed), settled)
+    settled_in_place g.S.Semiring.operations g.D.Direction.way b c.args.seat c.in-Some.next.place c.pop.new.self.queue js within none c.in-Some.ensures.place listed
+    (record { transitions = c.pop.new.self; graph = c.book.inside.found.graph }) c.apply_place.new.self (events_at c.apply_place.new.self.transitions.transitions c.settle.new.self.events)
+    (ap (λ ts. (moved b ts c.pop.new.self.queue (hands_meanwhile g.S.Semiring.operations g.D.Direction.way b c.args.seat c.in-Some.next.place c.pop.new.self.queue js) []).state) c.pop.ensures.transitions) (c.in_ok-apply_place.ensures.state (hands_meanwhile g.S.Semiring.operations g.D.Direction.way b c.args.seat c.in-Some.next.place c.pop.new.self.queue js))
+    (settle_then c.apply_place.new.self.transitions.transitions c.take.new.self.events c.settle.new.self.events c.args.seat c.settle.ensures.events
+    ∙ ap (λ es. es ++ Settle c.args.seat ∷ [])
+    (events_stay ts c.apply_place.new.self.transitions.transitions grows c.take.new.self.events (take_there ts c.book.inside.journal.events c.take.new.self.events c.args.seat c.in-Some.next.number c.in-Some.next.place c.in-Some.ensures.at c.in_ok-take.ensures.ok there)
+    ∙ take_then ts c.book.inside.journal.events c.take.new.self.events c.args.seat c.in-Some.next.number c.in-Some.next.place c.in-Some.ensures.at c.in_ok-take.ensures.ok ∙ ap (λ vs. events_at vs c.book.inside.journal.events ++ Take c.args.seat c.in-Some.next.place ∷ []) c.pop.ensures.transitions)) in
+    (c.in-Some.next.place, mid, subst (λ v. Makes g.S.Semiring.operations g.D.Direction.way v (Take c.args.seat c.in-Some.next.place) mid) c.book.view_is (took g.S.Semiring.operations g.D.Direction.way b c.args.seat c.in-Some.next.place c.pop.new.self.queue js within none c.in-Some.ensures.place listed), settled)

@@ -16,5 +16,5 @@ steps-preserved g c =
           ∙ ap (λ ls. put_all ls (with_hands c.steps.self hands)) (sym c.in-Some.ensures.items)
           ∙ c.steps.invariant.0 hands,
       step_on c.in-Some.step c.pop_front.new.self.items _ c.steps.self _ now c.lower.new.self
-          c.lower.ensures.room (ap (λ st. st.nodes) (c.lower.ensures.state [])) c.lower.ensures.spare c.lower.ensures.side c.lower.ensures.queue,
+          c.lower.ensures.room (ap (λ st. st.nodes) (c.lower.ensures.state [])) c.lower.ensures.spare c.lower.ensures.side c.lower.ensures.queue c.lower.ensures.marks,
     )

@@ -1,5 +1,5 @@
 use Rattle.std.proofs.Common.{[], ◌∷◌, ◌++◌, ap, ◌∙◌}
-use Rattle.saturation_laws.specs.declared.event.Event.TheVariants as event
+use Rattle.saturation_core.specs.JournalEvents as event
 use Rattle.saturation_core.specs.private.Records.{events_of, taken}
 use Rattle.saturation_core.proofs.RecordLemmas.{give_back_push, taken_give_back}
 use Rattle.saturation_core.proofs.journal.Journal.give_back.Goals as goal
@@ -9,6 +9,6 @@ invariant_of-self c = ap taken c.push_reserved.ensures.items ∙ taken_give_back
 
 pub returns-clause-events : goal.returns-clause-events
 returns-clause-events c =
-    ap (λ ms. events_of ms c.self.inside.places.items) c.push_reserved.ensures.items
-    ∙ give_back_push c.self.inside.marks.items c.self.inside.places.items c.self.invariant c.args.seat
+    ap (λ ms. events_of ms c.self.inside.numbers.items) c.push_reserved.ensures.items
+    ∙ give_back_push c.self.inside.marks.items c.self.inside.numbers.items c.self.invariant c.args.seat
     ∙ ap (λ j. j.events ++ event.GiveBack c.args.seat ∷ []) c.self.view_is

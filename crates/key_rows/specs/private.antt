@@ -1,0 +1,2 @@
+-- How cells are kept.
+pub mod Chains
