@@ -33,7 +33,7 @@ pub enum PatternFault {
     /// With the item there were over 1,000,000 edges.
     #[error("too many edges")]
     TooManyEdges,
-    /// No memory was left. It may stand in place of any other answer.
+    /// No memory was left, and no other cause was there.
     #[error("out of memory")]
     Memory,
 }

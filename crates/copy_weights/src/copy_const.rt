@@ -18,7 +18,8 @@ use wpds_base::OutOfMemory;
 /// The semiring of copy constants over so many variables, at most 64 (copy-constant propagation of Sagiv, Reps and
 /// Horwitz 1996, as weights: Reps, Schwoon, Jha and Melski 2005). A weight has a form for each variable, or is zero, for
 /// no run: combine takes the meet of the forms, variable by variable, and extend puts the first's forms in for the
-/// variables of the second's. Contracts see it as the number of variables.
+/// variables of the second's. Contracts see it as the number of variables. Where no more can share a weight's forms, a copy
+/// answers out of memory.
 #[derive(Clone, Copy, Debug)]
 pub struct CopyConst {
     vars: u32,

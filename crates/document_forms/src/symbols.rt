@@ -43,7 +43,7 @@ impl Symbols {
         }
     }
 
-    /// These symbols. Where they are more than two, it answers out of memory where it gets none.
+    /// These symbols. Where they are more than two, it answers out of memory where it gets none, and they are gone then.
     pub fn from_vec(alloc: Global, symbols: Vec<u32>) -> Result<Symbols, OutOfMemory>
         ensures symbols { IfOk result (λ s. s ≡ symbols.items) }
         ensures short { length symbols.items ≤ 2 → IsOk result }

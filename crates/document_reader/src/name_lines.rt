@@ -49,7 +49,8 @@ pub fn are_names(words: &Words) -> bool
     words.split_first().is_some()
 }
 
-/// Adds a word to the names of a class, if it is a name, and returns whether it stood there.
+/// Adds a word to the names of a class, if it is a name, and returns whether it stood there. After an answer out of memory
+/// the table is of no use.
 pub fn add_word<'t>(table: &mut NameTable<'t>, lexeme: Lexeme<'t>) -> Result<bool, OutOfMemory>
     ensures { IfOk result (HasAdded table.old table.new (names_in (word_of lexeme.entry ∷ []))) }
 {
@@ -61,7 +62,7 @@ pub fn add_word<'t>(table: &mut NameTable<'t>, lexeme: Lexeme<'t>) -> Result<boo
 }
 
 /// Adds the names among words to those of a class, and returns whether one stood there or stands
-/// twice.
+/// twice. After an answer out of memory the table is of no use: it has those before the one that was refused.
 pub fn add_names<'t>(table: &mut NameTable<'t>, words: &Words<'t>) -> Result<bool, OutOfMemory>
     ensures { IfOk result (HasAdded table.old table.new (names_in words.now)) }
 {

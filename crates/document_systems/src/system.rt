@@ -56,7 +56,7 @@ fn add_line<S: DocumentWeights>(
     }
 }
 
-/// The system of a document's rules, over a semiring that takes them.
+/// The system of a document's rules, over a semiring that takes them. After an answer out of memory the semiring is gone.
 pub fn system_from<S: DocumentWeights>(
     alloc: Global,
     semiring: S,

@@ -123,8 +123,8 @@ fn read_call<'t>(
     Ok(call(targets, tables.proc(callee), arguments))
 }
 
-/// Reads a statement in the procedure that is the last of so many that began; nothing where the
-/// text says none.
+/// Reads a statement in the procedure that is the last of so many that began. What it gives for a text that
+/// says none is not told.
 ///
 /// It answers out of memory where it gets none.
 pub fn read_statement<'t>(

@@ -140,7 +140,7 @@ impl Place {
     }
 
     /// Goes behind a line with this text, which may stand here. It answers out of memory where it
-    /// gets none for an open block.
+    /// gets none for an open block, and the place is of no use then.
     pub fn advance(&mut self, text: &LineText<'_>) -> Result<(), OutOfMemory>
         ensures { (f : LineForm) → line_said text.now ≡ Some f
             → IfOk result (λ _. self.new ≡ next_place self.old f) }

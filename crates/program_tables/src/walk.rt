@@ -31,7 +31,7 @@ fn walk_line<'t>(
     }
 }
 
-/// Reads what the lines behind the header declare, all together.
+/// Reads what the lines behind the header declare, all together. After an answer out of memory the lines are gone.
 pub fn read_tables<'t>(alloc: Global, mut lines: Lines<'t>) -> Result<Tables<'t>, OutOfMemory>
     ensures { IfOk result
         (AreTablesOf (whole (stated (judged_from at_top (map said lines.entry.lines))))) }

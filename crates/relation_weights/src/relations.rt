@@ -29,6 +29,7 @@ const OR: u8 = 14;
 ///
 /// Extending by zero or the identity, combining with zero or an equal relation, and a return map that changes nothing
 /// share an operand, and make no operation on diagrams. That zero or an equal relation lowers nothing is told before any.
+/// Where no more can share a relation, a copy answers out of memory.
 #[derive(Clone, Copy, Debug)]
 pub struct Relations {
     n: u32,

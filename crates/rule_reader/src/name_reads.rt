@@ -29,7 +29,7 @@ impl NamesRead {
         }
     }
 
-    /// Adds a name by its number.
+    /// Adds a name by its number. After an answer out of memory these names are of no use.
     pub fn add(&mut self, table: &NameTable<'_>, name: &[u8]) -> Result<(), OutOfMemory>
         ensures { (names : List (List ℕ)) → AreNumbersRead table.now names self.old
             → IfOk result (λ _. AreNumbersRead table.now (names ++ name.now ∷ []) self.new) }
@@ -84,7 +84,7 @@ impl<'t> NamesOnce<'t> {
         }
     }
 
-    /// Adds a name.
+    /// Adds a name. After an answer out of memory these names are of no use.
     pub fn add(&mut self, name: &'t [u8]) -> Result<(), OutOfMemory>
         ensures { (names : List (List ℕ)) → HasNames names self.old
             → IfOk result (λ _. HasNames (names ++ name.now ∷ []) self.new) }
@@ -94,7 +94,7 @@ impl<'t> NamesOnce<'t> {
         Ok(())
     }
 
-    /// Adds the names with which words begin.
+    /// Adds the names with which words begin. After an answer out of memory these names are of no use.
     pub fn add_names(&mut self, words: &Words<'t>) -> Result<(), OutOfMemory>
         ensures { (names : List (List ℕ)) → HasNames names self.old
             → IfOk result (λ _. HasNames (names ++ names_in_front words.now) self.new) }

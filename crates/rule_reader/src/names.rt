@@ -101,7 +101,7 @@ impl<'t> NameTable<'t> {
         Ok(copy)
     }
 
-    /// The names as texts of their own, each copied once.
+    /// The names as texts of their own, each copied once. After an answer out of memory the table is gone.
     pub fn into_names(self, alloc: Global) -> Result<Sequence<Text>, OutOfMemory>
         ensures { IfOk result (λ names. names ≡ self.entry) }
     {

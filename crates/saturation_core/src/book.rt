@@ -55,7 +55,7 @@ impl<'s, S: Semiring, D: Direction<S>> Model for Book<'s, S, D> {
 
 impl<'s, S: Semiring, D: Direction<S>> Book<'s, S, D> {
     /// A saturation that begins with these edges, each of weight one, and backwards with a transition for each pop rule.
-    /// Every transition waits, and no hand is out. It is refused only when out of memory.
+    /// Every transition waits, and no hand is out. It is refused only when out of memory, and then what it was given is gone.
     pub fn open(
         alloc: Global,
         system: &'s System<S>,

@@ -51,7 +51,7 @@ pub trait Direction<S: Semiring>: Copy {
         ensures { IfOk result (λ w. w ≡ ((way).tables self.now system.now).candidate job.now) };
 
     /// What the transition's jobs change, in their order, behind what is there. A direction may work it out from where the
-    /// inputs stand, without copies of them.
+    /// inputs stand, without copies of them. After an answer out of memory `into` is of no use.
     fn changes(
         &self,
         alloc: Global,

@@ -25,7 +25,7 @@ impl<S: Semiring> Model for SharedJobs<S> {
 }
 
 impl<S: Semiring> SharedJobs<S> {
-    /// These jobs, to be shared. It takes memory for the count alone.
+    /// These jobs, to be shared. It takes memory for the count alone; after an answer out of memory the jobs are gone.
     pub fn new(alloc: Global, jobs: JobList<S>) -> Result<SharedJobs<S>, OutOfMemory>
         ensures { IfOk result (λ s. s ≡ jobs) }
     {
@@ -40,7 +40,7 @@ impl<S: Semiring> SharedJobs<S> {
         &self.jobs
     }
 
-    /// The same jobs, shared.
+    /// The same jobs, shared. It answers out of memory where no more can share them.
     pub fn share(&self) -> Result<SharedJobs<S>, OutOfMemory>
         ensures { IfOk result (λ s. s ≡ self.now) }
     {

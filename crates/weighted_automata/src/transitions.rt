@@ -182,7 +182,7 @@ impl<S: Semiring> Transitions<S> {
     }
 
     /// Replaces the weight and the node of a place, or adds the place last, and says where it stands.
-    /// It is refused only when out of memory, and never at a place that has a transition or room.
+    /// It is refused only when out of memory, and never at a place that has a transition or room. The weight is gone then.
     pub fn lower(
         &mut self,
         _alloc: Global,

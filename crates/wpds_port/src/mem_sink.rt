@@ -38,7 +38,7 @@ impl Model for MemSink {
 
 impl MemSink {
     /// A sink that takes `room` bytes in all, `piece` at a time. The calls of the numbers in `fails`,
-    /// from 0, fail; writes and flushes are counted together.
+    /// from 0, fail; writes and flushes are counted together. After an answer out of memory `fails` is gone.
     pub fn new(
         alloc: Global,
         room: usize,

@@ -34,6 +34,7 @@ impl<'t> Model for Pieces<'t> {
 }
 
 impl<'t> Pieces<'t> {
+    /// The pieces of words, none taken yet.
     pub fn new(cut: Cut, words: &Words<'t>) -> Pieces<'t>
         ensures { result ≡ pieces_of cut words.now }
     {
@@ -43,9 +44,10 @@ impl<'t> Pieces<'t> {
         }
     }
 
-    /// The next piece, if there is one.
+    /// The next piece, if there is one. Behind the last there is none, however often it is asked for.
     pub fn next(&mut self) -> Option<Words<'t>>
-        ensures { MatchOption result (self.old ≡ []) (λ piece. self.old ≡ piece ∷ self.new) }
+        ensures piece { MatchOption result (self.old ≡ []) (λ piece. self.old ≡ piece ∷ self.new) }
+        ensures none { self.old ≡ [] → self.new ≡ [] }
     {
         match self.left.take() {
             Some(words) => {
