@@ -4,6 +4,8 @@
 #[cfg(test)]
 mod locks;
 #[cfg(test)]
+mod parts;
+#[cfg(test)]
 mod short;
 #[cfg(test)]
 mod workers;
