@@ -45,7 +45,8 @@ fn system_of(
     plans_are_made::<Relations>();
     let making = Making::new(alloc, program, table)?;
     let symbols = table.len() as u32;
-    let mut system = System::new(alloc, making.relations, 1, symbols);
+    let relations = Relations::keeping_results(alloc, making.layout.variables());
+    let mut system = System::new(alloc, relations, 1, symbols);
     add_lines(alloc, &making, &mut system, spots)?;
     Ok(system)
 }

@@ -2,3 +2,4 @@
 pub mod Diagrams
 pub mod Frames
 pub mod Moves
+pub mod Steps

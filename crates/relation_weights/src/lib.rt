@@ -9,6 +9,7 @@ mod laws;
 mod rel_map;
 mod relation;
 mod relations;
+mod results;
 mod returns;
 
 pub use actions::Value;

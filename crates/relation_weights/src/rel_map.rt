@@ -31,7 +31,8 @@ impl RelMap {
     }
 }
 
-fn are_same(a: &[Slot], b: &[Slot]) -> bool
+/// Whether two lists of slots are equal.
+pub(crate) fn are_same(a: &[Slot], b: &[Slot]) -> bool
     ensures { IsTrue result ↔ (a.now ≡ b.now) }
 {
     a == b

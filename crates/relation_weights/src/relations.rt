@@ -5,13 +5,16 @@ ghost use Rattle.truth_tables.specs.Formulas.{formula, is_over};
 ghost use Rattle.relation_laws.specs.Relations.{relation_of, identity, leads, union, composition};
 ghost use Rattle.relation_weights.specs.Actions as spec;
 ghost use Rattle.relation_weights.specs.Actions.{frame_pairs, AreTargets};
-ghost use Rattle.relation_weights.specs.Relations.{relation_operations, relation_fits};
+ghost use Rattle.relation_weights.specs.Relations.{relation_operations, relation_fits, after_of, map_fits};
+ghost use Rattle.relation_weights.specs.declared.rel_map.RelMap.TheVariants.{Slots};
+ghost use Rattle.relation_weights.specs.private.Steps.{result_of};
 ghost use Rattle.relation_weights.specs.RelationLaws.{relation_laws};
 
 use crate::actions::{assigned, assumed};
 use crate::frames::frame;
+use crate::results::{OfPair, OfReturn, Results, Step};
 use crate::returns::returned;
-use crate::{RelMap, Relation, Value};
+use crate::{RelMap, Relation, Slot, Value};
 use diagram_ops::{apply_table2, compose_relations};
 use diagram_store::Diagram;
 use semiring_laws::Semiring;
@@ -30,9 +33,11 @@ const OR: u8 = 14;
 /// Extending by zero or the identity, combining with zero or an equal relation, and a return map that changes nothing
 /// share an operand, and make no operation on diagrams. That zero or an equal relation lowers nothing is told before any.
 /// Where no more can share a relation, a copy answers out of memory.
-#[derive(Clone, Copy, Debug)]
+#[derive(Drop)]
 pub struct Relations {
     n: u32,
+    // Results of operations that were made, where they are kept.
+    results: Option<Results>,
 }
 
 impl Model for Relations {
@@ -44,8 +49,6 @@ impl Model for Relations {
     ghost view = { λ r. r.n };
 
     ghost invariant = { λ r. r.n ≤ most_related };
-
-    ghost inverse = { λ n. record { n = n } };
 }
 
 impl Relations {
@@ -54,7 +57,19 @@ impl Relations {
         requires { n ≤ most_related }
         ensures { result ≡ n }
     {
-        Relations { n }
+        Relations { n, results: None }
+    }
+
+    /// The same, but results of operations are kept, for when an operation comes again. Where there is no memory for a
+    /// table of them, none is kept.
+    pub fn keeping_results(alloc: Global, n: u32) -> Relations
+        requires { n ≤ most_related }
+        ensures { result ≡ n }
+    {
+        Relations {
+            n,
+            results: Results::new(alloc).ok(),
+        }
     }
 
     /// The assignment of these targets. All values are taken in the old state, and the other numbers stay.
@@ -86,6 +101,66 @@ impl Relations {
     {
         let made = frame(alloc, self.n, vars)?;
         Relation::new(alloc, made)
+    }
+
+    // What a step makes of two relations: what was kept, or else what is made now, to be kept.
+    fn result(
+        &self,
+        alloc: Global,
+        step: Step,
+        a: &Relation,
+        b: &Relation,
+    ) -> Result<Relation, OutOfMemory>
+        requires left { IsTrue (relation_fits self.now a.now) }
+        requires right { IsTrue (relation_fits self.now b.now) }
+        ensures { IfOk result (λ w. w ≡ result_of self.now step a.now b.now) }
+    {
+        let n = self.n;
+        let Some(results) = &self.results else {
+            return made_by(alloc, n, step, a, b);
+        };
+        if let Some(kept) = results.of_pair(n, step, a, b)? {
+            return Ok(kept);
+        }
+        let result = made_by(alloc, n, step, a, b)?;
+        let made = OfPair {
+            n,
+            step,
+            a: a.share()?,
+            b: b.share()?,
+            result: result.share()?,
+        };
+        results.keep_pair(alloc, made);
+        Ok(result)
+    }
+
+    // What is returned by these slots: what was kept, or else what is made now, to be kept.
+    fn result_of_return(
+        &self,
+        alloc: Global,
+        slots: &[Slot; 24],
+        of: &Relation,
+    ) -> Result<Relation, OutOfMemory>
+        requires slots { IsTrue (map_fits self.now (Slots slots.now)) }
+        requires weight { IsTrue (relation_fits self.now of.now) }
+        ensures { IfOk result (λ w. w ≡ after_of self.now (Slots slots.now) of.now) }
+    {
+        let n = self.n;
+        let Some(results) = &self.results else {
+            return returned(alloc, n, slots, of);
+        };
+        if let Some(kept) = results.of_return(n, slots, of)? {
+            return Ok(kept);
+        }
+        let result = returned(alloc, n, slots, of)?;
+        let made = OfReturn {
+            n,
+            slots: *slots,
+            of: of.share()?,
+            result: result.share()?,
+        };
+        results.keep_return(alloc, made);
+        Ok(result)
     }
 }
 
@@ -130,6 +205,24 @@ fn composed(alloc: Global, n: u32, a: &Relation, b: &Relation) -> Result<Relatio
     Relation::new(alloc, made)
 }
 
+// What a step makes of two relations, by the operation on diagrams.
+fn made_by(
+    alloc: Global,
+    n: u32,
+    step: Step,
+    a: &Relation,
+    b: &Relation,
+) -> Result<Relation, OutOfMemory>
+    requires left { IsTrue (relation_fits n a.now) }
+    requires right { IsTrue (relation_fits n b.now) }
+    ensures { IfOk result (λ w. w ≡ result_of n step a.now b.now) }
+{
+    match step {
+        Step::Union => united(alloc, n, a, b),
+        Step::Composition => composed(alloc, n, a, b),
+    }
+}
+
 impl Semiring for Relations {
     type W = Relation;
 
@@ -158,7 +251,7 @@ impl Semiring for Relations {
         if a.is_same(b) {
             return a.share();
         }
-        united(alloc, self.n, a, b)
+        self.result(alloc, Step::Union, a, b)
     }
 
     fn extend(&self, alloc: Global, a: &Relation, b: &Relation) -> Result<Relation, OutOfMemory> {
@@ -174,7 +267,7 @@ impl Semiring for Relations {
         if is_identity(alloc, self.n, b)? {
             return a.share();
         }
-        composed(alloc, self.n, a, b)
+        self.result(alloc, Step::Composition, a, b)
     }
 
     fn lowered(
@@ -190,7 +283,7 @@ impl Semiring for Relations {
             let weight = weight.share()?;
             return Ok(Some(weight));
         }
-        let sum = united(alloc, self.n, old, weight)?;
+        let sum = self.result(alloc, Step::Union, old, weight)?;
         if sum.is_same(old) {
             return Ok(None);
         }
@@ -204,7 +297,7 @@ impl Semiring for Relations {
     fn after(&self, alloc: Global, map: &RelMap, w: &Relation) -> Result<Relation, OutOfMemory> {
         match map {
             RelMap::Plain => w.share(),
-            RelMap::Slots(slots) => returned(alloc, self.n, slots, w),
+            RelMap::Slots(slots) => self.result_of_return(alloc, slots, w),
         }
     }
 

@@ -321,7 +321,8 @@ fn relations_report<H: Threads + Wait + Sync, G: Gate>(
         IfOk result (IsReported relation_kind options variables document.now) }
 {
     let variables = document.items.len() as u32;
-    report_over(crew, alloc, Relations::new(variables), document, options)
+    let relations = Relations::keeping_results(alloc, variables);
+    report_over(crew, alloc, relations, document, options)
 }
 
 /// The report on a document, over the semiring that its weights name.

@@ -1,6 +1,5 @@
-use Rattle.std.proofs.Common.{◌≡◌, ◌∙◌, sym, ap, subst, Some}
+use Rattle.std.proofs.Common.{◌≡◌, ◌∙◌, sym, ap, Some}
 use Rattle.semiring_laws.specs.LoweringLaws.{lowered-none, lowered-some}
-use Rattle.relation_laws.specs.Relations.{leads, relation_of, union}
 use Rattle.relation_weights.specs.Relations.{relation_operations}
 use Rattle.relation_weights.specs.RelationLaws.{fits_in, relation_laws}
 use Rattle.relation_weights.proofs.OperationLemmas.{combine-empty_left, combine-empty_right, combine-equal}
@@ -38,7 +37,7 @@ returns-then-is_same-2 c =
     let n = c.args.self.now in
     let old = c.args.old.now in
     let weight = c.args.weight.now in
-    let is = subst (λ m. c.in_ok-sum.sum ≡ relation_of m (union (leads old) (leads weight))) c.self.view_is c.in_ok-sum.ensures in
+    let is : c.in_ok-sum.sum ≡ (relation_operations n).combine old weight = c.in_ok-sum.ensures in
     sym (lowered-none (relation_operations n) (relation_laws n) old weight c.requires.old c.requires.weight (sym is ∙ c.is_same-2.ensures.0 c.if-is_same-2.true))
 
 pub returns : goal.returns
@@ -46,7 +45,7 @@ returns c =
     let n = c.args.self.now in
     let old = c.args.old.now in
     let weight = c.args.weight.now in
-    let is = subst (λ m. c.in_ok-sum.sum ≡ relation_of m (union (leads old) (leads weight))) c.self.view_is c.in_ok-sum.ensures in
+    let is : c.in_ok-sum.sum ≡ (relation_operations n).combine old weight = c.in_ok-sum.ensures in
     ap Some is
     ∙ sym (lowered-some (relation_operations n) (relation_laws n) old weight c.requires.old c.requires.weight (λ e.
     let same = c.is_same-2.ensures.1 (is ∙ e) in
