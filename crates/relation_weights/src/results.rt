@@ -1,5 +1,5 @@
 //! Results that are kept for when the same operation comes again.
-ghost use Rattle.std.specs.Prelude.{◌≡◌, IfOk, IfSome};
+ghost use Rattle.std.specs.Prelude.{◌≡◌, IfOk, IfSome, IsTrue};
 ghost use Rattle.relation_weights.specs.Relations.{after_of};
 ghost use Rattle.relation_weights.specs.private.Steps.{result_of};
 ghost use Rattle.relation_weights.specs.declared.rel_map.RelMap.TheVariants.{Slots};
@@ -11,9 +11,12 @@ use std::alloc::Global;
 use wpds_base::OutOfMemory;
 
 // How many results are kept at most: of unions and compositions, and of return maps.
-const MOST_OF_PAIRS: usize = 32_768;
+const MOST_OF_PAIRS: usize = 65_536;
 
 const MOST_OF_RETURNS: usize = 4_096;
+
+// How many places a mark gives, one behind the other.
+const TRIES: u64 = 4;
 
 /// What is made of two relations.
 #[derive(Clone, Copy, Debug, PartialEq, Eq)]
@@ -33,6 +36,15 @@ pub(crate) struct OfPair {
     pub(crate) ghost right: { result ≡ result_of n step a b },
 }
 
+impl OfPair {
+    // Whether this is what a step makes of two relations over so many bits.
+    fn is_of(&self, n: u32, step: Step, a: &Relation, b: &Relation) -> bool
+        ensures { IsTrue result → self.now.result ≡ result_of n step a.now b.now }
+    {
+        self.n == n && self.step == step && self.a.is_same(a) && self.b.is_same(b)
+    }
+}
+
 /// A relation over so many bits, and what is returned of it by these slots.
 #[derive(Drop)]
 pub(crate) struct OfReturn {
@@ -43,8 +55,17 @@ pub(crate) struct OfReturn {
     pub(crate) ghost right: { result ≡ after_of n (Slots slots) of },
 }
 
-/// Results, each at the place that its mark gives, for good: what finds its place taken is not kept. Any thread may look one
-/// up and add one, and none waits for another.
+impl OfReturn {
+    // Whether this is what is returned of a relation over so many bits, by these slots.
+    fn is_of(&self, n: u32, slots: &[Slot; 24], of: &Relation) -> bool
+        ensures { IsTrue result → self.now.result ≡ after_of n (Slots slots.now) of.now }
+    {
+        self.n == n && are_same(&self.slots, slots) && self.of.is_same(of)
+    }
+}
+
+/// Results, each at a place that its mark gives, for good: what finds these places taken is not kept. Any thread may look
+/// one up and add one, and none waits for another.
 #[derive(Drop)]
 pub(crate) struct Results {
     pairs: Vec<OnceBox<OfPair>>,
@@ -70,13 +91,14 @@ impl Results {
     ) -> Result<Option<Relation>, OutOfMemory>
         ensures { IfOk result (λ r. IfSome r (λ w. w ≡ result_of n step a.now b.now)) }
     {
-        match at(&self.pairs, mark_of_pair(step, a, b)) {
-            Some(kept)
-                if kept.n == n && kept.step == step && kept.a.is_same(a) && kept.b.is_same(b) => {
-                Ok(Some(kept.result.share()?))
+        let mark = mark_of_pair(step, a, b);
+        for turn in 0..TRIES {
+            match at(&self.pairs, mark.wrapping_add(turn)) {
+                Some(kept) if kept.is_of(n, step, a, b) => return Ok(Some(kept.result.share()?)),
+                _ => (),
             }
-            _ => Ok(None),
         }
+        Ok(None)
     }
 
     /// What was returned of a relation, if it is kept.
@@ -88,12 +110,14 @@ impl Results {
     ) -> Result<Option<Relation>, OutOfMemory>
         ensures { IfOk result (λ r. IfSome r (λ w. w ≡ after_of n (Slots slots.now) of.now)) }
     {
-        match at(&self.returns, mark_of(of)) {
-            Some(kept) if kept.n == n && are_same(&kept.slots, slots) && kept.of.is_same(of) => {
-                Ok(Some(kept.result.share()?))
+        let mark = mark_of(of);
+        for turn in 0..TRIES {
+            match at(&self.returns, mark.wrapping_add(turn)) {
+                Some(kept) if kept.is_of(n, slots, of) => return Ok(Some(kept.result.share()?)),
+                _ => (),
             }
-            _ => Ok(None),
         }
+        Ok(None)
     }
 
     /// Keeps what was made of two relations, where there is a place and memory for it.
@@ -124,11 +148,19 @@ fn at<T>(places: &[OnceBox<T>], mark: u64) -> Option<&T> {
     place.get()
 }
 
-// Keeps a result at the place of its mark, where that is empty and there is memory.
+// Keeps a result at the first place of its mark that is empty, where there is memory.
 fn keep<T: Drop>(alloc: Global, places: &[OnceBox<T>], mark: u64, made: T) {
-    if let Some(place) = places.get(place_of(mark, places.len())) {
-        if let Ok(boxed) = Box::new(alloc, made) {
-            let _refused = place.set(boxed);
+    let Ok(mut left) = Box::new(alloc, made) else {
+        return;
+    };
+    for turn in 0..TRIES {
+        if let Some(place) = places.get(place_of(mark.wrapping_add(turn), places.len())) {
+            match place.set(left) {
+                Ok(()) => return,
+                Err(refused) => left = refused,
+            }
+        } else {
+            return;
         }
     }
 }
@@ -140,27 +172,27 @@ fn place_of(mark: u64, count: usize) -> usize {
 
 // A number that tells most operands apart.
 fn mark_of_pair(step: Step, a: &Relation, b: &Relation) -> u64 {
-    let both = mixed(mark_of(a), mark_of(b));
-    match step {
-        Step::Union => both,
-        Step::Composition => mixed(both, 1),
-    }
+    let first = match step {
+        Step::Union => mixed(mark_of(a), 1),
+        Step::Composition => mixed(mark_of(a), 2),
+    };
+    let both = mixed(first, mark_of(b));
+    both ^ (both / 0x1_0000_0000)
 }
 
-// A number that tells most relations apart.
+// A number that tells most relations apart: a sum of products, and its upper half folded (Knuth 1998, section 6.4).
 fn mark_of(w: &Relation) -> u64 {
     let mut mark = w.diagram().root;
     for node in w.diagram().nodes() {
-        let branches = mixed(node.low, node.high);
-        mark = mixed(mark ^ u64::from(node.var), branches);
+        let low = node.low.wrapping_mul(0xBF58_476D_1CE4_E5B9);
+        let high = node.high.wrapping_mul(0x94D0_49BB_1331_11EB);
+        let branches = low.wrapping_add(high).wrapping_add(u64::from(node.var));
+        mark = mixed(mark, branches);
     }
-    mark
+    mark ^ (mark / 0x1_0000_0000)
 }
 
-// Two numbers mixed by a multiplication and a fold of its upper half (Knuth 1998, section 6.4).
+// Two numbers mixed by a multiplication.
 fn mixed(one: u64, other: u64) -> u64 {
-    let product = (one.wrapping_add(1) ^ other.wrapping_mul(0x9E37_79B9_7F4A_7C15)).wrapping_mul(
-        0xD6E8_FEB8_6659_FD93,
-    );
-    product ^ (product / 0x1_0000_0000)
+    (one ^ other).wrapping_mul(0x9E37_79B9_7F4A_7C15)
 }
