@@ -17,5 +17,5 @@ loop-piece-preserved c =
       done ++ a ∷ [],
       c.in_ok-add-in-Some-2.ensures c.args.items.now done a c.loop-piece.invariant.1 read.2,
       piece_more action_of ActionsForm (relation_of c.args.words.now) done c.loop-piece.pieces c.in-Some.piece c.next.new.self a
-          c.loop-piece.invariant.2 c.in-Some.ensures read.1,
+          c.loop-piece.invariant.2 c.in-Some.ensures.piece read.1,
     )

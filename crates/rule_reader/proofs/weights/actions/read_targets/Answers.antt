@@ -15,5 +15,5 @@ loop-piece-preserved c =
       done ++ x ∷ [],
       c.in_ok-add-in-Some-only_name.ensures done c.loop-piece.invariant.1,
       piece_more target_of (λ xs. xs) (each target_of (parted is_comma c.args.words.now)) done c.loop-piece.pieces c.in-Some.piece c.next.new.self x
-          c.loop-piece.invariant.2 c.in-Some.ensures c.in-Some-only_name.ensures,
+          c.loop-piece.invariant.2 c.in-Some.ensures.piece c.in-Some-only_name.ensures,
     )

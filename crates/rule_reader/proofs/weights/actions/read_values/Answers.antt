@@ -16,5 +16,5 @@ loop-piece-preserved c =
       done ++ v ∷ [],
       c.in_ok-add-in-Some-2.ensures c.args.items.now done v c.loop-piece.invariant.1 read.2,
       piece_more value_of (λ vs. vs) (each value_of (parted_outside 0 is_comma c.args.words.now)) done c.loop-piece.pieces c.in-Some.piece c.next.new.self v
-          c.loop-piece.invariant.2 c.in-Some.ensures read.1,
+          c.loop-piece.invariant.2 c.in-Some.ensures.piece read.1,
     )
