@@ -8,12 +8,17 @@ use crate::rel_map::are_same;
 use crate::{Relation, Slot};
 use once_cell::race::OnceBox;
 use std::alloc::Global;
+use std::sync::atomic::AtomicU64;
+use std::sync::atomic::Ordering::SeqCst;
 use wpds_base::OutOfMemory;
 
 // How many results are kept at most: of unions and compositions, and of return maps.
 const MOST_OF_PAIRS: usize = 65_536;
 
 const MOST_OF_RETURNS: usize = 4_096;
+
+// How many nodes the kept relations have at most, each relation counted as often as it is kept: 24 MiB of nodes.
+const MOST_NODES: u64 = 1_048_576;
 
 // How many places a mark gives, one behind the other.
 const TRIES: u64 = 4;
@@ -70,6 +75,8 @@ impl OfReturn {
 pub(crate) struct Results {
     pairs: Vec<OnceBox<OfPair>>,
     returns: Vec<OnceBox<OfReturn>>,
+    // How many nodes the relations have that were to be kept.
+    nodes: AtomicU64,
 }
 
 impl Results {
@@ -78,6 +85,7 @@ impl Results {
         Ok(Results {
             pairs: empty_places(alloc, MOST_OF_PAIRS)?,
             returns: empty_places(alloc, MOST_OF_RETURNS)?,
+            nodes: AtomicU64::new(0),
         })
     }
 
@@ -120,16 +128,33 @@ impl Results {
         Ok(None)
     }
 
-    /// Keeps what was made of two relations, where there is a place and memory for it.
+    /// Keeps what was made of two relations, where there is room for their nodes, a place and memory.
     pub(crate) fn keep_pair(&self, alloc: Global, made: OfPair) {
-        let mark = mark_of_pair(made.step, &made.a, &made.b);
-        keep(alloc, &self.pairs, mark, made);
+        if self.takes(&[&made.a, &made.b, &made.result]) {
+            let mark = mark_of_pair(made.step, &made.a, &made.b);
+            keep(alloc, &self.pairs, mark, made);
+        }
     }
 
-    /// Keeps what was returned of a relation, where there is a place and memory for it.
+    /// Keeps what was returned of a relation, where there is room for their nodes, a place and memory.
     pub(crate) fn keep_return(&self, alloc: Global, made: OfReturn) {
-        let mark = mark_of(&made.of);
-        keep(alloc, &self.returns, mark, made);
+        if self.takes(&[&made.of, &made.result]) {
+            let mark = mark_of(&made.of);
+            keep(alloc, &self.returns, mark, made);
+        }
+    }
+
+    // Whether there is room for the nodes of these relations. They are counted as kept then.
+    fn takes(&self, relations: &[&Relation]) -> bool {
+        let mut more = 0u64;
+        for relation in relations {
+            more = more.saturating_add(relation.diagram().nodes().len() as u64);
+        }
+        if self.nodes.load(SeqCst).saturating_add(more) > MOST_NODES {
+            return false;
+        }
+        self.nodes.fetch_add(more, SeqCst);
+        true
     }
 }
 
