@@ -17,8 +17,8 @@ const MOST_OF_PAIRS: usize = 65_536;
 
 const MOST_OF_RETURNS: usize = 4_096;
 
-// How many nodes the kept relations have at most, each relation counted as often as it is kept: 24 MiB of nodes.
-const MOST_NODES: u64 = 1_048_576;
+// How many nodes the kept relations have at most, each relation counted as often as it is kept: 96 MiB of nodes.
+const MOST_NODES: u64 = 4_194_304;
 
 // How many places a mark gives, one behind the other.
 const TRIES: u64 = 4;
