@@ -15,6 +15,7 @@ pub struct MeetingGate {
 }
 
 impl MeetingGate {
+    /// A gate that nobody has called.
     pub fn new() -> MeetingGate {
         MeetingGate {
             zero: AtomicU64::new(0),
@@ -63,12 +64,14 @@ pub struct CountingGate {
 }
 
 impl CountingGate {
+    /// A gate that nobody has called.
     pub fn new() -> CountingGate {
         CountingGate {
             calls: AtomicU64::new(0),
         }
     }
 
+    /// How often it was called.
     pub fn calls(&self) -> u64 {
         self.calls.load(Ordering::SeqCst)
     }
