@@ -8,7 +8,8 @@ use Rattle.boolean_programs.specs.declared.point.Point.{Point}
 use Rattle.boolean_programs.specs.Programs.{Program, program_of}
 use Rattle.lowering_laws.specs.Lowering.{variables, plan}
 use Rattle.lowering_laws.specs.Weights.{slots_of}
-use Rattle.boolean_lowering.specs.private.Made.{IsFor, AreAdded}
+use Rattle.boolean_lowering.specs.private.Made.{IsFor, AreAdded, program_in}
+use Rattle.boolean_lowering.proofs.LayoutLemmas.{variables_same}
 use Rattle.boolean_lowering.proofs.TableLemmas.{points_long, lowering_made}
 use Rattle.boolean_lowering.proofs.lowering.system_of.Goals as goal
 
@@ -24,10 +25,11 @@ pub returns : goal.returns
 returns c =
     let p = program_of c.args.program.now in
     let program = c.in_ok-making.ensures.program in
-    let none : Pushdown ℕ Parts RelMap = record { semiring = c.in_ok-making.making.relations; controls = 1; symbols = c.len-symbols.result; rules = [] } in
+    let none : Pushdown ℕ Parts RelMap = record { semiring = c.keeping_results-relations.result; controls = 1; symbols = c.len-symbols.result; rules = [] } in
     let new = c.add_lines.new.system in
     let is : IsFor p none = record {
-      semiring = c.in_ok-making.ensures.making.relations ∙ ap variables program;
+      semiring = c.keeping_results-relations.ensures ∙ c.variables.ensures.value
+        ∙ variables_same (program_in c.in_ok-making.making) c.in_ok-making.making.layout c.in_ok-making.ensures.making.layout ∙ ap variables program;
       controls = refl;
       symbols_are = c.len-symbols.ensures.value ∙ ap (λ (ps : List Point). length ps) c.requires.table ∙ points_long p;
     } in
