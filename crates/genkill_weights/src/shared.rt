@@ -4,7 +4,7 @@ ghost use Rattle.genkill_weights.specs.declared.weight.MaskMap.TheVariants.{Rest
 ghost use Rattle.genkill_weights.specs.GenKill.{genkill_operations, united, followed, after_of};
 
 use crate::GenKillW;
-use crate::masks::{either, generated, has_all, is_each, is_in, kept, not_in};
+use crate::masks::{either, generated, has_all, is_each, is_in, is_same, kept, not_in};
 use std::alloc::Global;
 use std::marker::Model;
 use std::sync::Arc;
@@ -168,7 +168,7 @@ impl<const N: usize> SharedGenKill<N> {
     {
         match (&self.masks, &other.masks) {
             (None, None) => true,
-            (Some(a), Some(b)) => a.keep == b.keep && a.gens == b.gens,
+            (Some(a), Some(b)) => is_same(&a.keep, &b.keep) && is_same(&a.gens, &b.gens),
             _ => false,
         }
     }

@@ -1,16 +1,15 @@
-use Rattle.std.proofs.Common.{arith, bit_or, sym, ap, ◌∙◌, refl}
+use Rattle.std.proofs.Common.{arith, refl, bit_or, get_or}
 use Rattle.genkill_weights.specs.Masks.{word}
-use Rattle.genkill_weights.specs.private.MaskLaws.{tabulate_is, word_tabulate}
+use Rattle.genkill_weights.proofs.FoldLemmas.{none_apart, none_apart_more, told_by_words}
 use Rattle.genkill_weights.proofs.masks.has_all.Goals as goal
 
-pub returns-then-a-i : goal.returns-then-a-i
-unfolding word
-returns-then-a-i g c = (
-  λ e. cc,
-  λ same.
-      absurd (c.if-a-i.true (sym (word_tabulate g.row.N (λ i. bit_or (word c.args.a.now i) (word c.args.b.now i)) c.loop-i.i c.loop-i-test.true) ∙ ap (λ m. word m c.loop-i.i) same)),
-)
+pub loop-i-init : goal.loop-i-init
+loop-i-init g c = none_apart 0 (λ k. bit_or (get_or c.args.a.now k 0) (get_or c.args.b.now k 0)) (λ k. get_or c.args.a.now k 0) refl
+
+pub loop-i-preserved : goal.loop-i-preserved
+loop-i-preserved g c =
+    none_apart_more c.loop-i.i c.loop-i.missing (λ k. bit_or (get_or c.args.a.now k 0) (get_or c.args.b.now k 0)) (λ k. get_or c.args.a.now k 0) c.loop-i.invariant
 
 pub returns : goal.returns
 unfolding word
-returns g c = (λ _. sym (tabulate_is g.row.N (λ i. bit_or (word c.args.a.now i) (word c.args.b.now i)) c.args.a.now c.told-a (λ i b. sym (c.loop-i.invariant i (omega arith)))), λ _. refl)
+returns g c = told_by_words g.row.N c.loop-i.i c.loop-i.missing (λ k. bit_or (word c.args.a.now k) (word c.args.b.now k)) c.args.a.now c.told-a (omega arith) c.loop-i.invariant
