@@ -1,7 +1,7 @@
-ghost use Rattle.std.specs.Prelude.{◌≡◌, ◌↔◌, IsTrue, IsOk, IfOk};
+ghost use Rattle.std.specs.Prelude.{◌≡◌, ◌↔◌, ◌<◌, ◌^◌, IsTrue, IsOk, IfOk};
 ghost use Rattle.genkill_weights.specs.declared.weight.GenKillW.TheVariants.{Zero, Map};
 ghost use Rattle.genkill_weights.specs.declared.weight.MaskMap.TheVariants.{Restore};
-ghost use Rattle.genkill_weights.specs.GenKill.{genkill_operations, united, followed, after_of};
+ghost use Rattle.genkill_weights.specs.GenKill.{genkill_operations, united, followed, after_of, or_mask, keep_then, gens_then, without};
 
 use crate::GenKillW;
 use crate::masks::{either, generated, has_all, is_each, is_in, is_same, kept, not_in};
@@ -196,11 +196,9 @@ impl<const N: usize> SharedGenKill<N> {
             (None, _) => other.share(),
             (Some(a), None) => SharedGenKill::sharing(a),
             (Some(a), Some(b)) => {
-                let masks = Masks {
-                    keep: either(&a.keep, &b.keep),
-                    gens: either(&a.gens, &b.gens),
-                };
-                SharedGenKill::of(alloc, masks)
+                let mut masks = empty_masks(alloc)?;
+                unite(&mut masks, a, b)?;
+                Ok(SharedGenKill { masks: Some(masks) })
             }
         }
     }
@@ -215,11 +213,9 @@ impl<const N: usize> SharedGenKill<N> {
     {
         match (&self.masks, &next.masks) {
             (Some(a), Some(b)) => {
-                let masks = Masks {
-                    keep: kept(&a.keep, &a.gens, &b.keep, &b.gens),
-                    gens: generated(&a.gens, &b.keep, &b.gens),
-                };
-                SharedGenKill::of(alloc, masks)
+                let mut masks = empty_masks(alloc)?;
+                compose(&mut masks, a, b)?;
+                Ok(SharedGenKill { masks: Some(masks) })
             }
             _ => Ok(SharedGenKill::zero()),
         }
@@ -235,13 +231,82 @@ impl<const N: usize> SharedGenKill<N> {
     {
         match &self.masks {
             None => Ok(SharedGenKill::zero()),
-            Some(masks) => {
-                let masks = Masks {
-                    keep: either(&masks.keep, facts),
-                    gens: not_in(&masks.gens, facts),
-                };
-                SharedGenKill::of(alloc, masks)
+            Some(old) => {
+                let mut masks = empty_masks(alloc)?;
+                restore(&mut masks, old, facts)?;
+                Ok(SharedGenKill { masks: Some(masks) })
             }
         }
+    }
+}
+
+// Masks for a weight to come. They are written where they stay, so that no copy of them is made.
+fn empty_masks<const N: usize>(alloc: Global) -> Result<Arc<Masks<N>>, OutOfMemory>
+    requires { N < 2 ^ 59 }
+{
+    let masks = Masks {
+        keep: [0; N],
+        gens: [0; N],
+    };
+    let masks = Arc::new(alloc, masks)?;
+    Ok(masks)
+}
+
+// Writes the union of two weights into masks that nothing shares yet. None that were just made are shared.
+fn unite<const N: usize>(
+    made: &mut Arc<Masks<N>>,
+    a: &Masks<N>,
+    b: &Masks<N>,
+) -> Result<(), OutOfMemory>
+    ensures keep { IfOk result (λ _. made.new.value.keep ≡ or_mask N a.now.keep b.now.keep) }
+    ensures gens { IfOk result (λ _. made.new.value.gens ≡ or_mask N a.now.gens b.now.gens) }
+{
+    match Arc::get_mut(made) {
+        Some(made) => {
+            made.keep = either(&a.keep, &b.keep);
+            made.gens = either(&a.gens, &b.gens);
+            Ok(())
+        }
+        None => Err(OutOfMemory),
+    }
+}
+
+// Writes one weight and then another into masks that nothing shares yet.
+fn compose<const N: usize>(
+    made: &mut Arc<Masks<N>>,
+    a: &Masks<N>,
+    b: &Masks<N>,
+) -> Result<(), OutOfMemory>
+    ensures keep { IfOk result (λ _. made.new.value.keep
+        ≡ keep_then N a.now.keep a.now.gens b.now.keep b.now.gens) }
+    ensures gens { IfOk result (λ _. made.new.value.gens
+        ≡ gens_then N a.now.gens b.now.keep b.now.gens) }
+{
+    match Arc::get_mut(made) {
+        Some(made) => {
+            made.keep = kept(&a.keep, &a.gens, &b.keep, &b.gens);
+            made.gens = generated(&a.gens, &b.keep, &b.gens);
+            Ok(())
+        }
+        None => Err(OutOfMemory),
+    }
+}
+
+// Writes a weight where these facts are restored into masks that nothing shares yet.
+fn restore<const N: usize>(
+    made: &mut Arc<Masks<N>>,
+    old: &Masks<N>,
+    facts: &[u64; N],
+) -> Result<(), OutOfMemory>
+    ensures keep { IfOk result (λ _. made.new.value.keep ≡ or_mask N old.now.keep facts.now) }
+    ensures gens { IfOk result (λ _. made.new.value.gens ≡ without N old.now.gens facts.now) }
+{
+    match Arc::get_mut(made) {
+        Some(made) => {
+            made.keep = either(&old.keep, facts);
+            made.gens = not_in(&old.gens, facts);
+            Ok(())
+        }
+        None => Err(OutOfMemory),
     }
 }
