@@ -56,7 +56,7 @@ pub(crate) fn put(list: &[Form], f: Form) -> Form
     }
 }
 
-// The meet of the forms of these sources.
+// The meet of the forms of these sources. It goes over the sources alone, since most forms have one or none.
 fn meet_over(list: &[Form], from: u64) -> Form
     requires { length list.now ≤ 64 }
     ensures { result ≡ spec.meet_over (length list.now) (spec.form list.now) from }
@@ -65,10 +65,22 @@ fn meet_over(list: &[Form], from: u64) -> Form
         constant: None,
         from: 0,
     };
-    for k in 0..list.len() {
-        if (from >> k) & 1 == 1 {
-            made = meet(list[k], made);
-        }
+    let mut rest = from;
+    while rest != 0 {
+        let k = rest.trailing_zeros();
+        made = with_source(list, k as usize, made);
+        rest &= !(1 << k);
+    }
+    made
+}
+
+// The meet with the form of a variable, if there is such a variable.
+fn with_source(list: &[Form], k: usize, made: Form) -> Form
+    ensures there { k < length list.now → result ≡ spec.meet (spec.form list.now k) made }
+    ensures nowhere { length list.now ≤ k → result ≡ made }
+{
+    if k < list.len() {
+        return meet(list[k], made);
     }
     made
 }

@@ -144,7 +144,7 @@ choice_or true false f g h = sym (meet_assoc f g h)
 choice_or false true f g h = meet_in_front g f h
 choice_or false false f g h = refl
 
-meet_over_or : (n : ℕ) (f : ℕ → Form) (s t : ℕ) → meet_over n f (bit_or s t) ≡ meet (meet_over n f s) (meet_over n f t)
+pub meet_over_or : (n : ℕ) (f : ℕ → Form) (s t : ℕ) → meet_over n f (bit_or s t) ≡ meet (meet_over n f s) (meet_over n f t)
 unfolding meet_over
 meet_over_or zero f s t = refl
 meet_over_or (suc k) f s t =
@@ -253,12 +253,12 @@ choice_one : (b : Bool) (f g : Form) → b ≡ false → choice b f g ≡ g
 unfolding choice
 choice_one b f g e = cond-false b (meet f g) g e
 
-meet_over_past : (n : ℕ) (f : ℕ → Form) (k : ℕ) → n ≤ k → meet_over n f (2 ^ k) ≡ undefined
+pub meet_over_past : (n : ℕ) (f : ℕ → Form) (k : ℕ) → n ≤ k → meet_over n f (2 ^ k) ≡ undefined
 unfolding meet_over
 meet_over_past zero f k h = refl
 meet_over_past (suc n) f k h = meet_over_step n f (2 ^ k) ∙ choice_one (has (2 ^ k) n) (f n) (meet_over n f (2 ^ k)) (has_pow_other k n (λ e. absurd (omega arith))) ∙ meet_over_past n f k (omega arith)
 
-meet_over_one : (n : ℕ) (f : ℕ → Form) (k : ℕ) → k < n → meet_over n f (2 ^ k) ≡ f k
+pub meet_over_one : (n : ℕ) (f : ℕ → Form) (k : ℕ) → k < n → meet_over n f (2 ^ k) ≡ f k
 unfolding meet_over choice
 meet_over_one zero f k h = absurd (omega arith)
 meet_over_one (suc n) f k h = meet_over_step n f (2 ^ k) ∙ elim (cases_eq n k) [

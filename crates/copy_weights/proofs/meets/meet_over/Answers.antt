@@ -1,17 +1,30 @@
-use Rattle.std.proofs.Common.{◌∙◌}
-use Rattle.copy_weights.specs.Forms.{form}
-use Rattle.copy_weights.proofs.LoopLemmas.{meet_over_begun, meet_over_more, meet_over_stays, has_shifted, has_not_shifted}
-use Rattle.copy_weights.proofs.meets.meet_over.Goals.{then-from-k-eq1, else-from-k-eq1}
+use Rattle.std.proofs.Common.{ℕ, ◌<◌, ◌^◌, length, w64, arith}
+use Rattle.std.specs.Int.{trailing_zeros}
+use Rattle.std.proofs.lemmas.Nat.Bits.{bit_at-trailing_zeros}
+use Rattle.copy_weights.specs.Forms.{form, meet_over}
+use Rattle.copy_weights.proofs.LoopLemmas.{with_others, fewer_others, others, meet_over_begun, meet_over_taken, meet_over_whole}
 use Rattle.copy_weights.proofs.meets.meet_over.Goals as goal
 
-pub loop-k-init : goal.loop-k-init
-loop-k-init c = meet_over_begun (form c.args.list.now) c.args.from
+pub loop-rest-init : goal.loop-rest-init
+loop-rest-init c = meet_over_begun (length c.args.list.now) (form c.args.list.now) c.args.from
 
-pub loop-k-preserved : goal.loop-k-preserved
-unfolding form
-loop-k-preserved c = elim c.if-from-k-eq1.branch [
-  | then-from-k-eq1 w ↦
-      meet_over_more c.loop-k.k (form c.args.list.now) c.args.from c.loop-k.made c.if-from-k-eq1.made (has_shifted c.args.from c.loop-k.k w.if-from-k-eq1.true) c.loop-k.invariant (w.made-is ∙ w.meet-made.ensures)
-  | else-from-k-eq1 w ↦
-      w.made-is ∙ meet_over_stays c.loop-k.k (form c.args.list.now) c.args.from c.loop-k.made (has_not_shifted c.args.from c.loop-k.k w.if-from-k-eq1.false) c.loop-k.invariant
-]
+pub loop-rest-smaller : goal.loop-rest-smaller
+loop-rest-smaller c =
+    let s : ℕ = c.loop-rest.rest in
+    let lowest = bit_at-trailing_zeros w64 s (omega arith) (omega arith) in
+    fewer_others s (trailing_zeros w64 s) (omega arith) lowest.0 lowest.1
+
+pub loop-rest-preserved : goal.loop-rest-preserved
+loop-rest-preserved c =
+    let s : ℕ = c.loop-rest.rest in
+    let k : ℕ = trailing_zeros w64 s in
+    let few : s < 2 ^ 64 = omega arith in
+    let lowest = bit_at-trailing_zeros w64 s (omega arith) few in
+    let n : ℕ = length c.args.list.now in
+    meet_over_taken n (form c.args.list.now) (others s k few lowest.0) s k c.loop-rest.made c.with_source-made.result (meet_over n (form c.args.list.now) c.args.from)
+    (with_others s k few lowest.0 lowest.1) c.with_source-made.ensures.there c.with_source-made.ensures.nowhere c.loop-rest.invariant
+
+pub returns : goal.returns
+returns c =
+    let n : ℕ = length c.args.list.now in
+    meet_over_whole n (form c.args.list.now) c.loop-rest.rest c.loop-rest.made (meet_over n (form c.args.list.now) c.args.from) (omega arith) c.loop-rest.invariant

@@ -1,6 +1,9 @@
-use Rattle.std.proofs.Common.{◌≡◌}
-use Rattle.copy_weights.specs.Forms.{meet_over, form}
+use Rattle.std.proofs.Common.{◌≡◌, length}
+use Rattle.copy_weights.specs.Forms.{meet, meet_over, form}
 use Rattle.copy_weights.proofs.meets.meet_over.Given as goal
 
-abbrev pub invariant-loop-k : goal.invariant-loop-k
-invariant-loop-k l = l.made ≡ meet_over l.k (form l.list) l.from
+abbrev pub invariant-loop-rest : goal.invariant-loop-rest
+invariant-loop-rest l = meet (meet_over (length l.list) (form l.list) l.rest) l.made ≡ meet_over (length l.list) (form l.list) l.from
+
+abbrev pub decreases-loop-rest : goal.decreases-loop-rest
+decreases-loop-rest l = l.rest
