@@ -2,7 +2,7 @@ ghost use Rattle.std.specs.Prelude.{◌≡◌, ◌↔◌, ◌≤◌, ◌<◌, Is
 ghost use Rattle.copy_weights.specs.Forms as spec;
 
 use crate::Form;
-use crate::meets::{itself, meet, put};
+use crate::meets::{has_form, itself, meet, put};
 use std::alloc::Global;
 use wpds_base::OutOfMemory;
 
@@ -30,7 +30,7 @@ pub(crate) fn has_meets(a: &[Form], b: &[Form]) -> bool
     ensures { IsTrue result ↔ (spec.meets (length a.now) a.now b.now ≡ a.now) }
 {
     for k in 0..a.len() {
-        if !is_same(meet(a[k], b[k]), a[k]) {
+        if !has_form(a[k], b[k]) {
             return false;
         }
     }

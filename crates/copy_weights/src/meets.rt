@@ -1,4 +1,4 @@
-ghost use Rattle.std.specs.Prelude.{◌≡◌, ◌≤◌, ◌<◌, length};
+ghost use Rattle.std.specs.Prelude.{◌≡◌, ◌↔◌, ◌≤◌, ◌<◌, IsTrue, Some, length};
 ghost use Rattle.copy_weights.specs.Forms as spec;
 
 use crate::Form;
@@ -19,6 +19,37 @@ pub(crate) fn meet(f: Form, g: Form) -> Form
             },
         ) => with_constant(s | t, joined(c, d)),
         _ => Form::Varying,
+    }
+}
+
+/// Whether the meet of two forms is the first.
+pub(crate) fn has_form(f: Form, g: Form) -> bool
+    ensures { IsTrue result ↔ (spec.meet f g ≡ f) }
+{
+    match (f, g) {
+        (Form::Varying, _) => true,
+        (_, Form::Varying) => false,
+        (
+            Form::Meet {
+                constant: c,
+                from: s,
+            },
+            Form::Meet {
+                constant: d,
+                from: t,
+            },
+        ) => s | t == s && has_constant(c, d),
+    }
+}
+
+// Whether the constant of two is the first's.
+fn has_constant(c: Option<i64>, d: Option<i64>) -> bool
+    ensures { IsTrue result ↔ (spec.joined c d ≡ Some c) }
+{
+    match (c, d) {
+        (_, None) => true,
+        (None, Some(_)) => false,
+        (Some(x), Some(y)) => x == y,
     }
 }
 
