@@ -29,7 +29,7 @@ returns c =
     let new = c.add_lines.new.system in
     let is : IsFor p none = record {
       semiring = c.keeping_results-relations.ensures ∙ c.variables.ensures.value
-        ∙ variables_same (program_in c.in_ok-making.making) c.in_ok-making.making.layout c.in_ok-making.ensures.making.layout ∙ ap variables program;
+          ∙ variables_same (program_in c.in_ok-making.making) c.in_ok-making.making.layout c.in_ok-making.ensures.making.layout ∙ ap variables program;
       controls = refl;
       symbols_are = c.len-symbols.ensures.value ∙ ap (λ (ps : List Point). length ps) c.requires.table ∙ points_long p;
     } in
