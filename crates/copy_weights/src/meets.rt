@@ -80,6 +80,10 @@ pub(crate) fn put(list: &[Form], f: Form) -> Form
 {
     match f {
         Form::Varying => Form::Varying,
+        Form::Meet {
+            constant: None,
+            from,
+        } => meet_over(list, from),
         Form::Meet { constant, from } => {
             let all = meet_over(list, from);
             meet(Form::Meet { constant, from: 0 }, all)
@@ -92,6 +96,10 @@ fn meet_over(list: &[Form], from: u64) -> Form
     requires { length list.now ≤ 64 }
     ensures { result ≡ spec.meet_over (length list.now) (spec.form list.now) from }
 {
+    let first = from.trailing_zeros();
+    if (first as usize) < list.len() && from == 1 << first {
+        return list[first as usize];
+    }
     let mut made = Form::Meet {
         constant: None,
         from: 0,
