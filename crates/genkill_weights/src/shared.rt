@@ -158,7 +158,8 @@ impl<const N: usize> SharedGenKill<N> {
     {
         match &self.masks {
             None => false,
-            Some(masks) => is_each(&masks.keep, u64::MAX) && is_each(&masks.gens, 0),
+            // Few weights generate nothing, and many kill nothing.
+            Some(masks) => is_each(&masks.gens, 0) && is_each(&masks.keep, u64::MAX),
         }
     }
 
