@@ -4,8 +4,6 @@
 #[cfg(test)]
 mod locks;
 #[cfg(test)]
-mod parts;
-#[cfg(test)]
 mod short;
 #[cfg(test)]
 mod workers;

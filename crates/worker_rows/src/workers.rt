@@ -1,13 +1,11 @@
-use crate::parts::{drive_both, let_go, two_parts};
 use crate::short::Short;
 use cost_weights::Cost;
 use prestar::pre_opening;
 use pushdown_rules::{RuleFault, System};
 use row_systems::{A, C, CountingGate, MeetingGate, Row, SOME_A, grows, has_rows, pattern_over};
-use seat_lock::SeatLock;
 use std::alloc::Global;
 use std::test::Fail;
-use worker_pool::{Shared, saturate};
+use worker_pool::saturate;
 use wpds_port::OpenGate;
 
 // What is found of growth for `p: a a a`.
@@ -29,35 +27,6 @@ fn two_hands_out(rt: HostRuntime) -> Result<(), Fail> {
     let gate = MeetingGate::new();
     let opened = pre_opening(alloc, &system, &pattern)?;
     let book = saturate(&rt, alloc, opened, 2, &gate)?;
-    assert!(rt; book.is_closed() && gate.have_met());
-    for seat in 0..2u32 {
-        assert!(rt; seat < 2);
-        assert_eq!(rt; gate.calls_of(seat) as u128, book.takes_of(seat));
-    }
-    Ok(())
-}
-
-// So have two workers on threads of the test's own, each with a pass of the lock under which the book lies.
-#[test]
-fn two_hands_out_of_a_lock(rt: HostRuntime) -> Result<(), Fail> {
-    let alloc = rt.alloc();
-    let system = grows(alloc, Cost::new(100)?)?;
-    let pattern = pattern_over(alloc, &system, 0, &[SOME_A])?;
-    let book = pre_opening(alloc, &system, &pattern)?;
-    let Ok((lock, pass)) = SeatLock::new(alloc, Shared { book }, 2) else {
-        panic!(rt; "no lock")
-    };
-    let (zero, one) = lock.split(pass);
-    let gate = MeetingGate::new();
-    let mut parts = two_parts(alloc, &lock, zero, one)?;
-    let joined = drive_both(&rt, alloc, &lock, &mut parts, &gate);
-    let_go(parts);
-    let Some(pass) = joined else {
-        panic!(rt; "a worker ended before the book was closed")
-    };
-    let Ok(Shared { book }) = lock.close(pass) else {
-        panic!(rt; "a pass is missing")
-    };
     assert!(rt; book.is_closed() && gate.have_met());
     for seat in 0..2u32 {
         assert!(rt; seat < 2);
