@@ -7,5 +7,5 @@ use Rattle.wpds_app.proofs.report.relations_report.Goals as goal
 pub report_over-requires-clause-taken : goal.report_over-requires-clause-taken
 report_over-requires-clause-taken g c κs within =
     let d = c.args.document.now in
-    let count : c.new.result ≡ length d.items = omega (arith, c.new.ensures, c.len-variables.ensures) in
+    let count : c.keeping_results-relations.result ≡ length d.items = omega (arith, c.keeping_results-relations.ensures, c.len-variables.ensures) in
     subst (λ n. AreTaken relation_kind n d) (sym count) (relations_taken d c.requires.document c.requires.weights)
