@@ -1,5 +1,5 @@
 use crate::return_maps::{Guarded, guarded_calls};
-use crate::seats::{close_alone, close_in_turn};
+use crate::seats::{Seats, closed};
 use cost_weights::Cost;
 use poststar::{Post, post_opening};
 use pushdown_rules::System;
@@ -48,6 +48,22 @@ fn wrong_place(book: &Book<'_, Cost, Post>, rows: &[Row]) -> Option<Place> {
     }
 }
 
+// Saturates from the items at the first control by these seats, and finds the first place that is wrong.
+fn first_wrong_by(
+    alloc: Global,
+    system: &System<Cost>,
+    items: Items<'_>,
+    rows: &[Row],
+    seats: Seats,
+) -> Result<Option<Place>, Fail> {
+    let pattern = pattern_over(alloc, system, 0, items)?;
+    let book = post_opening(alloc, system, &pattern)?;
+    match closed(alloc, book, seats)? {
+        Some(book) => Ok(wrong_place(&book, rows)),
+        None => Err(Fail::new("the saturation does not end")),
+    }
+}
+
 // Saturates from the items at the first control, by one seat and by two that take in turn, and finds the first place that
 // is wrong.
 fn first_wrong(
@@ -56,13 +72,9 @@ fn first_wrong(
     items: Items<'_>,
     rows: &[Row],
 ) -> Result<Option<Place>, Fail> {
-    let pattern = pattern_over(alloc, system, 0, items)?;
-    let mut alone = post_opening(alloc, system, &pattern)?;
-    let mut in_turn = post_opening(alloc, system, &pattern)?;
-    if !close_alone(alloc, &mut alone)? || !close_in_turn(alloc, &mut in_turn)? {
-        return Err(Fail::new("the saturation does not end"));
-    }
-    Ok(wrong_place(&alone, rows).or(wrong_place(&in_turn, rows)))
+    let by_one = first_wrong_by(alloc, system, items, rows, Seats::One)?;
+    let by_two = first_wrong_by(alloc, system, items, rows, Seats::Two)?;
+    Ok(by_one.or(by_two))
 }
 
 // From `p: a`, by state 1, each call costs 1 and leaves a b. The middle state is 2, and no call returns.
@@ -155,22 +167,64 @@ fn has_and_lacks<S: Semiring>(
     book.transitions().len() == count && entry_at(book, lacks).is_none()
 }
 
+// Whether the saturation of guarded calls from the items at the first control ends, and has so many transitions, of which
+// these are there and that one is not.
+fn ends_with(
+    alloc: Global,
+    system: &System<Guarded>,
+    items: Items<'_>,
+    count: u64,
+    places: &[Place],
+    lacks: Place,
+) -> Result<bool, Fail> {
+    let pattern = pattern_over(alloc, system, 0, items)?;
+    let book = post_opening(alloc, system, &pattern)?;
+    match closed(alloc, book, Seats::One)? {
+        Some(book) => Ok(has_and_lacks(&book, count, places, lacks)),
+        None => Ok(false),
+    }
+}
+
 // The calls have the middles 2 to 5. That of a, to 2, may not return: nothing goes on behind it. That of d, to 3, may, and
 // then c is read and popped. The inner call to 4 may return, and the one to 5 may not.
 #[test]
 fn a_forbidden_return_is_not_found(rt: HostRuntime) -> Result<(), Fail> {
     let alloc = rt.alloc();
     let system: System<Guarded> = guarded_calls(alloc)?;
-    let of_a = pattern_over(alloc, &system, 0, &[A])?;
-    let of_d = pattern_over(alloc, &system, 0, &[D])?;
-    let mut forbidden = post_opening(alloc, &system, &of_a)?;
-    let mut allowed = post_opening(alloc, &system, &of_d)?;
-    assert!(rt; close_alone(alloc, &mut forbidden)? && close_alone(alloc, &mut allowed)?);
     let inner = [over(0, 1, 2), over(2, 2, 1), skip(0, 4), over(0, 2, 2)];
-    assert!(rt; has_and_lacks(&forbidden, 15, &inner, skip(0, 2)));
+    assert!(rt; ends_with(alloc, &system, &[A], 15, &inner, skip(0, 2))?);
     let outer = [over(0, 1, 3), skip(0, 3), over(0, 2, 1), skip(0, 1)];
-    assert!(rt; has_and_lacks(&allowed, 18, &outer, skip(0, 5)));
+    assert!(rt; ends_with(alloc, &system, &[D], 18, &outer, skip(0, 5))?);
     Ok(())
+}
+
+// Whether a book has these edges and final states in its opening, of two items, and no more transitions, each with the
+// empty run.
+fn has_begun(book: &Book<'_, Cost, Post>, edges: &[Place], finals: &[u32]) -> bool {
+    for edge in edges {
+        if !entry_at(book, *edge).is_some_and(|entry| entry.weight == Some(0)) {
+            return false;
+        }
+    }
+    book.direction() == Post { items: 2 }
+        && !Direction::<Cost>::same_way(&book.direction(), &Post { items: 1 })
+        && book.opening().edges.as_slice() == edges
+        && book.opening().finals.as_slice() == finals
+        && book.transitions().len() == edges.len() as u64
+        && book.graph().len() == 1
+}
+
+// Whether it begins so with the items at the first control.
+fn begins_with(
+    alloc: Global,
+    system: &System<Cost>,
+    items: Items<'_>,
+    edges: &[Place],
+    finals: &[u32],
+) -> Result<bool, Fail> {
+    let pattern = pattern_over(alloc, system, 0, items)?;
+    let book = post_opening(alloc, system, &pattern)?;
+    Ok(has_begun(&book, edges, finals))
 }
 
 // The opening of `p: a b` has its edges, each with the empty run, and two items.
@@ -178,15 +232,7 @@ fn a_forbidden_return_is_not_found(rt: HostRuntime) -> Result<(), Fail> {
 fn opens_forwards(rt: HostRuntime) -> Result<(), Fail> {
     let alloc = rt.alloc();
     let system = pops(alloc, Cost::new(100)?)?;
-    let pattern = pattern_over(alloc, &system, 0, &[A, B])?;
-    let book = post_opening(alloc, &system, &pattern)?;
-    assert_eq!(rt; book.direction(), Post { items: 2 });
-    let same = Direction::<Cost>::same_way(&book.direction(), &Post { items: 1 });
-    assert!(rt; !same);
     let edges = [over(0, 0, 1), over(1, 1, 2)];
-    assert_eq!(rt; book.opening().edges.as_slice(), edges.as_slice());
-    assert_eq!(rt; book.opening().finals.as_slice(), [2u32].as_slice());
-    assert_eq!(rt; wrong_place(&book, &[(edges[0], 0), (edges[1], 0)]), None);
-    assert_eq!(rt; book.graph().len(), 1);
+    assert!(rt; begins_with(alloc, &system, &[A, B], &edges, &[2])?);
     Ok(())
 }

@@ -6,7 +6,7 @@ ghost use Rattle.prestar_laws.specs.Rows.{pre_rows};
 use cost_weights::Cost;
 use prestar::{Pre, pre_opening};
 use pushdown_rules::System;
-use row_systems::{A, grows, pattern_over};
+use row_systems::{A, Items, grows, pattern_over};
 use saturation_core::{Book, Taken};
 use saturation_laws::{Direction, Input, Job, JobKind};
 use semiring_laws::Semiring;
@@ -34,19 +34,34 @@ fn are_in_order(book: &Book<'_, Cost, Pre>, places: &[Place]) -> bool {
     true
 }
 
-// Whether a book begins with these edges and final states, and has then these transitions and so many nodes.
-fn has_opened(
-    book: &Book<'_, Cost, Pre>,
-    edges: &[Place],
-    finals: &[u32],
-    places: &[Place],
+// What a book begins with: edges and final states, and then these transitions and so many nodes.
+#[derive(Clone, Copy, Drop)]
+struct Begun<'a> {
+    edges: &'a [Place],
+    finals: &'a [u32],
+    places: &'a [Place],
     nodes: u64,
-) -> bool {
-    book.opening().edges.as_slice() == edges
-        && book.opening().finals.as_slice() == finals
-        && book.transitions().len() == places.len() as u64
-        && are_in_order(book, places)
-        && book.graph().len() == nodes
+}
+
+// Whether a book has begun so.
+fn has_begun(book: &Book<'_, Cost, Pre>, begun: &Begun<'_>) -> bool {
+    book.opening().edges.as_slice() == begun.edges
+        && book.opening().finals.as_slice() == begun.finals
+        && book.transitions().len() == begun.places.len() as u64
+        && are_in_order(book, begun.places)
+        && book.graph().len() == begun.nodes
+}
+
+// Whether it begins so with the items at the first control.
+fn begins_so(
+    alloc: Global,
+    system: &System<Cost>,
+    items: Items<'_>,
+    begun: &Begun<'_>,
+) -> Result<bool, Fail> {
+    let pattern = pattern_over(alloc, system, 0, items)?;
+    let book = pre_opening(alloc, system, &pattern)?;
+    Ok(has_begun(&book, begun))
 }
 
 // The opening reads `p: a a a` by way of the states 1, 2 and 3. The pop rule adds a transition from p to p. The nodes are
@@ -55,11 +70,13 @@ fn has_opened(
 fn opens_a_pattern(rt: HostRuntime) -> Result<(), Fail> {
     let alloc = rt.alloc();
     let system = grows(alloc, Cost::new(100)?)?;
-    let pattern = pattern_over(alloc, &system, 0, &[A, A, A])?;
-    let edges = [arrow(0, 1), arrow(1, 2), arrow(2, 3)];
-    let places = [arrow(0, 1), arrow(1, 2), arrow(2, 3), arrow(0, 0)];
-    let book = pre_opening(alloc, &system, &pattern)?;
-    assert!(rt; has_opened(&book, &edges, &[3], &places, 2));
+    let begun = Begun {
+        edges: &[arrow(0, 1), arrow(1, 2), arrow(2, 3)],
+        finals: &[3],
+        places: &[arrow(0, 1), arrow(1, 2), arrow(2, 3), arrow(0, 0)],
+        nodes: 2,
+    };
+    assert!(rt; begins_so(alloc, &system, &[A, A, A], &begun)?);
     Ok(())
 }
 
@@ -136,13 +153,25 @@ fn wrong_seat(
     Ok(None)
 }
 
+// The first such seat where they begin with the items at the first control.
+fn wrong_seat_from(
+    alloc: Global,
+    system: &System<Cost>,
+    items: Items<'_>,
+    hands: &[(u32, &[Line])],
+) -> Result<Option<u32>, Fail> {
+    let pattern = pattern_over(alloc, system, 0, items)?;
+    let mut book = pre_opening(alloc, system, &pattern)?;
+    let wrong = wrong_seat(alloc, &mut book, hands)?;
+    Ok(wrong)
+}
+
 // Four seats take the four transitions of the opening, one after the other. A push that comes back to p needs a second
 // transition from p, one that stays on an item needs the edge from there; the last is both inputs of one job.
 #[test]
 fn lists_each_consequence_once(rt: HostRuntime) -> Result<(), Fail> {
     let alloc = rt.alloc();
     let system = grows(alloc, Cost::new(100)?)?;
-    let pattern = pattern_over(alloc, &system, 0, &[A, A, A])?;
     let (call, stay) = (JobKind::PrePushControl, JobKind::PrePushOther);
     let first: &[Line] = &[
         (call, arrow(0, 0), arrow(0, 1), arrow(0, 1), 1),
@@ -154,7 +183,6 @@ fn lists_each_consequence_once(rt: HostRuntime) -> Result<(), Fail> {
         (call, arrow(0, 0), arrow(0, 0), arrow(0, 0), 1),
     ];
     let hands = [(0, first), (1, second), (2, &[]), (3, last)];
-    let mut book = pre_opening(alloc, &system, &pattern)?;
-    assert_eq!(rt; wrong_seat(alloc, &mut book, &hands)?, None);
+    assert_eq!(rt; wrong_seat_from(alloc, &system, &[A, A, A], &hands)?, None);
     Ok(())
 }

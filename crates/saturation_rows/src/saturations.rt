@@ -1,4 +1,4 @@
-use crate::seats::{close_alone, close_in_turn};
+use crate::seats::{Seats, closed};
 use cost_weights::Cost;
 use prestar::pre_opening;
 use pushdown_rules::System;
@@ -28,14 +28,43 @@ fn has_places<D: Direction<Reach>>(book: &Book<'_, Reach, D>, places: &[Place]) 
     true
 }
 
-// Saturates for a target, by one seat and by two, and compares the transitions.
-fn saturates(alloc: Global, system: &System<Cost>, target: Target<'_>) -> Result<bool, Fail> {
+// Saturates for a target by these seats, and compares the transitions.
+fn saturates_by(
+    alloc: Global,
+    system: &System<Cost>,
+    target: Target<'_>,
+    seats: Seats,
+) -> Result<bool, Fail> {
     let (control, items, rows) = target;
     let pattern = pattern_over(alloc, system, control, items)?;
-    let mut alone = pre_opening(alloc, system, &pattern)?;
-    let mut in_turn = pre_opening(alloc, system, &pattern)?;
-    let are_closed = close_alone(alloc, &mut alone)? && close_in_turn(alloc, &mut in_turn)?;
-    Ok(are_closed && has_rows(&alone, rows) && has_rows(&in_turn, rows))
+    let book = pre_opening(alloc, system, &pattern)?;
+    match closed(alloc, book, seats)? {
+        Some(book) => Ok(has_rows(&book, rows)),
+        None => Ok(false),
+    }
+}
+
+// Saturates for a target, by one seat and by two, and compares the transitions.
+fn saturates(alloc: Global, system: &System<Cost>, target: Target<'_>) -> Result<bool, Fail> {
+    let by_one = saturates_by(alloc, system, target, Seats::One)?;
+    let by_two = saturates_by(alloc, system, target, Seats::Two)?;
+    Ok(by_one && by_two)
+}
+
+// Saturates for a target at q by these seats, and compares the transitions.
+fn reaches_by(
+    alloc: Global,
+    system: &System<Reach>,
+    items: Items<'_>,
+    places: &[Place],
+    seats: Seats,
+) -> Result<bool, Fail> {
+    let pattern = pattern_over(alloc, system, 1, items)?;
+    let book = pre_opening(alloc, system, &pattern)?;
+    match closed(alloc, book, seats)? {
+        Some(book) => Ok(has_places(&book, places)),
+        None => Ok(false),
+    }
 }
 
 // Saturates for a target at q, by one seat and by two, and compares the transitions.
@@ -45,11 +74,9 @@ fn reaches(
     items: Items<'_>,
     places: &[Place],
 ) -> Result<bool, Fail> {
-    let pattern = pattern_over(alloc, system, 1, items)?;
-    let mut alone = pre_opening(alloc, system, &pattern)?;
-    let mut in_turn = pre_opening(alloc, system, &pattern)?;
-    let are_closed = close_alone(alloc, &mut alone)? && close_in_turn(alloc, &mut in_turn)?;
-    Ok(are_closed && has_places(&alone, places) && has_places(&in_turn, places))
+    let by_one = reaches_by(alloc, system, items, places, Seats::One)?;
+    let by_two = reaches_by(alloc, system, items, places, Seats::Two)?;
+    Ok(by_one && by_two)
 }
 
 // For `q: a` the pop is met by the edge of the target, to state 2: 2 + 1, and then 0.

@@ -41,8 +41,8 @@ fn settle<S: Semiring, D: Direction<S>>(
     }
 }
 
-/// Saturates by one seat, and says whether the book is closed then.
-pub(crate) fn close_alone<S: Semiring, D: Direction<S>>(
+// Saturates by one seat, and says whether the book is closed then.
+fn close_alone<S: Semiring, D: Direction<S>>(
     alloc: Global,
     book: &mut Book<'_, S, D>,
 ) -> Result<bool, OutOfMemory> {
@@ -55,9 +55,9 @@ pub(crate) fn close_alone<S: Semiring, D: Direction<S>>(
     Ok(false)
 }
 
-/// Saturates by two seats that take one after the other, of which the second settles first. Says whether the book is
-/// closed then.
-pub(crate) fn close_in_turn<S: Semiring, D: Direction<S>>(
+// Saturates by two seats that take one after the other, of which the second settles first. Says whether the book is
+// closed then.
+fn close_in_turn<S: Semiring, D: Direction<S>>(
     alloc: Global,
     book: &mut Book<'_, S, D>,
 ) -> Result<bool, OutOfMemory> {
@@ -71,4 +71,30 @@ pub(crate) fn close_in_turn<S: Semiring, D: Direction<S>>(
         }
     }
     Ok(false)
+}
+
+/// Which seats saturate a book.
+#[derive(Clone, Copy, Debug)]
+pub(crate) enum Seats {
+    /// One, which settles what it took before it takes again.
+    One,
+    /// Two that take one after the other, of which the second settles first.
+    Two,
+}
+
+/// Saturates a book, and gives it back if it is closed then.
+pub(crate) fn closed<'s, S: Semiring, D: Direction<S>>(
+    alloc: Global,
+    book: Book<'s, S, D>,
+    seats: Seats,
+) -> Result<Option<Book<'s, S, D>>, OutOfMemory> {
+    let mut book = book;
+    let is_closed = match seats {
+        Seats::One => close_alone(alloc, &mut book)?,
+        Seats::Two => close_in_turn(alloc, &mut book)?,
+    };
+    if is_closed {
+        return Ok(Some(book));
+    }
+    Ok(None)
 }
