@@ -83,6 +83,21 @@ pub(crate) fn guarded_calls(alloc: Global) -> Result<System<Guarded>, RuleFault>
     Ok(system)
 }
 
+// The value of a run of rules that the system has, from a stack.
+fn value_from(
+    alloc: Global,
+    system: &System<Guarded>,
+    stack: &[u32],
+    run: &[u32],
+) -> Result<Option<bool>, Fail> {
+    if !are_below(system.rules(), run) {
+        return Err(Fail::new("the system has no such rule"));
+    }
+    let start = Config::new(alloc, 0, stack)?;
+    let value = system.run_value(alloc, &start, run)?;
+    Ok(value)
+}
+
 #[test]
 fn return_maps(rt: HostRuntime) -> Result<(), Fail> {
     let alloc = rt.alloc();
@@ -116,10 +131,8 @@ fn return_maps(rt: HostRuntime) -> Result<(), Fail> {
         ("below the first stack, then a call", &[1, 0], &[2, 0], true),
     ];
     for (name, stack, run, value) in rows {
-        let start = Config::new(alloc, 0, stack)?;
-        assert!(rt; are_below(system.rules(), run));
         assert_eq!(rt;
-            system.run_value(alloc, &start, run)?,
+            value_from(alloc, &system, stack, run)?,
             Some(value),
             "{name}"
         );
