@@ -1,12 +1,11 @@
 -- A walk along a chain, the last cell first.
-use Rattle.std.proofs.Common.{zero, suc, ◌≡◌, ℕ, set, ◌+◌, ◌%◌, ◌<◌, ◌≤◌, Bool, true, false, List, [], ◌∷◌, ◌++◌, length, map, take, get_or, replicate, refl, sym, ap, ◌∙◌, subst, inl, inr, arith}
-use Rattle.std.specs.Prelude.{Option, None, Some, cond, slice_get, nat_eq, min, ◌⊎◌}
+use Rattle.std.proofs.Common.{zero, suc, ◌≡◌, ℕ, set, ◌%◌, ◌<◌, Bool, true, false, List, [], ◌∷◌, ◌++◌, length, map, take, get_or, replicate, refl, sym, ap, ◌∙◌, subst, inl, inr, arith}
+use Rattle.std.specs.Prelude.{Option, None, Some, cond, slice_get, nat_eq, ◌⊎◌}
 use Rattle.std.proofs.lemmas.Bool.{cond-true, cond-false, cases_Bool, eqb-true, eqb-false, eq-eqb}
 use Rattle.std.proofs.lemmas.List.{take_all, length-take, length-set, take-append-le, take_at}
 use Rattle.std.proofs.lemmas.Option.{same_Some, slice_get_within}
 use Rattle.key_rows.specs.Positions.{last_where}
 use Rattle.key_rows.specs.declared.cells.Cell.{Cell}
-use Rattle.key_rows.specs.declared.cells.Row.{Row}
 use Rattle.key_rows.specs.declared.cells.Ends.{Ends}
 use Rattle.key_rows.specs.Cells.{with_ends}
 use Rattle.key_rows.specs.private.Chains.{row_in, chain_of, is_in, AreChained}

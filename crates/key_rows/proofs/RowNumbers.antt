@@ -1,17 +1,19 @@
 -- What the row of a key says, once a row goes last, and once the ends of one are others.
-use Rattle.std.proofs.Common.{zero, suc, ◌≡◌, ℕ, ◌+◌, ◌-◌, ◌<◌, Bool, true, false, List, [], ◌∷◌, ◌++◌, length, refl, sym, ap, ◌∙◌, subst, inl, inr, arith}
-use Rattle.std.specs.Prelude.{Option, None, Some, cond, slice_get, nat_eq, option_map, option_and_then, is_some, IsSome, IfSome}
+use Rattle.std.proofs.Common.{zero, suc, ◌≡◌, ℕ, ◌<◌, Bool, true, false, List, [], ◌∷◌, ◌++◌, length, map, refl, sym, ap, ◌∙◌, inl, inr, arith}
+use Rattle.std.specs.Prelude.{Option, None, Some, cond, slice_get, option_map, option_and_then, is_some, IfSome}
 use Rattle.std.specs.declared.cmp.Ordering.{Ordering}
 use Rattle.std.specs.Ordering.{eq_by_cmp, is_eq}
 use Rattle.std.specs.Cmp.{IsTotalOrder, eq_by_cmp_equiv, Equal-is}
 use Rattle.std.proofs.lemmas.Bool.{cond-true, cond-false, cases_Bool, true≢false}
 use Rattle.std.proofs.lemmas.List.{take_all}
 use Rattle.key_rows.proofs.ChainLemmas.{last_passes}
-use Rattle.std.proofs.lemmas.Option.{same_Some, slice_get_within}
+use Rattle.std.proofs.lemmas.Option.{same_Some}
 use Rattle.key_rows.specs.declared.cells.Ends.{Ends}
 use Rattle.key_rows.specs.declared.cells.Row.{Row}
 use Rattle.key_rows.specs.Positions.{last_where}
 use Rattle.key_rows.specs.Cells.{ends_in, with_ends, is_of, row_number, get, cell, ContainsKey}
+use Rattle.key_rows.specs.declared.cells.Cell.{Cell}
+use Rattle.key_rows.specs.private.Chains.{row_in, IsFoundAt}
 use Rattle.key_rows.proofs.RowLemmas.{last_where-push, last_within}
 
 module _ {K : Type 0} where
@@ -42,6 +44,21 @@ module _ {K : Type 0} where
   keys_stay p same [] n e = refl
   keys_stay p same (r ∷ rs) zero e = ap (λ b. elim (last_where p rs) [ Some k ↦ Some (suc k) | None ↦ cond b (Some 0) None ]) (same r.key (Some e) r.ends)
   keys_stay p same (r ∷ rs) (suc n) e = ap (λ o. elim o [ Some k ↦ Some (suc k) | None ↦ cond (p r) (Some 0) None ]) (keys_stay p same rs n e)
+
+  -- the row of a cell
+  pub get_row : (cs : List (Cell K)) (n : ℕ) (c : Cell K) → slice_get cs n ≡ Some c → slice_get (map row_in cs) n ≡ Some c.row
+  get_row [] n c at = cc
+  get_row (x ∷ xs) zero c at = ap (λ (y : Cell K). Some y.row) (same_Some x c at)
+  get_row (x ∷ xs) (suc n) c at = get_row xs n c at
+
+  -- the key of a row stays
+  key_stays : (rs : List (Row K)) (n m : ℕ) (e : Ends) (r : Row K) → slice_get (with_ends n e rs) m ≡ Some r
+      → (was : Row K) × (slice_get rs m ≡ Some was) × (was.key ≡ r.key)
+  key_stays [] n m e r at = cc
+  key_stays (x ∷ xs) zero zero e r at = (x, refl, ap (λ (y : Row K). y.key) (same_Some (record { key = x.key; ends = Some e }) r at))
+  key_stays (x ∷ xs) zero (suc m) e r at = (r, at, refl)
+  key_stays (x ∷ xs) (suc n) zero e r at = (x, refl, ap (λ (y : Row K). y.key) (same_Some x r at))
+  key_stays (x ∷ xs) (suc n) (suc m) e r at = key_stays xs n m e r at
 
   pub length-with_ends : (rs : List (Row K)) (n : ℕ) (e : Ends) → length (with_ends n e rs) ≡ length rs
   length-with_ends [] n e = refl
@@ -99,12 +116,35 @@ module _ {K : Type 0} (cmp : K → K → Ordering) where
     | Some n ↦ λ f. cc
   ] h
 
+  -- where the ends of one are others, all are found as before
+  pub found_set : (rs : List (Row K)) (n m : ℕ) (e : Ends) → IsFoundAt cmp rs m → IsFoundAt cmp (with_ends n e rs) m
+  found_set rs n m e found = λ r at.
+      let was = key_stays rs n m e r at in
+      keys_stay (is_of cmp r.key) (λ j a b. refl) rs n e
+      ∙ ap (λ k. row_number cmp k rs) (sym was.2) ∙ found was.0 was.1
+
   module _ (total : IsTotalOrder cmp) where
     -- equal keys have one row
     pub one_row : (rs : List (Row K)) (s t : K) → eq_by_cmp cmp s t ≡ true → row_number cmp s rs ≡ row_number cmp t rs
     one_row rs s t e =
         let orders : (z : K) → cmp s z ≡ cmp t z = λ z. total.congr s t z ((Equal-is (cmp s t)).0 e) in
         ap (λ (f : K → Ordering). last_where (λ (r : Row K). is_eq (f r.key)) rs) (λ j z. orders z j)
+
+    -- what is found by a number is found by it again
+    pub found_again : (rs : List (Row K)) (key : K) (n : ℕ) (r : Row K) → IsFoundAt cmp rs n → slice_get rs n ≡ Some r → eq_by_cmp cmp key r.key ≡ true
+        → Some n ≡ row_number cmp key rs
+    found_again rs key n r found at e = sym (one_row rs key r.key e ∙ found r at)
+
+    pub found_once : (rs : List (Row K)) (key : K) (n : ℕ) → row_number cmp key rs ≡ Some n → IsFoundAt cmp rs n
+    found_once rs key n is = λ r at. sym (one_row rs key r.key (passes (is_of cmp key) rs n r is at)) ∙ is
+
+    -- a row that goes last is found there
+    pub found_pushed : (rs : List (Row K)) (row : Row K) → IsFoundAt cmp (rs ++ row ∷ []) (length rs)
+    found_pushed rs row = λ r at.
+        let is : row ≡ r = same_Some row r (sym (get_last rs row) ∙ at) in
+        last_where-push (is_of cmp r.key) row rs
+        ∙ cond-true (eq_by_cmp cmp r.key row.key) (Some (length rs)) (last_where (is_of cmp r.key) rs)
+        (ap (λ (x : Row K). eq_by_cmp cmp r.key x.key) is ∙ (eq_by_cmp_equiv total).refl r.key)
 
     -- a row has one key
     no_other : (rs : List (Row K)) (key k : K) (n : ℕ) → row_number cmp key rs ≡ Some n → eq_by_cmp cmp key k ≡ false → row_number cmp k rs ≡ Some n → ⊥

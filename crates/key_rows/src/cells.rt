@@ -2,7 +2,7 @@ ghost use Rattle.std.specs.Prelude.{◌≡◌, ◌<◌, ◌≤◌, ◌+◌, ◌^
 ghost use Rattle.std.specs.Ordering.{eq_by_cmp};
 ghost use Rattle.key_rows.specs.Positions.{last_where};
 ghost use Rattle.key_rows.specs.Cells.{row_number, ends_in, with_ends, cell, ContainsKey};
-ghost use Rattle.key_rows.specs.private.Chains.{row_in, chain_of as chain_number, is_in, AreChained};
+ghost use Rattle.key_rows.specs.private.Chains.{row_in, chain_of as chain_number, is_in, AreChained, IsChainOf, IsFoundAt};
 
 use crate::key::Key;
 use std::alloc::Global;
@@ -38,82 +38,110 @@ pub(crate) struct KeyCells<K: Key> {
     heads: Vec<Option<u32>>,
     // How often the chains were made anew.
     round: u64,
+    // Which cell was made last, or was there already.
+    made: u32,
 }
 
 impl<K: Key> Model for KeyCells<K> {
     ghost use Rattle.std.specs.Prelude.{List, map, length, ◌≤◌, ◌^◌};
     ghost use Rattle.key_rows.specs.declared.cells.Row.{Row as RowValue};
-    ghost use Rattle.key_rows.specs.private.Chains.{row_in, AreChained};
+    ghost use Rattle.key_rows.specs.private.Chains.{row_in, AreChained, IsFoundAt};
 
     ghost Value = { List (RowValue K) };
 
     ghost view = { λ t. map row_in t.cells.items };
 
     ghost invariant = { λ t. AreChained K.spread t.round t.cells.items t.heads.items
-        × (length t.cells.items ≤ 2 ^ 32) };
+        × (length t.cells.items ≤ 2 ^ 32)
+        × IsFoundAt K.cmp (map row_in t.cells.items) t.made };
 }
 
 // Which of so many chains a key is in.
 fn chain_of<K: Key>(key: K, round: u64, count: usize) -> usize
     requires { 0 < count }
-    ensures value { result ≡ chain_number K.spread round count key }
-    ensures within { result < count }
+    ensures { IsChainOf K.spread round count key result }
 {
     (key.spread(round) % count as u64) as usize
 }
 
-// The last cell of a key's chain.
-fn chain_end<K: Key>(cells: &[Cell<K>], heads: &[Option<u32>], round: u64, key: K) -> Option<u32>
-    requires { AreChained K.spread round cells.now heads.now }
-    ensures { let count = length heads.now in
-        let chain = chain_number K.spread round count key in
-        result ≡ last_where (is_in K.spread round count chain) cells.now }
-{
-    if heads.is_empty() {
-        return None;
-    }
-    heads[chain_of(key, round, heads.len())]
+// What a walk along the chain of a key came to.
+#[derive(Clone, Copy, Debug, PartialEq, Eq)]
+struct Walk {
+    // Where the cell of the key stands.
+    found: Option<u32>,
+    // Which of the chains was walked along, where there are any.
+    chain: usize,
+    // How many cells were passed before the key's own.
+    passed: u32,
 }
 
-// Where the cell of a key stands.
-fn find_cell<K: Key>(cells: &[Cell<K>], heads: &[Option<u32>], round: u64, key: K) -> Option<u32>
-    requires { AreChained K.spread round cells.now heads.now }
-    ensures { result ≡ row_number K.cmp key (map row_in cells.now) }
-{
-    let mut at = chain_end(cells, heads, round, key);
-    'chain: while let Some(k) = at {
-        let cell = &cells[k as usize];
-        if key.is_key(cell.row.key) {
-            return Some(k);
-        }
-        at = cell.before;
-    }
-    None
-}
-
-// Whether a key's chain has more than so many cells.
-fn is_longer<K: Key>(
+// The last cell of a chain, which is that of a key.
+fn chain_end<K: Key>(
     cells: &[Cell<K>],
     heads: &[Option<u32>],
     round: u64,
     key: K,
-    most: u64,
-) -> bool
-    requires { AreChained K.spread round cells.now heads.now }
+    chain: usize,
+) -> Option<u32>
+    requires chained { AreChained K.spread round cells.now heads.now }
+    requires chain { IsChainOf K.spread round (length heads.now) key chain }
+    ensures { let count = length heads.now in
+        let chain = chain_number K.spread round count key in
+        result ≡ last_where (is_in K.spread round count chain) cells.now }
 {
-    let mut at = chain_end(cells, heads, round, key);
-    let mut left = most;
+    heads[chain]
+}
+
+// Walks along a chain to the cell of its key.
+fn walk_along<K: Key>(
+    cells: &[Cell<K>],
+    heads: &[Option<u32>],
+    round: u64,
+    key: K,
+    chain: usize,
+) -> Walk
+    requires chained { AreChained K.spread round cells.now heads.now }
+    requires chain { IsChainOf K.spread round (length heads.now) key chain }
+    ensures found { result.found ≡ row_number K.cmp key (map row_in cells.now) }
+    ensures chain { result.chain ≡ chain }
+{
+    let mut at = chain_end(cells, heads, round, key, chain);
+    let mut passed: u32 = 0;
     'chain: while let Some(k) = at {
-        if left == 0 {
-            return true;
+        let cell = &cells[k as usize];
+        if key.is_key(cell.row.key) {
+            return Walk {
+                found: Some(k),
+                chain,
+                passed,
+            };
         }
-        left -= 1;
-        at = match cells.get(k as usize) {
-            Some(cell) => cell.before,
-            None => None,
+        passed = passed.wrapping_add(1);
+        at = cell.before;
+    }
+    Walk {
+        found: None,
+        chain,
+        passed,
+    }
+}
+
+// Looks for the cell of a key, in its chain. The key is spread once.
+fn walk_chain<K: Key>(cells: &[Cell<K>], heads: &[Option<u32>], round: u64, key: K) -> Walk
+    requires { AreChained K.spread round cells.now heads.now }
+    ensures found { result.found ≡ row_number K.cmp key (map row_in cells.now) }
+    ensures chain { 0 < length heads.now
+        → IsChainOf K.spread round (length heads.now) key result.chain }
+{
+    if heads.is_empty() {
+        return Walk {
+            found: None,
+            chain: 0,
+            passed: 0,
         };
     }
-    false
+    let chain = chain_of(key, round, heads.len());
+    walk_along(cells, heads, round, key, chain)
 }
 
 // Ends a chain with another cell, and says with which it ended.
@@ -128,16 +156,23 @@ fn replace_end(heads: &mut [Option<u32>], chain: usize, number: u32) -> Option<u
 }
 
 // Puts a cell last, at the end of its chain. It takes no memory.
-fn push_cell<K: Key>(cells: &mut Vec<Cell<K>>, heads: &mut [Option<u32>], round: u64, row: Row<K>)
+fn push_cell<K: Key>(
+    cells: &mut Vec<Cell<K>>,
+    heads: &mut [Option<u32>],
+    round: u64,
+    chain: usize,
+    row: Row<K>,
+)
     requires chained { AreChained K.spread round cells.old.items heads.old }
-    requires heads { 0 < length heads.old }
+    requires chain { IsChainOf K.spread round (length heads.old) row.key chain }
     requires room { vec_len cells.old < vec_capacity cells.old }
     requires numbers { vec_len cells.old < 2 ^ 32 }
     ensures chained { AreChained K.spread round cells.new.items heads.new }
     ensures rows { map row_in cells.new.items ≡ map row_in cells.old.items ++ row ∷ [] }
+    ensures found { IsFoundAt K.cmp (map row_in cells.new.items) (vec_len cells.old) }
+    ensures len { vec_len cells.new ≡ vec_len cells.old + 1 }
     ensures heads { length heads.new ≡ length heads.old }
 {
-    let chain = chain_of(row.key, round, heads.len());
     let before = replace_end(heads, chain, cells.len() as u32);
     cells.push_reserved(Cell { row, before });
 }
@@ -211,27 +246,37 @@ fn chains_for(cells: usize) -> usize
     cells.saturating_mul(2).max(16)
 }
 
-// Whether there are as few chains as cells, or the chain of a key is long.
-fn are_crowded<K: Key>(cells: &[Cell<K>], heads: &[Option<u32>], round: u64, key: K) -> bool
-    requires { AreChained K.spread round cells.now heads.now }
-    ensures { length heads.now ≡ 0 → IsTrue result }
+// Whether there are as few chains as cells, or a chain is long that has so many.
+fn are_crowded(cells: usize, chains: usize, round: u64, passed: u32) -> bool
+    ensures { chains ≡ 0 → IsTrue result }
 {
     let most = round.saturating_add(1).saturating_mul(64);
-    heads.len() <= cells.len() || is_longer(cells, heads, round, key, most)
+    chains <= cells || u64::from(passed) > most
 }
 
-// Makes room for a cell of a key, and more chains where they are crowded, and gives the round.
+// Where a new cell goes: into which chain, and in which round the chains are made.
+#[derive(Clone, Copy, Debug, PartialEq, Eq)]
+struct Space {
+    round: u64,
+    chain: usize,
+}
+
+// Makes room for a cell of a key that has none, and more chains where they are crowded, as a walk to the key told.
 fn make_space<K: Key>(
     cells: &mut Vec<Cell<K>>,
     heads: &mut Vec<Option<u32>>,
     round: u64,
     key: K,
-) -> Result<u64, OutOfMemory>
+    walk: Walk,
+) -> Result<Space, OutOfMemory>
     requires chained { AreChained K.spread round cells.old.items heads.old.items }
+    requires walk { 0 < length heads.old.items
+        → IsChainOf K.spread round (length heads.old.items) key walk.chain }
     ensures rows { map row_in cells.new.items ≡ map row_in cells.old.items }
     ensures chained { IfOk result
-        (λ r. AreChained K.spread r cells.new.items heads.new.items) }
-    ensures heads { OnOk result (0 < length heads.new.items) }
+        (λ s. AreChained K.spread s.round cells.new.items heads.new.items) }
+    ensures chain { IfOk result
+        (λ s. IsChainOf K.spread s.round (length heads.new.items) key s.chain) }
     ensures room { OnOk result (vec_len cells.new < vec_capacity cells.new) }
     ensures numbers { OnOk result (vec_len cells.new < 2 ^ 32) }
     ensures stays { OnErr result (cells.new.items ≡ cells.old.items) }
@@ -242,12 +287,29 @@ fn make_space<K: Key>(
         return Err(OutOfMemory);
     }
     cells.reserve(1)?;
-    if !are_crowded(cells, heads, round, key) {
-        return Ok(round);
+    if !are_crowded(count, heads.len(), round, walk.passed) {
+        return Ok(Space {
+            round,
+            chain: walk.chain,
+        });
     }
     let next = round.wrapping_add(1);
     rebuild(cells, heads, next, chains_for(count))?;
-    Ok(next)
+    Ok(Space {
+        round: next,
+        chain: chain_of(key, next, heads.len()),
+    })
+}
+
+// Whether the cell of a number is there, by which its key is found, and has this key.
+fn is_at<K: Key>(cells: &[Cell<K>], k: u32, key: K) -> bool
+    requires { IsFoundAt K.cmp (map row_in cells.now) k }
+    ensures { IsTrue result → row_number K.cmp key (map row_in cells.now) ≡ Some k }
+{
+    match cells.get(k as usize) {
+        Some(cell) => key.is_key(cell.row.key),
+        None => false,
+    }
 }
 
 // Writes the ends of the row of a number.
@@ -256,6 +318,8 @@ fn write_ends<K: Key>(cells: &mut [Cell<K>], k: usize, ends: Ends)
     ensures rows { map row_in cells.new ≡ with_ends k ends (map row_in cells.old) }
     ensures chained { (n : ℕ) (heads : List (Option ℕ)) → AreChained K.spread n cells.old heads
         → AreChained K.spread n cells.new heads }
+    ensures found { (n : ℕ) → IsFoundAt K.cmp (map row_in cells.old) n
+        → IsFoundAt K.cmp (map row_in cells.new) n }
     ensures len { length cells.new ≡ length cells.old }
 {
     let old = cells[k];
@@ -278,6 +342,7 @@ impl<K: Key> KeyCells<K> {
             cells: Vec::new(alloc),
             heads: Vec::new(alloc),
             round: 0,
+            made: 0,
         }
     }
 
@@ -286,7 +351,18 @@ impl<K: Key> KeyCells<K> {
         ensures row { result ≡ row_number K.cmp key self.now }
         ensures within { IfSome result (λ k. k < length self.now) }
     {
-        find_cell(&self.cells, &self.heads, self.round, key)
+        walk_chain(&self.cells, &self.heads, self.round, key).found
+    }
+
+    /// Where the row of a key stands, found at once if it is the one that was made last.
+    pub(crate) fn find_made(&self, key: K) -> Option<u32>
+        ensures row { result ≡ row_number K.cmp key self.now }
+        ensures within { IfSome result (λ k. k < length self.now) }
+    {
+        if is_at(&self.cells, self.made, key) {
+            return Some(self.made);
+        }
+        self.find(key)
     }
 
     /// The ends of the row of a number.
@@ -312,12 +388,22 @@ impl<K: Key> KeyCells<K> {
         ensures kept { (k : K) → ContainsKey K.cmp self.old k → ContainsKey K.cmp self.new k }
         ensures made { OnOk result (ContainsKey K.cmp self.new key) }
     {
-        if self.find(key).is_some() {
+        let walk = walk_chain(&self.cells, &self.heads, self.round, key);
+        if let Some(k) = walk.found {
+            self.made = k;
             return Ok(());
         }
-        self.round = make_space(&mut self.cells, &mut self.heads, self.round, key)?;
+        let space = make_space(&mut self.cells, &mut self.heads, self.round, key, walk)?;
+        self.round = space.round;
+        self.made = self.cells.len() as u32;
         let row = Row { key, ends: None };
-        push_cell(&mut self.cells, &mut self.heads, self.round, row);
+        push_cell(
+            &mut self.cells,
+            &mut self.heads,
+            space.round,
+            space.chain,
+            row,
+        );
         Ok(())
     }
 }

@@ -57,7 +57,7 @@ fn link<K: Key>(cells: &mut KeyCells<K>, gaps: &mut Vec<u32>, key: K)
     ensures capacity { vec_capacity gaps.new ≡ vec_capacity gaps.old }
 {
     let number = gaps.len() as u32;
-    let Some(k) = cells.find(key) else {
+    let Some(k) = cells.find_made(key) else {
         unreachable!()
     };
     let found = cells.ends(k);

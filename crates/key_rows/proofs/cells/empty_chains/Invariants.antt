@@ -1,5 +1,5 @@
 use Rattle.std.proofs.Common.{◌≡◌, ◌≤◌, replicate}
-use Rattle.std.specs.Prelude.{None, vec_capacity, vec_len}
+use Rattle.std.specs.Prelude.{None, vec_capacity}
 use Rattle.key_rows.proofs.cells.empty_chains.Given as goal
 
 abbrev pub invariant-loop : goal.invariant-loop
