@@ -161,7 +161,7 @@ impl<S: Semiring> QueuedTransitions<S> {
     {
         let count = self.transitions.len() + 1;
         self.waiting.reserve(1, count)?;
-        let k = self.transitions.lower(alloc, place, weight, node)?;
+        let k = self.transitions.add(alloc, place, weight, node)?;
         self.waiting.enqueue(k);
         Ok(())
     }

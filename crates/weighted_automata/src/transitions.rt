@@ -185,7 +185,7 @@ impl<S: Semiring> Transitions<S> {
     /// It is refused only when out of memory, and never at a place that has a transition or room. The weight is gone then.
     pub fn lower(
         &mut self,
-        _alloc: Global,
+        alloc: Global,
         place: Place,
         weight: S::W,
         node: u64,
@@ -200,22 +200,47 @@ impl<S: Semiring> Transitions<S> {
         ensures only { AreAmong self.new.room (place ∷ self.old.room) }
         ensures room_stays { OnErr result (self.new.room ≡ self.old.room) }
     {
+        match self.find(place) {
+            Some(k) => {
+                let entry = Entry {
+                    place,
+                    weight,
+                    node,
+                };
+                replace(&mut self.entries, k as usize, entry);
+                Ok(k)
+            }
+            None => self.add(alloc, place, weight, node),
+        }
+    }
+
+    /// Adds a transition last, at a place that has none, and says where it stands. It is refused only when out of memory,
+    /// and never at a place that has room. The weight is gone then.
+    pub fn add(
+        &mut self,
+        _alloc: Global,
+        place: Place,
+        weight: S::W,
+        node: u64,
+    ) -> Result<u64, OutOfMemory>
+        requires { index_at place self.old.transitions ≡ None }
+        ensures ok { OnOk result (
+            self.new.transitions ≡ lowered place weight node self.old.transitions) }
+        ensures index { IfOk result (λ k. index_at place self.new.transitions ≡ Some k) }
+        ensures err { OnErr result (self.new.transitions ≡ self.old.transitions) }
+        ensures kept { AreAmong self.old.room self.new.room }
+        ensures room { IsTrue (has_place place self.old.room) → IsOk result }
+        ensures only { AreAmong self.new.room (place ∷ self.old.room) }
+        ensures room_stays { OnErr result (self.new.room ≡ self.old.room) }
+    {
         let entry = Entry {
             place,
             weight,
             node,
         };
-        match self.find(place) {
-            Some(k) => {
-                replace(&mut self.entries, k as usize, entry);
-                Ok(k)
-            }
-            None => {
-                let k = self.len();
-                add(&mut self.entries, &mut self.index, &mut self.waiting, entry)?;
-                Ok(k)
-            }
-        }
+        let k = self.len();
+        add(&mut self.entries, &mut self.index, &mut self.waiting, entry)?;
+        Ok(k)
     }
 
     /// Replaces the weight and the node of the `k`-th transition, which keeps its place. It takes no memory.
