@@ -1,2 +1,3 @@
 -- How cells are kept.
 pub mod Chains
+pub mod Links

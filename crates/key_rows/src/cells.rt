@@ -3,8 +3,10 @@ ghost use Rattle.std.specs.Ordering.{eq_by_cmp};
 ghost use Rattle.key_rows.specs.Positions.{last_where};
 ghost use Rattle.key_rows.specs.Cells.{row_number, ends_in, with_ends, cell, ContainsKey};
 ghost use Rattle.key_rows.specs.private.Chains.{row_in, chain_of as chain_number, is_in, AreChained, IsChainOf, IsFoundAt};
+ghost use Rattle.key_rows.specs.private.Links.{most_cells};
 
 use crate::key::Key;
+use crate::link::Link;
 use std::alloc::Global;
 use std::marker::Model;
 use wpds_base::OutOfMemory;
@@ -27,7 +29,7 @@ pub(crate) struct Row<K: Copy + Drop> {
 #[derive(Clone, Copy, Drop)]
 pub(crate) struct Cell<K: Copy + Drop> {
     pub(crate) row: Row<K>,
-    pub(crate) before: Option<u32>,
+    pub(crate) before: Link,
 }
 
 /// Rows in order of addition, each with a key of its own, found by what their keys are spread to. A row that is there stays.
@@ -35,7 +37,7 @@ pub(crate) struct Cell<K: Copy + Drop> {
 pub(crate) struct KeyCells<K: Key> {
     cells: Vec<Cell<K>>,
     // The last cell of each chain. The keys of a chain are spread to one number, up to how many chains there are.
-    heads: Vec<Option<u32>>,
+    heads: Vec<Link>,
     // How often the chains were made anew.
     round: u64,
     // Which cell was made last, or was there already.
@@ -46,13 +48,14 @@ impl<K: Key> Model for KeyCells<K> {
     ghost use Rattle.std.specs.Prelude.{List, map, length, ◌≤◌, ◌^◌};
     ghost use Rattle.key_rows.specs.declared.cells.Row.{Row as RowValue};
     ghost use Rattle.key_rows.specs.private.Chains.{row_in, AreChained, IsFoundAt};
+    ghost use Rattle.key_rows.specs.private.Links.{most_cells};
 
     ghost Value = { List (RowValue K) };
 
     ghost view = { λ t. map row_in t.cells.items };
 
     ghost invariant = { λ t. AreChained K.spread t.round t.cells.items t.heads.items
-        × (length t.cells.items ≤ 2 ^ 32)
+        × (length t.cells.items ≤ most_cells)
         × IsFoundAt K.cmp (map row_in t.cells.items) t.made };
 }
 
@@ -78,7 +81,7 @@ struct Walk {
 // The last cell of a chain, which is that of a key.
 fn chain_end<K: Key>(
     cells: &[Cell<K>],
-    heads: &[Option<u32>],
+    heads: &[Link],
     round: u64,
     key: K,
     chain: usize,
@@ -89,17 +92,11 @@ fn chain_end<K: Key>(
         let chain = chain_number K.spread round count key in
         result ≡ last_where (is_in K.spread round count chain) cells.now }
 {
-    heads[chain]
+    heads[chain].get()
 }
 
 // Walks along a chain to the cell of its key.
-fn walk_along<K: Key>(
-    cells: &[Cell<K>],
-    heads: &[Option<u32>],
-    round: u64,
-    key: K,
-    chain: usize,
-) -> Walk
+fn walk_along<K: Key>(cells: &[Cell<K>], heads: &[Link], round: u64, key: K, chain: usize) -> Walk
     requires chained { AreChained K.spread round cells.now heads.now }
     requires chain { IsChainOf K.spread round (length heads.now) key chain }
     ensures found { result.found ≡ row_number K.cmp key (map row_in cells.now) }
@@ -117,7 +114,7 @@ fn walk_along<K: Key>(
             };
         }
         passed = passed.wrapping_add(1);
-        at = cell.before;
+        at = cell.before.get();
     }
     Walk {
         found: None,
@@ -127,7 +124,7 @@ fn walk_along<K: Key>(
 }
 
 // Looks for the cell of a key, in its chain. The key is spread once.
-fn walk_chain<K: Key>(cells: &[Cell<K>], heads: &[Option<u32>], round: u64, key: K) -> Walk
+fn walk_chain<K: Key>(cells: &[Cell<K>], heads: &[Link], round: u64, key: K) -> Walk
     requires { AreChained K.spread round cells.now heads.now }
     ensures found { result.found ≡ row_number K.cmp key (map row_in cells.now) }
     ensures chain { 0 < length heads.now
@@ -145,20 +142,21 @@ fn walk_chain<K: Key>(cells: &[Cell<K>], heads: &[Option<u32>], round: u64, key:
 }
 
 // Ends a chain with another cell, and says with which it ended.
-fn replace_end(heads: &mut [Option<u32>], chain: usize, number: u32) -> Option<u32>
-    requires { chain < length heads.old }
+fn replace_end(heads: &mut [Link], chain: usize, number: u32) -> Link
+    requires chain { chain < length heads.old }
+    requires number { number < most_cells }
     ensures before { slice_get heads.old chain ≡ Some result }
     ensures after { heads.new ≡ set heads.old chain (Some number) }
 {
     let before = heads[chain];
-    heads[chain] = Some(number);
+    heads[chain] = Link::to(number);
     before
 }
 
 // Puts a cell last, at the end of its chain. It takes no memory.
 fn push_cell<K: Key>(
     cells: &mut Vec<Cell<K>>,
-    heads: &mut [Option<u32>],
+    heads: &mut [Link],
     round: u64,
     chain: usize,
     row: Row<K>,
@@ -166,7 +164,7 @@ fn push_cell<K: Key>(
     requires chained { AreChained K.spread round cells.old.items heads.old }
     requires chain { IsChainOf K.spread round (length heads.old) row.key chain }
     requires room { vec_len cells.old < vec_capacity cells.old }
-    requires numbers { vec_len cells.old < 2 ^ 32 }
+    requires numbers { vec_len cells.old < most_cells }
     ensures chained { AreChained K.spread round cells.new.items heads.new }
     ensures rows { map row_in cells.new.items ≡ map row_in cells.old.items ++ row ∷ [] }
     ensures found { IsFoundAt K.cmp (map row_in cells.new.items) (vec_len cells.old) }
@@ -178,9 +176,9 @@ fn push_cell<K: Key>(
 }
 
 // Puts the cell of a number at the end of its chain, behind those before it. Its row stays.
-fn relink<K: Key>(cells: &mut [Cell<K>], heads: &mut [Option<u32>], round: u64, i: usize)
+fn relink<K: Key>(cells: &mut [Cell<K>], heads: &mut [Link], round: u64, i: usize)
     requires number { i < length cells.old }
-    requires few { length cells.old ≤ 2 ^ 32 }
+    requires few { length cells.old ≤ most_cells }
     requires heads { 0 < length heads.old }
     requires chained { AreChained K.spread round (take i cells.old) heads.old }
     ensures chained { AreChained K.spread round (take (i + 1) cells.new) heads.new }
@@ -195,8 +193,8 @@ fn relink<K: Key>(cells: &mut [Cell<K>], heads: &mut [Option<u32>], round: u64, 
 }
 
 // Chains cells anew, where no chain has an end yet. Their rows stay.
-fn relink_all<K: Key>(cells: &mut [Cell<K>], heads: &mut [Option<u32>], round: u64)
-    requires few { length cells.old ≤ 2 ^ 32 }
+fn relink_all<K: Key>(cells: &mut [Cell<K>], heads: &mut [Link], round: u64)
+    requires few { length cells.old ≤ most_cells }
     requires heads { 0 < length heads.old }
     requires none { heads.old ≡ replicate (length heads.old) None }
     ensures chained { AreChained K.spread round cells.new heads.new }
@@ -208,24 +206,24 @@ fn relink_all<K: Key>(cells: &mut [Cell<K>], heads: &mut [Option<u32>], round: u
 }
 
 // So many chains, each without an end. It takes no memory.
-fn empty_chains(heads: &mut Vec<Option<u32>>, count: usize)
+fn empty_chains(heads: &mut Vec<Link>, count: usize)
     requires { count ≤ vec_capacity heads.old }
     ensures { heads.new.items ≡ replicate count None }
 {
     heads.clear();
     for _ in 0..count {
-        heads.push_reserved(None);
+        heads.push_reserved(Link::none());
     }
 }
 
 // Makes so many chains of the cells. It is refused only when out of memory, and then all stays as it was.
 fn rebuild<K: Key>(
     cells: &mut [Cell<K>],
-    heads: &mut Vec<Option<u32>>,
+    heads: &mut Vec<Link>,
     round: u64,
     count: usize,
 ) -> Result<(), OutOfMemory>
-    requires few { length cells.old ≤ 2 ^ 32 }
+    requires few { length cells.old ≤ most_cells }
     requires count { 0 < count }
     ensures chained { OnOk result (AreChained K.spread round cells.new heads.new.items) }
     ensures heads { OnOk result (0 < length heads.new.items) }
@@ -239,11 +237,11 @@ fn rebuild<K: Key>(
     Ok(())
 }
 
-// How many chains so many cells are to have.
+// How many chains so many cells are to have: four times as many, so that few cells are put into chains anew.
 fn chains_for(cells: usize) -> usize
     ensures { 0 < result }
 {
-    cells.saturating_mul(2).max(16)
+    cells.saturating_mul(4).max(16)
 }
 
 // Whether there are as few chains as cells, or a chain is long that has so many.
@@ -264,7 +262,7 @@ struct Space {
 // Makes room for a cell of a key that has none, and more chains where they are crowded, as a walk to the key told.
 fn make_space<K: Key>(
     cells: &mut Vec<Cell<K>>,
-    heads: &mut Vec<Option<u32>>,
+    heads: &mut Vec<Link>,
     round: u64,
     key: K,
     walk: Walk,
@@ -278,7 +276,7 @@ fn make_space<K: Key>(
     ensures chain { IfOk result
         (λ s. IsChainOf K.spread s.round (length heads.new.items) key s.chain) }
     ensures room { OnOk result (vec_len cells.new < vec_capacity cells.new) }
-    ensures numbers { OnOk result (vec_len cells.new < 2 ^ 32) }
+    ensures numbers { OnOk result (vec_len cells.new < most_cells) }
     ensures stays { OnErr result (cells.new.items ≡ cells.old.items) }
     ensures chains { OnErr result (heads.new.items ≡ heads.old.items) }
 {

@@ -5,6 +5,7 @@
 mod bytes;
 mod cells;
 mod key;
+mod link;
 mod rows;
 
 pub use key::{Key, mixed};

@@ -30,18 +30,20 @@ returns-then-is_key-clause-found g c =
 pub chain-smaller : goal.chain-smaller
 chain-smaller g c =
     let P = IsWalked (test g.K.Key.spread c.args.round c.args.key c.args.heads.now) (mine (eq_by_cmp g.K.Ord.cmp) c.args.key) c.args.cells.now in
-    subst (λ o. to_go c.index-cells-k.result.before < to_go o) (sym c.in-Some.is)
+    subst (λ o. to_go o < to_go c.chain.at) (sym c.get-at.ensures)
+    (subst (λ o. to_go c.index-cells-k.result.before < to_go o) (sym c.in-Some.is)
     (walk_nears_its_end (eq_by_cmp g.K.Ord.cmp) g.K.Key.spread c.args.round (λ a b. g.met.K.Key.alike c.args.round a b) c.args.key c.args.cells.now c.args.heads.now c.requires.chained c.in-Some.k (subst P c.in-Some.is c.chain.invariant)
     c.index-cells-k.result
-    (slice_get_read c.args.cells.now (length c.args.cells.now) c.in-Some.k c.index-cells-k.result refl (walk_inside (eq_by_cmp g.K.Ord.cmp) g.K.Key.spread c.args.round (λ a b. g.met.K.Key.alike c.args.round a b) c.args.key c.args.cells.now c.args.heads.now c.requires.chained c.in-Some.k (subst P c.in-Some.is c.chain.invariant)) c.index-cells-k.is))
+    (slice_get_read c.args.cells.now (length c.args.cells.now) c.in-Some.k c.index-cells-k.result refl (walk_inside (eq_by_cmp g.K.Ord.cmp) g.K.Key.spread c.args.round (λ a b. g.met.K.Key.alike c.args.round a b) c.args.key c.args.cells.now c.args.heads.now c.requires.chained c.in-Some.k (subst P c.in-Some.is c.chain.invariant)) c.index-cells-k.is)))
 
 pub chain-preserved : goal.chain-preserved
 chain-preserved g c =
     let P = IsWalked (test g.K.Key.spread c.args.round c.args.key c.args.heads.now) (mine (eq_by_cmp g.K.Ord.cmp) c.args.key) c.args.cells.now in
-    walk_goes_on (eq_by_cmp g.K.Ord.cmp) g.K.Key.spread c.args.round (λ a b. g.met.K.Key.alike c.args.round a b) c.args.key c.args.cells.now c.args.heads.now c.requires.chained c.in-Some.k (subst P c.in-Some.is c.chain.invariant)
+    subst P (sym c.get-at.ensures)
+    (walk_goes_on (eq_by_cmp g.K.Ord.cmp) g.K.Key.spread c.args.round (λ a b. g.met.K.Key.alike c.args.round a b) c.args.key c.args.cells.now c.args.heads.now c.requires.chained c.in-Some.k (subst P c.in-Some.is c.chain.invariant)
     c.index-cells-k.result
     (slice_get_read c.args.cells.now (length c.args.cells.now) c.in-Some.k c.index-cells-k.result refl (walk_inside (eq_by_cmp g.K.Ord.cmp) g.K.Key.spread c.args.round (λ a b. g.met.K.Key.alike c.args.round a b) c.args.key c.args.cells.now c.args.heads.now c.requires.chained c.in-Some.k (subst P c.in-Some.is c.chain.invariant)) c.index-cells-k.is)
-    (sym c.is_key.ensures ∙ c.if-is_key.false)
+    (sym c.is_key.ensures ∙ c.if-is_key.false))
 
 pub returns-clause-found : goal.returns-clause-found
 returns-clause-found g c =
