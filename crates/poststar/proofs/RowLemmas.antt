@@ -1,6 +1,6 @@
 -- Frames and middles by the numbers of the push rules, and what no row lists.
-use Rattle.std.proofs.Common.{◌≡◌, ℕ, zero, suc, ◌+◌, ◌-◌, ◌<◌, ◌≤◌, Bool, true, false, List, [], ◌∷◌, ◌++◌, length, refl, sym, ap, ap₂, ◌∙◌, inl, inr, arith}
-use Rattle.std.specs.Prelude.{Option, None, Some, cond, nat_eq, ◌&&◌, slice_get, take}
+use Rattle.std.proofs.Common.{◌≡◌, ℕ, zero, suc, ◌+◌, ◌-◌, ◌<◌, ◌≤◌, Bool, true, false, List, [], ◌∷◌, ◌++◌, length, refl, sym, ap, ap₂, ◌∙◌, append-nil, inl, inr, arith}
+use Rattle.std.specs.Prelude.{Option, None, Some, option_map, cond, nat_eq, ◌&&◌, slice_get, take}
 use Rattle.std.specs.List.{count_by}
 use Rattle.std.proofs.lemmas.Bool.{and_parts, and_from, cond-true, cond-false, cond_both, cases_Bool, eqb-true, eq-eqb, false_from_ne_true}
 use Rattle.std.proofs.lemmas.Option.{same_Some}
@@ -11,18 +11,21 @@ use Rattle.weighted_automata.specs.declared.place.Label.TheVariants.{Symbol, Emp
 use Rattle.weighted_automata.specs.declared.transitions.Entry.{Entry}
 use Rattle.weighted_automata.specs.Places.{same_label}
 use Rattle.weighted_automata.specs.Entries.{is_from, is_out_of, is_empty_into}
-use Rattle.key_rows.specs.Rows.{index_from}
+use Rattle.key_rows.specs.Rows.{index_from, index_where}
 use Rattle.pushdown_rules.specs.declared.rule.Rule.{Rule}
-use Rattle.pushdown_rules.specs.Rows.{indices_from, has_head, push_number}
-use Rattle.pushdown_rules.proofs.CallerLemmas.{index_found, IsFound}
+use Rattle.pushdown_rules.specs.Pushdown.{Pushdown}
+use Rattle.pushdown_rules.specs.Rows.{indices_from, has_head, next_with_head, push_number}
+use Rattle.pushdown_rules.proofs.CallerLemmas.{index_found, IsFound, with_head_goes_on}
 use Rattle.saturation_laws.specs.declared.job.JobKind.{JobKind}
 use Rattle.saturation_laws.specs.declared.job.JobKind.TheVariants.{PreStep, PrePushControl, PrePushOther, PostStep, PostPopMiddle, PostPopOther, PostEnter, PostLeave, PostGlue}
 use Rattle.direction_parts.specs.Places.{arrow, reads_symbol}
 use Rattle.direction_parts.specs.Passes.{two_symbols}
+use Rattle.direction_parts.proofs.CallerLemmas.{by_number-none, by_rule_is}
 use Rattle.poststar_laws.specs.declared.drawn.Drawn.{Drawn}
 use Rattle.poststar_laws.specs.Middles.{is_push, pushes_of, count_pushes, pushes_before, middle_of, frame_from, frame_of}
 use Rattle.poststar_laws.specs.Rows.{drawn_to, drawn, are_glued}
-use Rattle.poststar_laws.specs.Jobs.{drawn_job, jobs_drawn, rule_jobs, glue_job, glue_jobs}
+use Rattle.poststar_laws.specs.Jobs.{drawn_job, jobs_drawn, rule_jobs, of_kind, kind_jobs, glue_job, glue_jobs}
+use Rattle.poststar.specs.private.Passes.{kind_of, pops_of, fires_on}
 use Rattle.poststar.specs.private.Meetings.{may_glue}
 
 not_both : {P : Type 0} (b : Bool) → b ≡ false → b ≡ true → P
@@ -140,15 +143,42 @@ module _ {S W Map : Type 0} where
     none_drawn None other = refl
     none_drawn (Some d) other = cond-false (is_from r.control (Symbol r.symbol) t) (drawn_job kind k d t ∷ []) [] other
 
-    pub head_only : (frame : Option ℕ) (middle g : ℕ) → t.place.label ≡ Symbol g → has_head t.place.from g r ≡ false → rule_jobs kind frame middle t k r ≡ []
+    head_only : (frame : Option ℕ) (middle g : ℕ) → t.place.label ≡ Symbol g → has_head t.place.from g r ≡ false → rule_jobs kind frame middle t k r ≡ []
     head_only frame middle g label other = none_drawn (drawn kind frame middle r t.place.to) (false_from_ne_true (is_from r.control (Symbol r.symbol) t) (λ h.
         let parts = and_parts (nat_eq t.place.from r.control) (same_label t.place.label (Symbol r.symbol)) h in
         not_both (has_head t.place.from g r) other (and_from (nat_eq r.control t.place.from) (nat_eq r.symbol g) (eq-eqb r.control t.place.from (sym (eqb-true t.place.from r.control parts.0)))
         (eq-eqb r.symbol g (sym (eqb-true g r.symbol (ap (λ l. same_label l (Symbol r.symbol)) (sym label) ∙ parts.1)))))))
 
-    pub head_empty : (frame : Option ℕ) (middle : ℕ) → t.place.label ≡ Empty → rule_jobs kind frame middle t k r ≡ []
+    head_empty : (frame : Option ℕ) (middle : ℕ) → t.place.label ≡ Empty → rule_jobs kind frame middle t k r ≡ []
     head_empty frame middle label = none_drawn (drawn kind frame middle r t.place.to) (false_from_ne_true (is_from r.control (Symbol r.symbol) t) (λ h.
         not_both (same_label t.place.label (Symbol r.symbol)) (ap (λ l. same_label l (Symbol r.symbol)) label) (and_parts (nat_eq t.place.from r.control) (same_label t.place.label (Symbol r.symbol)) h).1))
+
+    by_label : (frame : Option ℕ) (middle : ℕ) (l : Label) → t.place.label ≡ l → fires_on t.place.from l r ≡ false → rule_jobs kind frame middle t k r ≡ []
+    by_label frame middle (Symbol g) label other = head_only frame middle g label other
+    by_label frame middle Empty label other = head_empty frame middle label
+
+    pub fires_only : (frame : Option ℕ) (middle : ℕ) → fires_on t.place.from t.place.label r ≡ false → rule_jobs kind frame middle t k r ≡ []
+    fires_only frame middle other = by_label frame middle t.place.label refl other
+
+  -- the next of the rules that fire where a transition begins
+  pub fires_goes_on : (rs : List (Rule S W Map)) (k : ℕ) (r : Rule S W Map) → slice_get rs k ≡ Some r → (from : ℕ) (l : Label) → fires_on from l r ≡ true
+      → next_with_head k rs ≡ index_from (fires_on from l) (k + 1) rs
+  fires_goes_on rs k r there from (Symbol g) h = with_head_goes_on rs k r there from g h
+  fires_goes_on rs k r there from Empty h = cc
+
+  -- what reads nothing fires no rule
+  pub none_fires : (from : ℕ) (rs : List (Rule S W Map)) → None ≡ index_where (fires_on from Empty) rs
+  none_fires from [] = refl
+  none_fires from (r ∷ rs) = ap (option_map (λ k. k + 1)) (none_fires from rs)
+
+  -- of the two kinds of pops a transition draws one
+  module _ (base : ℕ) (p : Pushdown S W Map) (t : Entry S W Map) where
+    none_of : (kind : JobKind) → ((k : ℕ) (r : Rule S W Map) → of_kind base p kind t k r ≡ []) → kind_jobs base p kind t ≡ []
+    none_of kind none = by_rule_is (of_kind base p kind t) 0 p.rules ∙ by_number-none (of_kind base p kind t) none 0 p.rules
+
+    pub pops_are : (frame : Option ℕ) → frame ≡ frame_of base p.rules t.place.to → kind_jobs base p (kind_of (pops_of frame)) t ≡ kind_jobs base p PostPopMiddle t ++ kind_jobs base p PostPopOther t
+    pops_are None e = sym (ap (λ ys. ys ++ kind_jobs base p PostPopOther t) (none_of PostPopMiddle (λ k r. sym (ap (λ o. rule_jobs PostPopMiddle o (middle_of base p.rules k) t k r) e))))
+    pops_are (Some m) e = sym (ap (λ ys. kind_jobs base p PostPopMiddle t ++ ys) (none_of PostPopOther (λ k r. sym (ap (λ o. rule_jobs PostPopOther o (middle_of base p.rules k) t k r) e))) ∙ append-nil (kind_jobs base p PostPopMiddle t))
 
 reads_nothing : (l : Label) → same_label l Empty ≡ true → reads_symbol l ≡ false
 reads_nothing (Symbol g) h = cc

@@ -1,5 +1,5 @@
 ghost use Rattle.std.specs.Prelude.{◌≡◌};
-ghost use Rattle.poststar.specs.private.Passes.{kind_of};
+ghost use Rattle.poststar.specs.private.Passes.{kind_of, pops_of};
 
 use saturation_laws::JobKind;
 
@@ -19,6 +19,17 @@ pub(crate) enum Pass {
 }
 
 impl Pass {
+    /// The pass over the pop rules of a transition, which leads to the middle of a push rule where one is given. The other
+    /// pass over them draws nothing from it.
+    pub(crate) fn pops_of(frame: Option<u32>) -> Pass
+        ensures { result ≡ pops_of frame }
+    {
+        match frame {
+            Some(_) => Pass::Returns,
+            None => Pass::Pops,
+        }
+    }
+
     pub(crate) fn kind(self) -> JobKind
         ensures { result ≡ kind_of self }
     {

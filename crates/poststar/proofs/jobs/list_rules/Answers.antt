@@ -1,27 +1,13 @@
-use Rattle.std.proofs.Common.{◌++◌, ◌<◌, length, map, ℕ, sym, ap, ◌∙◌, subst, append-nil}
+use Rattle.std.proofs.Common.{◌++◌, ◌<◌, length, map, ℕ, sym, ap, ◌∙◌, subst}
 use Rattle.std.specs.Prelude.{Option}
 use Rattle.std.proofs.lemmas.Option.{slice_get_within}
 use Rattle.pushdown_rules.specs.declared.rule.Rule.{Rule}
-use Rattle.pushdown_rules.specs.Rows.{has_head}
-use Rattle.pushdown_rules.proofs.CallerLemmas.{with_head_goes_on}
-use Rattle.direction_parts.proofs.CallerLemmas.{by_number-none, made_by_rule, pass_starts, pass_at, passes_at, pass_goes_on, pass_ends, less_to_go, to_go}
+use Rattle.direction_parts.proofs.CallerLemmas.{made_by_rule, pass_starts, pass_at, passes_at, pass_goes_on, pass_ends, less_to_go, to_go}
 use Rattle.poststar_laws.specs.Middles.{middle_of, frame_of}
 use Rattle.poststar_laws.specs.Jobs.{of_kind, rule_jobs}
-use Rattle.poststar.specs.private.Passes.{kind_of}
-use Rattle.poststar.proofs.RowLemmas.{head_only, head_empty, jobs_same}
+use Rattle.poststar.specs.private.Passes.{kind_of, fires_on}
+use Rattle.poststar.proofs.RowLemmas.{fires_goes_on, fires_only, jobs_same}
 use Rattle.poststar.proofs.jobs.list_rules.Goals as goal
-
-pub returns-in_default : goal.returns-in_default
-returns-in_default g c =
-    let t = c.args.taken.now in
-    let rs = c.args.system.now.rules in
-    let kind = kind_of c.args.pass in
-    let each = of_kind c.args.base c.args.system.now kind t in
-    let h = g.K.Draw.made c.args.system.now in
-    let f = λ (k : ℕ) (r : Rule g.row.S.Denot g.row.S-W.Denot g.row.S-Ret.Denot). map h (each k r) in
-    sym (append-nil c.args.into.now.items)
-    ∙ ap (λ ys. c.args.into.now.items ++ ys) (sym (made_by_rule h each 0 rs
-    ∙ by_number-none f (λ n u. ap (map h) (head_empty kind t n u (frame_of c.args.base rs t.place.to) (middle_of c.args.base rs n) c.in_default.is)) 0 rs))
 
 pub rules-init : goal.rules-init
 rules-init g c =
@@ -31,8 +17,8 @@ rules-init g c =
     let each = of_kind c.args.base c.args.system.now kind t in
     let h = g.K.Draw.made c.args.system.now in
     let f = λ (k : ℕ) (r : Rule g.row.S.Denot g.row.S-W.Denot g.row.S-Ret.Denot). map h (each k r) in
-    let p = has_head t.place.from c.in-Symbol.symbol in
-    pass_starts p f rs c.args.into.now.items c.first_with_head-at.result c.first_with_head-at.ensures
+    let p = fires_on t.place.from t.place.label in
+    pass_starts p f rs c.args.into.now.items c.args.first c.requires.first
 
 pub rule-requires : goal.rule-requires
 rule-requires g c =
@@ -42,7 +28,7 @@ rule-requires g c =
     let each = of_kind c.args.base c.args.system.now kind t in
     let h = g.K.Draw.made c.args.system.now in
     let f = λ (k : ℕ) (r : Rule g.row.S.Denot g.row.S-W.Denot g.row.S-Ret.Denot). map h (each k r) in
-    let p = has_head t.place.from c.in-Symbol.symbol in
+    let p = fires_on t.place.from t.place.label in
     let found = pass_at p f rs _ c.rules.into.items c.rules.at c.rules.invariant c.in-Some.k c.in-Some.is in
     slice_get_within rs c.in-Some.k found.item found.there
 
@@ -54,15 +40,15 @@ rules-preserved g c =
     let each = of_kind c.args.base c.args.system.now kind t in
     let h = g.K.Draw.made c.args.system.now in
     let f = λ (k : ℕ) (r : Rule g.row.S.Denot g.row.S-W.Denot g.row.S-Ret.Denot). map h (each k r) in
-    let p = has_head t.place.from c.in-Symbol.symbol in
+    let p = fires_on t.place.from t.place.label in
     let k = c.in-Some.k in
     let r = c.rule.result.now in
     let found = pass_at p f rs _ c.rules.into.items c.rules.at c.rules.invariant k c.in-Some.is in
     let listed = c.in_ok-list_rule.ensures
     ∙ ap (λ o. c.rules.into.items ++ map h (rule_jobs kind o c.middle_of-middle.result t k r)) c.requires.frame
     ∙ ap (λ ys. c.rules.into.items ++ map h ys) (jobs_same r c.middle_of-middle.result (middle_of c.args.base rs k) kind (frame_of c.args.base rs t.place.to) t k (λ push. c.middle_of-middle.ensures r c.rule.ensures.rule push)) in
-    pass_goes_on p f rs _ c.rules.into.items c.rules.at c.rules.invariant (λ n u e. ap (map h) (head_only kind t n u (frame_of c.args.base rs t.place.to) (middle_of c.args.base rs n) c.in-Symbol.symbol c.in-Symbol.is e)) k r _ c.next_with_head-at.result c.in-Some.is c.rule.ensures.rule listed
-    (c.next_with_head-at.ensures ∙ with_head_goes_on rs k r c.rule.ensures.rule t.place.from c.in-Symbol.symbol (passes_at p rs k r found c.rule.ensures.rule))
+    pass_goes_on p f rs _ c.rules.into.items c.rules.at c.rules.invariant (λ n u e. ap (map h) (fires_only kind t n u (frame_of c.args.base rs t.place.to) (middle_of c.args.base rs n) e)) k r _ c.next_with_head-at.result c.in-Some.is c.rule.ensures.rule listed
+    (c.next_with_head-at.ensures ∙ fires_goes_on rs k r c.rule.ensures.rule t.place.from t.place.label (passes_at p rs k r found c.rule.ensures.rule))
 
 pub rules-smaller : goal.rules-smaller
 rules-smaller g c =
@@ -72,13 +58,13 @@ rules-smaller g c =
     let each = of_kind c.args.base c.args.system.now kind t in
     let h = g.K.Draw.made c.args.system.now in
     let f = λ (k : ℕ) (r : Rule g.row.S.Denot g.row.S-W.Denot g.row.S-Ret.Denot). map h (each k r) in
-    let p = has_head t.place.from c.in-Symbol.symbol in
+    let p = fires_on t.place.from t.place.label in
     let k = c.in-Some.k in
     let r = c.rule.result.now in
     let found = pass_at p f rs _ c.rules.into.items c.rules.at c.rules.invariant k c.in-Some.is in
     let P : Option ℕ → Type 0 = λ o. to_go (length rs) c.next_with_head-at.result < to_go (length rs) o in
     subst P (sym c.in-Some.is) (less_to_go p rs k c.next_with_head-at.result (slice_get_within rs k r c.rule.ensures.rule)
-    (c.next_with_head-at.ensures ∙ with_head_goes_on rs k r c.rule.ensures.rule t.place.from c.in-Symbol.symbol (passes_at p rs k r found c.rule.ensures.rule)))
+    (c.next_with_head-at.ensures ∙ fires_goes_on rs k r c.rule.ensures.rule t.place.from t.place.label (passes_at p rs k r found c.rule.ensures.rule)))
 
 pub returns : goal.returns
 returns g c =
@@ -88,6 +74,6 @@ returns g c =
     let each = of_kind c.args.base c.args.system.now kind t in
     let h = g.K.Draw.made c.args.system.now in
     let f = λ (k : ℕ) (r : Rule g.row.S.Denot g.row.S-W.Denot g.row.S-Ret.Denot). map h (each k r) in
-    let p = has_head t.place.from c.in-Symbol.symbol in
-    pass_ends p f rs _ c.rules.into.items c.rules.at c.rules.invariant (λ n u e. ap (map h) (head_only kind t n u (frame_of c.args.base rs t.place.to) (middle_of c.args.base rs n) c.in-Symbol.symbol c.in-Symbol.is e)) c.in_default-at.is
+    let p = fires_on t.place.from t.place.label in
+    pass_ends p f rs _ c.rules.into.items c.rules.at c.rules.invariant (λ n u e. ap (map h) (fires_only kind t n u (frame_of c.args.base rs t.place.to) (middle_of c.args.base rs n) e)) c.in_default.is
     ∙ ap (λ ys. c.args.into.now.items ++ ys) (sym (made_by_rule h each 0 rs))
