@@ -168,6 +168,10 @@ pub(crate) fn list_rule<S: Semiring, K: Draw<S>>(
     ensures { let more = rule_jobs (kind_of pass) frame middle taken.now number rule.now in
         OnOk result (into.new.items ≡ into.old.items ++ map (K.made system.now) more) }
 {
+    // most rules of a row are of another kind
+    if rule.right.len() != pass.pushed() {
+        return Ok(());
+    }
     let Some(found) = drawn(pass, frame, middle, rule, taken.place.to) else {
         return Ok(());
     };

@@ -1,5 +1,5 @@
 ghost use Rattle.std.specs.Prelude.{◌≡◌};
-ghost use Rattle.poststar.specs.private.Passes.{kind_of, pops_of};
+ghost use Rattle.poststar.specs.private.Passes.{kind_of, pops_of, pushed_by};
 
 use saturation_laws::JobKind;
 
@@ -27,6 +27,17 @@ impl Pass {
         match frame {
             Some(_) => Pass::Returns,
             None => Pass::Pops,
+        }
+    }
+
+    /// How many symbols the rules of the pass have on the right.
+    pub(crate) fn pushed(self) -> usize
+        ensures { result ≡ pushed_by self }
+    {
+        match self {
+            Pass::Returns | Pass::Pops => 0,
+            Pass::Steps => 1,
+            Pass::Enters | Pass::Leaves => 2,
         }
     }
 

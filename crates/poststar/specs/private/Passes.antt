@@ -17,6 +17,14 @@ kind_of Pops = PostPopOther
 kind_of Enters = PostEnter
 kind_of Leaves = PostLeave
 
+-- how many symbols the rules of a pass have on the right
+abbrev pub pushed_by : Pass → ℕ
+pushed_by Steps = 1
+pushed_by Returns = 0
+pushed_by Pops = 0
+pushed_by Enters = 2
+pushed_by Leaves = 2
+
 -- the pass over the pop rules that a transition may draw from, where it leads to the middle of a frame
 abbrev pub pops_of : Option ℕ → Pass
 pops_of None = Pops
