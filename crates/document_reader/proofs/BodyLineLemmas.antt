@@ -1,20 +1,22 @@
 -- Lines behind the weights line.
-use Rattle.std.proofs.Common.{◌≡◌, ◌∙◌, ℕ, ◌≤◌, true, List, [], ◌∷◌, ◌++◌, length, Option, Some, None, refl, sym, ap, subst, append-nil, length-append}
+use Rattle.std.proofs.Common.{◌≡◌, ◌∙◌, ℕ, ◌≤◌, true, not, List, [], ◌∷◌, ◌++◌, length, Option, Some, None, refl, sym, ap, subst, append-nil, length-append}
 use Rattle.std.specs.Global.{Vec}
 use Rattle.std.specs.Prelude.{option_map, IfNone, IfOk, Result, Ok, Err}
 use Rattle.wpds_base.specs.Faults.{first_fault}
 use Rattle.wpds_base.specs.Lists.{IsOnce}
 use Rattle.wpds_port.specs.declared.Kind.{Kind}
+use Rattle.wpds_port.specs.declared.Kind.TheVariants.{NotText}
 use Rattle.wpds_port.specs.declared.Word.{Word}
+use Rattle.document_forms.specs.Lines.{Line, is_text}
 use Rattle.document_forms.specs.Above.{Above, has_class, most_names, class_names, with_line}
-use Rattle.document_forms.specs.Forms.{Class, Controls, Symbols, Facts, Variables, RuleForm, LineForm, OfWeights, OfNames, OfRule, OfQuery, names_of, rule_of}
+use Rattle.document_forms.specs.Forms.{Class, Controls, Symbols, Facts, Variables, RuleForm, LineForm, OfWeights, OfNames, OfRule, OfQuery, names_of, rule_of, line_form}
 use Rattle.document_forms.specs.Kinds.{conditions}
 use Rattle.document_forms.specs.FirstRefusal.{by_form}
 use Rattle.document_forms.specs.declared.document.RuleLine.{RuleLine}
 use Rattle.document_forms.proofs.CallerLemmas.{names_few, facts_limit, variables_limit}
 use Rattle.document_reader.specs.declared.reading.Reading.{Reading}
 use Rattle.rule_reader.specs.declared.rules.RuleRead.{RuleRead}
-use Rattle.document_reader.specs.private.Readings.{above_now, TakesForm}
+use Rattle.document_reader.specs.private.Readings.{kind_on, all_behind, above_now, TakesForm}
 use Rattle.rule_reader.specs.RuleReads.{HasFewItems, IsReadRule}
 use Rattle.document_reader.specs.private.LineReads.{IsAnswered, AreAnswered}
 use Rattle.document_reader.specs.NameLines.{kind_of_names, Declares}
@@ -113,3 +115,17 @@ few_answered all old new form (Ok k) o h m = go k m.kind m.taken
     go None e t =
         subst HasFewItems (sym t.2.above)
         (few_with all (above_now old) t.0 o h (ap (λ g. first_fault (by_form (conditions all (above_now old)) g)) (sym t.1) ∙ sym e))
+
+-- ---- the kind of a line
+
+-- of a line of text with this form
+pub kind_answered :
+    {E : Type 0} (line : List ℕ) (form : Option LineForm) (xs : List (List ℕ)) (ls : List Line) (old new : Reading) (result : Result (Option Kind) E)
+    → line_form line ≡ form → is_text line ≡ true → IfOk result (IsAnswered (all_behind xs form ls) old new form)
+    → IfOk result (λ k. k ≡ kind_on (all_behind xs (line_form line) ls) (above_now old) line)
+kind_answered line form xs ls old new (Err x) e t m = tt
+kind_answered line form xs ls old new (Ok k) e t m =
+    let a = above_now old in
+    m.kind
+    ∙ sym (ap (λ f. first_fault (by_form (conditions (all_behind xs f ls) a) f)) e)
+    ∙ ap (λ s. first_fault ((not s, NotText) ∷ by_form (conditions (all_behind xs (line_form line) ls) a) (line_form line))) (sym t)

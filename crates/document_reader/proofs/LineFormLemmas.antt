@@ -110,11 +110,11 @@ query_behind w ws h = ap (λ v. form_behind v ws) (name_is (codes "query") w h)
 
 -- ---- lines of symbols
 
-abbrev symbols_in : Option LineForm → List (List ℕ)
+abbrev pub symbols_in : Option LineForm → List (List ℕ)
 symbols_in f = unwrap_or (option_map (names_on Symbols) f) []
 
 -- a line that begins with another word declares no symbols
-other_symbols : (w : Word) (ws : List Word) → is_name (codes "symbols") w ≡ false → symbols_in (form_behind w ws) ≡ []
+pub other_symbols : (w : Word) (ws : List Word) → is_name (codes "symbols") w ≡ false → symbols_in (form_behind w ws) ≡ []
 other_symbols w ws h = go (is_name (codes "weights") w) (is_name (codes "controls") w) (is_name (codes "symbols") w) h (is_name (codes "facts") w) (is_name (codes "variables") w) (is_name (codes "rule") w) (is_name (codes "query") w)
   where
     weights : (o : Option WeightsForm) → symbols_in (option_map OfWeights o) ≡ []

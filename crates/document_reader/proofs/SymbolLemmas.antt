@@ -1,15 +1,19 @@
 -- The symbols of lines, each once.
-use Rattle.std.proofs.Common.{◌≡◌, ℕ, Bool, true, false, not, cond, List, [], ◌∷◌, ◌++◌, map, Option, Some, None, refl, sym, ap, ◌∙◌, subst, append_assoc, append-nil}
-use Rattle.std.specs.Prelude.{bytes_eq, filter, flat_map, option_map, unwrap_or}
+use Rattle.std.proofs.Common.{◌≡◌, ℕ, Bool, true, false, not, cond, List, [], ◌∷◌, ◌++◌, length, map, Option, Some, None, refl, sym, ap, ◌∙◌, subst, append_assoc, append-nil}
+use Rattle.std.specs.Prelude.{IfOk, IfSome, Result, Ok, Err, bytes_eq, codes, filter, flat_map, option_map, unwrap_or}
 use Rattle.std.specs.List.{cons_option}
 use Rattle.std.proofs.lemmas.List.Elements.{filter-append}
 use Rattle.std.proofs.lemmas.Slice.Eq.{bytes_eq-Decides}
+use Rattle.wpds_port.specs.declared.Word.{Word}
+use Rattle.truth_tables.specs.Texts.{is_name}
 use Rattle.document_forms.specs.Lines.{Line}
 use Rattle.document_forms.specs.Names.{once}
-use Rattle.document_forms.specs.Forms.{Class, LineForm}
-use Rattle.document_forms.specs.Above.{names_on}
-use Rattle.document_forms.specs.FirstRefusal.{counted, forms}
-use Rattle.document_reader.specs.private.Readings.{declared_on, names_in}
+use Rattle.document_forms.specs.Forms.{Class, Controls, Symbols, Facts, Variables, LineForm, OfWeights, OfNames, OfRule, OfQuery, line_form, form_behind}
+use Rattle.document_forms.specs.Above.{Above, names_on, with_line}
+use Rattle.document_forms.specs.FirstRefusal.{counted, forms, all_symbols}
+use Rattle.document_reader.specs.declared.reading.Reading.{Reading}
+use Rattle.document_reader.specs.private.Readings.{declared_on, names_in, symbols_with, all_behind, above_now, Takes}
+use Rattle.document_reader.proofs.LineFormLemmas.{other_symbols}
 
 -- ---- each name once, again
 
@@ -94,3 +98,44 @@ symbols_more c old new l ls e =
     ap (λ xs. once (xs ++ rest)) e
     ∙ once_again (old ++ here) rest
     ∙ ap once (append_assoc old here rest ∙ ap (λ xs. old ++ xs) (sym (names_first c l ls)))
+
+-- ---- how many symbols all lines declare
+
+-- those of a line and of the lines behind it
+pub all_first : (xs : Names) (l : Line) (ls : List Line) → symbols_with xs (l ∷ ls) ≡ all_behind xs (line_form l.bytes) ls
+all_first xs l ls = ap (λ ys. length (once (xs ++ ys))) (names_first Symbols l ls)
+
+-- the symbols with a line more
+with_form : (a : Above) (f : LineForm) → (with_line a f).symbols ≡ a.symbols ++ names_on Symbols f
+with_form a (OfWeights w) = sym (append-nil a.symbols)
+with_form a (OfNames Controls xs) = sym (append-nil a.symbols)
+with_form a (OfNames Symbols xs) = refl
+with_form a (OfNames Facts xs) = sym (append-nil a.symbols)
+with_form a (OfNames Variables xs) = sym (append-nil a.symbols)
+with_form a (OfRule r) = sym (append-nil a.symbols)
+with_form a (OfQuery p q) = sym (append-nil a.symbols)
+
+-- as many when a line is taken
+pub symbols_taken : (old new : Reading) (line : List ℕ) (ls : List Line) → Takes old new line → symbols_with new.scope.symbols ls ≡ all_behind old.scope.symbols (line_form line) ls
+symbols_taken old new line ls t =
+    let xs = old.scope.symbols in
+    let here = names_on Symbols t.0 in
+    let rest = names_in Symbols (map counted ls) in
+    let more : new.scope.symbols ≡ xs ++ here = ap (λ a. a.symbols) t.2.above ∙ with_form (above_now old) t.0 in
+    ap (λ ys. length (once (ys ++ rest))) more
+    ∙ ap (λ ys. length (once ys)) (append_assoc xs here rest)
+    ∙ sym (ap (λ o. all_behind xs o ls) t.1)
+
+-- where no symbols stand above the lines behind the first two, all symbols are those of all lines
+pub all_of_lines : (ls : List Line) (h w : Line) (left : List Line) (r : Reading) → ls ≡ h ∷ w ∷ left → r.scope.symbols ≡ [] → symbols_with r.scope.symbols left ≡ all_symbols (map counted ls)
+all_of_lines ls h w left r e none =
+    ap (λ xs. symbols_with xs left) none ∙ sym (ap (λ k. all_symbols (map counted k)) e)
+
+-- a line that begins with another word declares none
+pub none_here : (xs : Names) (w : Word) (ws : List Word) (ls : List Line) → is_name (codes "symbols") w ≡ false → all_behind xs (form_behind w ws) ls ≡ symbols_with xs ls
+none_here xs w ws ls h = ap (λ here. length (once (xs ++ (here ++ names_in Symbols (map counted ls))))) (other_symbols w ws h)
+
+-- what is known stands, whatever comes out
+pub still_known : {T E : Type 0} (r : Result T E) (known : Option ℕ) (n all : ℕ) → known ≡ Some n → n ≡ all → IfOk r (λ _. IfSome known (λ k. k ≡ all))
+still_known (Err e) known n all k s = tt
+still_known (Ok t) known n all k s = subst (λ o. IfSome o (λ k. k ≡ all)) (sym k) s

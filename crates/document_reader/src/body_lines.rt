@@ -1,21 +1,22 @@
 //! Lines behind the weights line.
 
-ghost use Rattle.std.specs.Prelude.{◌≡◌, ◌||◌, ◌∷◌, [], ℕ, IfOk, IfNone, Some, option_map};
+ghost use Rattle.std.specs.Prelude.{◌≡◌, ◌||◌, ◌∷◌, [], ℕ, IfOk, IfNone, IfSome, Some, option_map};
 ghost use Rattle.wpds_base.specs.Faults.{first_fault};
 ghost use Rattle.wpds_port.specs.Words.{word_of};
 ghost use Rattle.document_forms.specs.Above.{Above};
 ghost use Rattle.document_forms.specs.FirstRefusal.{by_form};
-ghost use Rattle.document_forms.specs.Forms.{Controls, Symbols, Facts, Variables, OfWeights, OfRule, weights_of, rule_of, query_of, form_behind};
+ghost use Rattle.document_forms.specs.Forms.{Controls, Symbols, Facts, Variables, OfWeights, OfRule, weights_of, rule_of, query_of, form_behind, line_form};
 ghost use Rattle.document_forms.specs.Kinds.{conditions};
-ghost use Rattle.document_reader.specs.private.Readings.{kind_on, above_now, Takes};
+ghost use Rattle.document_reader.specs.private.Readings.{kind_on, above_now, all_behind, Takes};
 ghost use Rattle.rule_reader.specs.RuleReads.{HasFewItems, IsRuleRead};
 ghost use Rattle.document_reader.specs.private.LineReads.{IsAnswered, AreAnswered};
 
-use crate::lines::{is_text, line_front};
+use crate::lines::{Lines, is_text, line_front};
 use crate::name_lines::declare;
 use crate::patterns::QueryFaults;
 use crate::queries::read_query;
 use crate::reading::Reading;
+use crate::symbols::all_symbols;
 use crate::weights_lines::said_weights;
 use document_forms::WeightsLine;
 use rule_reader::{RuleRead, is_name, read_rule};
@@ -168,17 +169,25 @@ fn take_query(
     Ok(None)
 }
 
-// Takes what the words behind the first one declare or ask.
+// Takes what the words behind the first one declare or ask. How many symbols all lines declare may be known, and is
+// counted where they ask.
 fn take_words<'t>(
     alloc: Global,
-    all: usize,
+    known: &mut Option<usize>,
+    left: &Lines<'t>,
     reading: &mut Reading<'t>,
     first: Lexeme<'t>,
     words: &Words<'t>,
 ) -> Result<Option<Kind>, OutOfMemory>
     requires few { HasFewItems (above_now reading.old) }
-    ensures { IfOk result (IsAnswered all reading.old reading.new
-        (form_behind (word_of first.entry) words.now)) }
+    requires known { let form = form_behind (word_of first) words.now in
+        IfSome known.old (λ n. n ≡ all_behind reading.old.scope.symbols form left.now.lines) }
+    ensures answered { let form = form_behind (word_of first.entry) words.now in
+        let all = all_behind reading.old.scope.symbols form left.now.lines in
+        IfOk result (IsAnswered all reading.old reading.new form) }
+    ensures known { let form = form_behind (word_of first.entry) words.now in
+        let all = all_behind reading.old.scope.symbols form left.now.lines in
+        IfOk result (λ _. IfSome known.new (λ n. n ≡ all)) }
 {
     if is_name(first, b"weights") {
         return Ok(Some(weights_kind(words)));
@@ -199,23 +208,33 @@ fn take_words<'t>(
         return take_rule(alloc, reading, words);
     }
     if is_name(first, b"query") {
+        let all = all_symbols(alloc, known, &reading.scope.symbols, left)?;
         return take_query(alloc, all, reading, words);
     }
     Ok(Some(Kind::Form))
 }
 
 /// Reads a line behind the weights line: takes what it declares or asks, or tells the kind by
-/// which it is refused.
+/// which it is refused. These lines are left behind it. How many symbols all lines declare is known from the first query
+/// on.
 pub(crate) fn read_line<'t>(
     alloc: Global,
-    all: usize,
+    known: &mut Option<usize>,
+    left: &Lines<'t>,
     reading: &mut Reading<'t>,
     line: &'t [u8],
 ) -> Result<Option<Kind>, OutOfMemory>
     requires few { HasFewItems (above_now reading.old) }
+    requires known { let form = line_form line.now in
+        IfSome known.old (λ n. n ≡ all_behind reading.old.scope.symbols form left.now.lines) }
     ensures few { IfOk result (λ k. IfNone k (HasFewItems (above_now reading.new))) }
-    ensures kind { IfOk result (λ k. k ≡ kind_on all (above_now reading.old) line.now) }
+    ensures kind { let form = line_form line.now in
+        let all = all_behind reading.old.scope.symbols form left.now.lines in
+        IfOk result (λ k. k ≡ kind_on all (above_now reading.old) line.now) }
     ensures taken { IfOk result (λ k. IfNone k (Takes reading.old reading.new line.now)) }
+    ensures known { let form = line_form line.now in
+        let all = all_behind reading.old.scope.symbols form left.now.lines in
+        IfOk result (λ _. IfSome known.new (λ n. n ≡ all)) }
 {
     reading.scope.items.stands_once();
     if !is_text(line) {
@@ -224,5 +243,5 @@ pub(crate) fn read_line<'t>(
     let Some((first, words)) = line_front(line) else {
         return Ok(Some(Kind::Form));
     };
-    take_words(alloc, all, reading, first, &words)
+    take_words(alloc, known, left, reading, first, &words)
 }

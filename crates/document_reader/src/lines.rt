@@ -72,6 +72,16 @@ impl<'t> Lines<'t> {
         None
     }
 
+    /// The same lines once more: they borrow the same bytes.
+    pub(crate) fn reborrow(&self) -> Lines<'t>
+        ensures { result ≡ self.now }
+    {
+        Lines {
+            rest: self.rest,
+            number: self.number,
+        }
+    }
+
     /// The number of the line after the last.
     pub fn after(&self) -> u64
         ensures { result ≡ self.now.after }

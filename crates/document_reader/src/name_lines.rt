@@ -1,6 +1,6 @@
 //! Lines that declare names of a class.
 
-ghost use Rattle.std.specs.Prelude.{◌≡◌, ◌++◌, ◌∷◌, [], IfOk, IfNone, is_some};
+ghost use Rattle.std.specs.Prelude.{◌≡◌, ◌++◌, ◌∷◌, [], IfOk, IfNone, is_some, bytes_eq};
 ghost use Rattle.wpds_port.specs.Words.{word_of};
 ghost use Rattle.document_forms.specs.Forms.{Symbols, names_of};
 ghost use Rattle.document_forms.specs.Names.{once, is_reserved as is_reserved_of};
@@ -22,7 +22,14 @@ const RESERVED: [&[u8]; 24] = [
 pub fn is_reserved(name: &[u8]) -> bool
     ensures { result ≡ is_reserved_of name.now }
 {
-    RESERVED.iter().any(|word| name == *word)
+    RESERVED.iter().any(|word| is_same(name, word))
+}
+
+// Whether two texts are the same. Most differ in length already.
+fn is_same(text: &[u8], other: &[u8]) -> bool
+    ensures { result ≡ bytes_eq text.now other.now }
+{
+    text.len() == other.len() && text == other
 }
 
 // Whether the word is a name that may be declared.

@@ -4,7 +4,7 @@ ghost use Rattle.std.specs.Prelude.{◌≡◌, [], ◌++◌, List, map, IfOk, So
 ghost use Rattle.wpds_port.specs.Refusals.{refusal};
 ghost use Rattle.wpds_port.specs.declared.Refusal.{Refusal as RefusalValue};
 ghost use Rattle.document_forms.specs.FirstRefusal.{Counted, counted, first_refused};
-ghost use Rattle.document_reader.specs.private.Readings.{HasRead, above_now, only_weights};
+ghost use Rattle.document_reader.specs.private.Readings.{HasRead, above_now, only_weights, symbols_with};
 ghost use Rattle.rule_reader.specs.RuleReads.{HasFewItems};
 
 use crate::body_lines::read_line;
@@ -52,21 +52,23 @@ pub(crate) fn refused(line: u64, kind: Kind) -> ReadFault
 /// Reads the lines behind the weights line, up to the first that is refused.
 pub(crate) fn read_body<'t>(
     alloc: Global,
-    all: usize,
     reading: &mut Reading<'t>,
     lines: &mut Lines<'t>,
 ) -> Result<(), ReadFault>
     requires few { HasFewItems (above_now reading.old) }
-    ensures read { (ls : List Counted) → HasRead all ls reading.old
+    ensures read { let all = symbols_with reading.old.scope.symbols lines.old.lines in
+        (ls : List Counted) → HasRead all ls reading.old
         → IfOk result (λ _. HasRead all (ls ++ map counted lines.old.lines) reading.new) }
-    ensures refused { (ls : List Counted) (r : RefusalValue) → HasRead all ls reading.old
+    ensures refused { let all = symbols_with reading.old.scope.symbols lines.old.lines in
+        (ls : List Counted) (r : RefusalValue) → HasRead all ls reading.old
         → result ≡ Err (ReadFault.Refused r)
         → first_refused all [] (ls ++ map counted lines.old.lines) ≡ Some r }
     ensures after { lines.new.after ≡ lines.old.after }
 {
     above_with_a_line();
+    let mut known = None;
     while let Some(line) = lines.next() {
-        if let Some(kind) = read_line(alloc, all, reading, line.bytes)? {
+        if let Some(kind) = read_line(alloc, &mut known, lines, reading, line.bytes)? {
             return Err(refused(line.number, kind));
         }
     }

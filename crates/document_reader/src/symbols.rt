@@ -1,34 +1,87 @@
 //! How many symbols a document declares.
 
-ghost use Rattle.std.specs.Prelude.{◌≡◌, IfOk, drop};
-ghost use Rattle.document_forms.specs.FirstRefusal.{counted_lines, all_symbols as all_symbols_of};
-ghost use Rattle.document_reader.specs.LinesLeft.{left};
+ghost use Rattle.std.specs.Prelude.{◌≡◌, ◌++◌, [], IfOk, IfSome, Some, false, map};
+ghost use Rattle.document_forms.specs.FirstRefusal.{counted};
+ghost use Rattle.document_forms.specs.Forms.{Symbols};
+ghost use Rattle.document_forms.specs.Names.{once};
+ghost use Rattle.document_reader.specs.private.Readings.{declared_on, names_in, symbols_with};
 
-use crate::lines::Lines;
+use crate::lines::{Lines, line_front};
 use crate::name_lines::symbols_on;
-use rule_reader::NameTable;
+use rule_reader::{NameTable, is_name};
 use std::alloc::Global;
 use wpds_base::OutOfMemory;
 
-/// How many symbols all lines of a document declare that count, below the header and the weights
-/// line. It is a walk of its own, since a query may be refused for symbols that are declared below.
-pub(crate) fn all_symbols(alloc: Global, bytes: &[u8]) -> Result<usize, OutOfMemory>
-    ensures { IfOk result (λ n. n ≡ all_symbols_of (counted_lines bytes.now)) }
+/// How many symbols a document declares in all, where these stand above and these lines are left: a query may be
+/// refused for symbols that are declared below. They are counted for the first query, and known from then on.
+pub(crate) fn all_symbols<'t>(
+    alloc: Global,
+    known: &mut Option<usize>,
+    symbols: &NameTable<'t>,
+    left: &Lines<'t>,
+) -> Result<usize, OutOfMemory>
+    requires known { IfSome known.old (λ n. n ≡ symbols_with symbols.now left.now.lines) }
+    ensures all { IfOk result (λ n. n ≡ symbols_with symbols.now left.now.lines) }
+    ensures known { IfOk result (λ n. known.new ≡ Some n) }
 {
-    let mut lines = lines_behind_second(bytes);
-    let mut symbols = NameTable::new(alloc);
-    while let Some(line) = lines.next() {
-        symbols_on(&mut symbols, line.bytes)?;
+    if let Some(all) = *known {
+        return Ok(all);
     }
-    Ok(symbols.len())
+    let all = count_symbols(alloc, symbols, left)?;
+    *known = Some(all);
+    Ok(all)
 }
 
-// The lines that count below the second.
-fn lines_behind_second(bytes: &[u8]) -> Lines<'_>
-    ensures { result.lines ≡ drop 2 (left 1 bytes.now).lines }
+// Counts the symbols above and those of the lines that are left. The names above are copied only where the lines
+// declare some.
+fn count_symbols<'t>(
+    alloc: Global,
+    symbols: &NameTable<'t>,
+    left: &Lines<'t>,
+) -> Result<usize, OutOfMemory>
+    ensures { IfOk result (λ n. n ≡ symbols_with symbols.now left.now.lines) }
 {
-    let mut lines = Lines::new(bytes);
-    let _header = lines.next();
-    let _weights = lines.next();
-    lines
+    symbols.stands_once();
+    if !are_declared(left) {
+        return Ok(symbols.len());
+    }
+    let all = with_lines(symbols.copy(alloc)?, left)?;
+    Ok(all.len())
+}
+
+// Adds the symbols of lines to those of a table.
+fn with_lines<'t>(symbols: NameTable<'t>, left: &Lines<'t>) -> Result<NameTable<'t>, OutOfMemory>
+    ensures { IfOk result
+        (λ all. all ≡ once (symbols.entry ++ names_in Symbols (map counted left.now.lines))) }
+{
+    symbols.stands_once();
+    let mut all = symbols;
+    let mut lines = left.reborrow();
+    while let Some(line) = lines.next() {
+        symbols_on(&mut all, line.bytes)?;
+    }
+    Ok(all)
+}
+
+// Whether lines declare symbols.
+fn are_declared(left: &Lines) -> bool
+    ensures { result ≡ false → names_in Symbols (map counted left.now.lines) ≡ [] }
+{
+    let mut lines = left.reborrow();
+    while let Some(line) = lines.next() {
+        if is_of_symbols(line.bytes) {
+            return true;
+        }
+    }
+    false
+}
+
+// Whether a line begins with the word of symbols.
+fn is_of_symbols(line: &[u8]) -> bool
+    ensures { result ≡ false → declared_on Symbols line.now ≡ [] }
+{
+    match line_front(line) {
+        Some((first, _)) => is_name(first, b"symbols"),
+        None => false,
+    }
 }

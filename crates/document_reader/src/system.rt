@@ -1,9 +1,9 @@
 //! Systems are read.
 
-ghost use Rattle.std.specs.Prelude.{◌≡◌, ℕ, IfOk, Some, None, Err, map};
+ghost use Rattle.std.specs.Prelude.{◌≡◌, ℕ, [], IfOk, Some, None, Err, map};
 ghost use Rattle.wpds_port.specs.declared.Refusal.{Refusal as RefusalValue};
 ghost use Rattle.document_forms.specs.Documents.{reads_as};
-ghost use Rattle.document_forms.specs.FirstRefusal.{counted, missing, FirstRefusal};
+ghost use Rattle.document_forms.specs.FirstRefusal.{all_symbols, counted, missing, FirstRefusal};
 ghost use Rattle.document_reader.specs.private.Readings.{HasRead, HasFirstTwo, above_now, document_now};
 ghost use Rattle.rule_reader.specs.RuleReads.{HasFewItems};
 ghost use Rattle.document_reader.specs.private.Found.{found_first};
@@ -11,7 +11,6 @@ ghost use Rattle.document_reader.specs.private.Found.{found_first};
 use crate::headers::{header_kind, read_weights};
 use crate::lines::Lines;
 use crate::reading::{Reading, read_body, refused};
-use crate::symbols::all_symbols;
 use document_forms::{Document, QueryLines, RuleLines, found_line_by_line};
 use std::alloc::Global;
 use wpds_base::{OutOfMemory, Sequence};
@@ -34,20 +33,21 @@ pub fn read_system(alloc: Global, bytes: &[u8]) -> Result<Document<Sequence<Text
     if bytes.len() > MOST_BYTES {
         return Err(refused(0, Kind::TooLong));
     }
-    let all = all_symbols(alloc, bytes)?;
-    let reading = read_lines(alloc, all, Lines::new(bytes))?;
+    let reading = read_lines(alloc, Lines::new(bytes))?;
     Ok(document(alloc, reading)?)
 }
 
 // Reads all lines.
-fn read_lines<'t>(alloc: Global, all: usize, mut lines: Lines<'t>) -> Result<Reading<'t>, ReadFault>
-    ensures read { IfOk result (HasRead all (map counted lines.entry.lines)) }
+fn read_lines<'t>(alloc: Global, mut lines: Lines<'t>) -> Result<Reading<'t>, ReadFault>
+    ensures read { let ls = map counted lines.entry.lines in
+        IfOk result (HasRead (all_symbols ls) ls) }
     ensures whole { IfOk result (λ _. missing (map counted lines.entry.lines) ≡ None) }
-    ensures refused { (r : RefusalValue) → result ≡ Err (ReadFault.Refused r)
-        → found_first all lines.entry.after (map counted lines.entry.lines) ≡ Some r }
+    ensures refused { let ls = map counted lines.entry.lines in
+        (r : RefusalValue) → result ≡ Err (ReadFault.Refused r)
+        → found_first (all_symbols ls) lines.entry.after ls ≡ Some r }
 {
     let mut reading = read_first_two(alloc, &mut lines)?;
-    read_body(alloc, all, &mut reading, &mut lines)?;
+    read_body(alloc, &mut reading, &mut lines)?;
     if reading.queries.is_empty() {
         return Err(refused(lines.after(), Kind::NothingAsked));
     }
@@ -58,6 +58,7 @@ fn read_lines<'t>(alloc: Global, all: usize, mut lines: Lines<'t>) -> Result<Rea
 fn read_first_two<'t>(alloc: Global, lines: &mut Lines<'t>) -> Result<Reading<'t>, ReadFault>
     ensures read { IfOk result (HasFirstTwo lines.old.lines lines.new.lines) }
     ensures few { IfOk result (λ r. HasFewItems (above_now r)) }
+    ensures none { IfOk result (λ r. r.scope.symbols ≡ []) }
     ensures refused { (all : ℕ) (r : RefusalValue) → result ≡ Err (ReadFault.Refused r)
         → found_first all lines.old.after (map counted lines.old.lines) ≡ Some r }
     ensures after { lines.new.after ≡ lines.old.after }

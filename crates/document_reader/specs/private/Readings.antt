@@ -1,11 +1,12 @@
 -- What a reading has of the lines that were read.
-use Rattle.std.specs.Prelude.{◌≡◌, ℕ, false, not, List, [], ◌∷◌, ◌++◌, length, Option, None, Some, option_map, unwrap_or, flat_map}
+use Rattle.std.specs.Prelude.{◌≡◌, ℕ, false, not, List, [], ◌∷◌, ◌++◌, length, map, Option, None, Some, option_map, unwrap_or, flat_map}
 use Rattle.wpds_base.specs.Faults.{first_fault}
 use Rattle.wpds_port.specs.declared.Kind.{Kind}
 use Rattle.wpds_port.specs.declared.Kind.TheVariants.{NotText, Header}
 use Rattle.document_forms.specs.declared.weight.WeightsLine.{WeightsLine}
 use Rattle.document_forms.specs.Lines.{Line, is_text}
-use Rattle.document_forms.specs.Forms.{WeightsForm, Class, LineForm, OfWeights, line_words, line_form, is_header}
+use Rattle.document_forms.specs.Names.{once}
+use Rattle.document_forms.specs.Forms.{WeightsForm, Class, Symbols, LineForm, OfWeights, line_words, line_form, is_header}
 use Rattle.document_forms.specs.Above.{weights_line, Above, above_of, with_line, names_on}
 use Rattle.document_forms.specs.Kinds.{weights_conditions, conditions}
 use Rattle.document_forms.specs.FirstRefusal.{Counted, counted, forms, by_form, first_refused}
@@ -43,6 +44,16 @@ declared_on c line = unwrap_or (option_map (names_on c) (line_form line)) []
 -- the names of the class that lines declare, as often as they stand
 abbrev pub names_in : Class → List Counted → List (List ℕ)
 names_in c ls = flat_map (names_on c) (forms ls)
+
+-- how many symbols there are, of these names and those of lines
+abbrev pub symbols_with : List (List ℕ) → List Line → ℕ
+symbols_with symbols ls = length (once (symbols ++ names_in Symbols (map counted ls)))
+
+-- the same, where a line of this form, or of none, stands before the lines
+abbrev pub all_behind : List (List ℕ) → Option LineForm → List Line → ℕ
+all_behind symbols form ls =
+    let here = unwrap_or (option_map (names_on Symbols) form) [] in
+    length (once (symbols ++ (here ++ names_in Symbols (map counted ls))))
 
 -- what a reading says above the next line
 abbrev pub above_now : Reading → Above

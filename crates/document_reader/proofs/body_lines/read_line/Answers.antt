@@ -1,9 +1,17 @@
+use Rattle.std.proofs.Common.{sym}
 use Rattle.wpds_port.specs.Words.{word_of}
 use Rattle.document_forms.specs.Forms.{form_behind}
-use Rattle.document_reader.proofs.BodyLineLemmas.{few_answered}
+use Rattle.document_reader.specs.private.Readings.{all_behind}
+use Rattle.document_reader.proofs.BodyLineLemmas.{few_answered, kind_answered}
 use Rattle.document_reader.proofs.body_lines.read_line.Goals as goal
 
 pub returns-clause-few : goal.returns-clause-few
 returns-clause-few c =
-    few_answered c.args.all c.args.reading.now c.take_words.new.reading (form_behind (word_of c.in-Some.first) c.in-Some.words)
-    c.take_words.result c.stands_once.ensures c.requires.few c.take_words.ensures
+    let form = form_behind (word_of c.in-Some.first) c.in-Some.words in
+    few_answered (all_behind c.args.reading.now.scope.symbols form c.args.left.now.lines) c.args.reading.now c.take_words.new.reading form
+    c.take_words.result c.stands_once.ensures c.requires.few c.take_words.ensures.answered
+
+pub returns-clause-kind : goal.returns-clause-kind
+returns-clause-kind c =
+    kind_answered c.args.line.now (form_behind (word_of c.in-Some.first) c.in-Some.words) c.args.reading.now.scope.symbols c.args.left.now.lines
+    c.args.reading.now c.take_words.new.reading c.take_words.result c.in-Some.ensures (sym c.if-not-is_text.ensures) c.take_words.ensures.answered
