@@ -1,18 +1,19 @@
 -- A rule by its words and by its parts.
-use Rattle.std.proofs.Common.{◌≡◌, ◌<◌, ◌≤◌, ◌∙◌, ℕ, Bool, true, false, List, [], ◌∷◌, length, Option, Some, None, refl, sym, ap, ap₂, subst, option_map}
+use Rattle.std.proofs.Common.{◌≡◌, ◌<◌, ◌≤◌, ◌∙◌, ℕ, Bool, true, false, List, [], ◌∷◌, ◌++◌, length, map, cond, Option, Some, None, refl, sym, ap, ap₂, subst, option_map, append_assoc, append-nil, length-append, arith}
 use Rattle.std.specs.Prelude.{not, ◌&&◌, ◌||◌, ◌==◌, nat_le, is_some, is_none, unwrap_or, codes}
-use Rattle.std.proofs.lemmas.Bool.{or_parts, le-leb, lt-leb}
+use Rattle.std.proofs.lemmas.Bool.{or_parts, le-leb, lt-leb, not-false}
+use Rattle.std.proofs.lemmas.List.{map-append}
 use Rattle.wpds_base.specs.Faults.{first_fault}
 use Rattle.wpds_base.specs.Limits.{most_rules, most_pushed, most_copied}
 use Rattle.wpds_port.specs.declared.Kind.TheVariants.{Twice, Unknown, WeightText, Return, Count}
-use Rattle.wpds_port.specs.declared.Mark.TheVariants.{Arrow, Implies, Becomes, Differs, Colon, Semicolon, Comma, Dot, Star, Plus, Minus, Equal, Question, Not, And, Or, Xor, Open, Close, OpenBrace, CloseBrace}
+use Rattle.wpds_port.specs.declared.Mark.TheVariants.{Colon}
 use Rattle.wpds_port.specs.declared.Word.{Word}
-use Rattle.wpds_port.specs.declared.Word.TheVariants.{Name, Number, Mark as Sign}
+use Rattle.wpds_port.specs.declared.Word.TheVariants.{Name, Mark as Sign}
 use Rattle.wpds_port.specs.Words.{same_word, before, behind}
 use Rattle.document_forms.specs.Words.{is_return, is_colon, name_of, each, guarded, ◌>>=◌}
 use Rattle.document_forms.specs.Names.{is_among, has_unknown}
 use Rattle.document_forms.specs.Returns.{ReturnForm, PlainReturn, return_of}
-use Rattle.document_forms.specs.Forms.{RuleForm, rule_with, return_behind}
+use Rattle.document_forms.specs.Forms.{RuleForm, rule_with}
 use Rattle.document_forms.specs.declared.weight.WeightsLine.{WeightsLine}
 use Rattle.document_forms.specs.declared.weight.WeightsLine.TheVariants.{Reach, Cost, GenKill, Copy, Relation}
 use Rattle.document_forms.specs.declared.weight.WeightText.TheVariants.{One}
@@ -27,88 +28,130 @@ use Rattle.rule_reader.specs.RuleReads.{HasFewItems, IsReadRule}
 use Rattle.rule_reader.specs.declared.weights.WeightRead.{WeightRead}
 use Rattle.rule_reader.specs.declared.rules.RuleParts.{RuleParts}
 use Rattle.rule_reader.specs.declared.rules.RuleRead.{RuleRead}
-use Rattle.rule_reader.specs.private.Rules.{short_names, back_said, rule_said, AreParts, weight_unknown, weight_amiss, weight_deep, is_unknown, is_misplaced, parts_kind, weight_kept}
-use Rattle.rule_reader.specs.declared.rules.RuleWords.{RuleWords}
-use Rattle.rule_reader.specs.Names.{names_in_front, behind_names}
-use Rattle.rule_reader.proofs.FrontNameLemmas.{names_whole, names_broken}
-use Rattle.rule_reader.proofs.ReturnLemmas.{cut_same, before_name, behind_name}
-
--- ---- the words
-
-colon_same : (w : Word) → same_word (Sign Colon) w ≡ is_colon w
-colon_same (Name x) = refl
-colon_same (Number n) = refl
-colon_same (Sign Arrow) = refl
-colon_same (Sign Implies) = refl
-colon_same (Sign Becomes) = refl
-colon_same (Sign Differs) = refl
-colon_same (Sign Colon) = refl
-colon_same (Sign Semicolon) = refl
-colon_same (Sign Comma) = refl
-colon_same (Sign Dot) = refl
-colon_same (Sign Star) = refl
-colon_same (Sign Plus) = refl
-colon_same (Sign Minus) = refl
-colon_same (Sign Equal) = refl
-colon_same (Sign Question) = refl
-colon_same (Sign Not) = refl
-colon_same (Sign And) = refl
-colon_same (Sign Or) = refl
-colon_same (Sign Xor) = refl
-colon_same (Sign Open) = refl
-colon_same (Sign Close) = refl
-colon_same (Sign OpenBrace) = refl
-colon_same (Sign CloseBrace) = refl
-
--- What is said by words that are cut so.
-pub said_with : (r : RuleWords) (ws text : List Word)
-    → text ≡ before (same_word (Name (codes "return"))) ws → r.back ≡ behind (same_word (Name (codes "return"))) ws
-    → r.right ≡ before (same_word (Sign Colon)) text → r.weight ≡ behind (same_word (Sign Colon)) text
-    → rule_with r.control.now r.symbol.now r.to.now ws ≡ rule_said r
-said_with r ws text t b x w =
-    let front : before is_return ws ≡ text = sym (before_name (codes "return") ws) ∙ sym t in
-    let back : behind is_return ws ≡ r.back = sym (behind_name (codes "return") ws) ∙ sym b in
-    let right : before is_colon (before is_return ws) ≡ r.right = ap (before is_colon) front ∙ sym (cut_same (same_word (Sign Colon)) is_colon colon_same text).0 ∙ sym x in
-    let weight : behind is_colon (before is_return ws) ≡ r.weight = ap (behind is_colon) front ∙ sym (cut_same (same_word (Sign Colon)) is_colon colon_same text).1 ∙ sym w in
-    ap₂ (λ v o. each name_of v >>= λ right. return_behind ws >>= λ back. guarded (nat_le (length right) most_pushed) (Some (record { control = r.control.now; symbol = r.symbol.now; to = r.to.now; right = right; weight = o; back = back }))) right weight
-    ∙ ap (λ o. each name_of r.right >>= λ right. o >>= λ back. guarded (nat_le (length right) most_pushed) (Some (record { control = r.control.now; symbol = r.symbol.now; to = r.to.now; right = right; weight = r.weight; back = back }))) (behind_is ws ∙ ap back_said back)
-    ∙ order (each name_of r.right) (back_said r.back)
-  where
-    behind_is : (ws : List Word) → return_behind ws ≡ back_said (behind is_return ws)
-    behind_is ws = go (behind is_return ws)
-      where
-        go : (o : Option (List Word)) → elim o as (λ _. Option (Option ReturnForm)) [ None ↦ Some None | Some vs ↦ option_map Some (return_of vs) ] ≡ back_said o
-        go None = refl
-        go (Some vs) = refl
-
-    rule : List (List ℕ) → Option ReturnForm → RuleForm
-    rule right back = record { control = r.control.now; symbol = r.symbol.now; to = r.to.now; right = right; weight = r.weight; back = back }
-
-    short : (t : Bool) (xs : List (List ℕ)) (o : Option (Option ReturnForm)) → (o >>= λ back. guarded t (Some (rule xs back))) ≡ (guarded t (Some xs) >>= λ right. o >>= λ back. Some (rule right back))
-    short true xs None = refl
-    short true xs (Some back) = refl
-    short false xs None = refl
-    short false xs (Some back) = refl
-
-    order : (p : Option (List (List ℕ))) (o : Option (Option ReturnForm))
-        → (p >>= λ right. o >>= λ back. guarded (nat_le (length right) most_pushed) (Some (rule right back)))
-        ≡ ((p >>= λ xs. guarded (nat_le (length xs) most_pushed) (Some xs)) >>= λ right. o >>= λ back. Some (rule right back))
-    order None o = refl
-    order (Some xs) o = short (nat_le (length xs) most_pushed) xs o
+use Rattle.rule_reader.specs.private.Rules.{right_words, weight_words, goes_on_right, HasRight, IsEnd, back_said, AreParts, weight_unknown, weight_amiss, weight_deep, is_unknown, is_misplaced, parts_kind, weight_kept}
+use Rattle.rule_reader.specs.declared.rules.RuleEnd.{RuleEnd}
+use Rattle.rule_reader.proofs.ReturnLemmas.{before_name, behind_name}
 
 -- ---- a right side
 
-abbrev if_short : Option (List (List ℕ)) → Option (List (List ℕ))
-if_short o = o >>= λ xs. guarded (nat_le (length xs) most_pushed) (Some xs)
+-- no name yet
+pub right_none : (ws : List Word) → HasRight ws [] ws
+right_none ws = record { right = refl; weight = refl; back = refl }
 
-pub no_right : (ws : List Word) (w : Word) (vs : List Word) → behind_names ws ≡ w ∷ vs → short_names ws ≡ None
-no_right ws w vs e = ap if_short (names_broken ws w vs e)
+-- a name more
+pub right_more : (ws left rest : List Word) (xs : List (List ℕ)) (x : List ℕ) → left ≡ Name x ∷ rest → is_return (Name x) ≡ false → HasRight ws xs left → HasRight ws (xs ++ x ∷ []) rest
+right_more ws left rest xs x e other h =
+    let front : before is_return left ≡ Name x ∷ before is_return rest = ap (before is_return) e ∙ ap (λ t. cond t [] (Name x ∷ before is_return rest)) other in
+    record {
+      right =
+          h.right
+          ∙ ap (λ vs. map (λ y. Name y) xs ++ before is_colon vs) front
+          ∙ sym (append_assoc (map (λ y. Name y) xs) (Name x ∷ []) (right_words rest))
+          ∙ ap (λ vs. vs ++ right_words rest) (sym (map-append (λ y. Name y) xs (x ∷ [])));
+      weight = h.weight ∙ ap (behind is_colon) front;
+      back = h.back ∙ ap (behind is_return) e ∙ ap (λ t. cond t (Some rest) (behind is_return rest)) other;
+    }
 
-pub long_right : (ws : List Word) → behind_names ws ≡ [] → most_pushed < length (names_in_front ws) → short_names ws ≡ None
-long_right ws e long = ap if_short (names_whole ws e) ∙ ap (λ t. guarded t (Some (names_in_front ws))) (lt-leb (length (names_in_front ws)) most_pushed long)
+-- ---- what stands behind it
 
-pub short_right : (ws : List Word) → behind_names ws ≡ [] → length (names_in_front ws) ≤ most_pushed → short_names ws ≡ Some (names_in_front ws)
-short_right ws e short = ap if_short (names_whole ws e) ∙ ap (λ t. guarded t (Some (names_in_front ws))) (le-leb (length (names_in_front ws)) most_pushed short)
+-- nothing
+pub end_none : IsEnd [] (record { weight = None; back = None })
+end_none = record { right = refl; weight = refl; back = refl }
+
+-- a weight, and perhaps a return
+pub end_weight : (ws : List Word) (e : RuleEnd) (text : List Word) → text ≡ before (same_word (Name (codes "return"))) ws → e.weight ≡ Some text → e.back ≡ behind (same_word (Name (codes "return"))) ws → IsEnd (Sign Colon ∷ ws) e
+end_weight ws e text t w b = record {
+  right = refl;
+  weight = w ∙ ap (λ vs. Some vs) (t ∙ before_name (codes "return") ws);
+  back = b ∙ behind_name (codes "return") ws;
+}
+
+-- a return
+pub end_return : (x : List ℕ) (ws : List Word) (e : RuleEnd) → goes_on_right (Name x ∷ ws) ≡ false → e.weight ≡ None → e.back ≡ Some ws → IsEnd (Name x ∷ ws) e
+end_return x ws e h w b =
+    let r : is_return (Name x) ≡ true = not-false (is_return (Name x)) h in
+    record {
+      right = ap (λ t. before is_colon (cond t [] (Name x ∷ before is_return ws))) r;
+      weight = w ∙ sym (ap (λ t. behind is_colon (cond t [] (Name x ∷ before is_return ws))) r);
+      back = b ∙ sym (ap (λ t. cond t (Some ws) (behind is_return ws)) r);
+    }
+
+-- words that begin so are no names
+pub no_end : (w : Word) (ws : List Word) → name_of w ≡ None → is_colon w ≡ false → is_return w ≡ false → each name_of (right_words (w ∷ ws)) ≡ None
+no_end w ws n c r =
+    ap (λ t. each name_of (before is_colon (cond t [] (w ∷ before is_return ws)))) r
+    ∙ ap (λ t. each name_of (cond t [] (w ∷ before is_colon (before is_return ws)))) c
+    ∙ ap first n
+  where
+    first : Option (List ℕ) → Option (List (List ℕ))
+    first o = elim o [ None ↦ None | Some y ↦ option_map (λ ys. y ∷ ys) (each name_of (before is_colon (before is_return ws))) ]
+
+-- ---- the rule of its parts
+
+-- names in front
+each_front : (xs : List (List ℕ)) (ws : List Word) → each name_of (map (λ x. Name x) xs ++ ws) ≡ option_map (λ ys. xs ++ ys) (each name_of ws)
+each_front [] ws = go (each name_of ws)
+  where
+    go : (o : Option (List (List ℕ))) → o ≡ option_map (λ ys. ys) o
+    go None = refl
+    go (Some ys) = refl
+each_front (x ∷ xs) ws = ap (option_map (λ ys. x ∷ ys)) (each_front xs ws) ∙ go (each name_of ws)
+  where
+    go : (o : Option (List (List ℕ))) → option_map (λ ys. x ∷ ys) (option_map (λ ys. xs ++ ys) o) ≡ option_map (λ ys. x ∷ (xs ++ ys)) o
+    go None = refl
+    go (Some ys) = refl
+
+-- the rule with these names on its right side, this weight and this return, if they are no more than a rule may leave on top
+abbrev rule_of_parts : (p g q : List ℕ) → Option (List (List ℕ)) → Option (List Word) → Option (Option ReturnForm) → Option RuleForm
+rule_of_parts p g q right weight back =
+    right >>= λ xs. back >>= λ b.
+    guarded (nat_le (length xs) most_pushed) (Some (record { control = p; symbol = g; to = q; right = xs; weight = weight; back = b }))
+
+parts_with : (p g q : List ℕ) (ws rest : List Word) (xs : List (List ℕ)) → HasRight ws xs rest
+    → rule_with p g q ws ≡ rule_of_parts p g q (option_map (λ ys. xs ++ ys) (each name_of (right_words rest))) (weight_words rest) (back_said (behind is_return rest))
+parts_with p g q ws rest xs h =
+    ap (rule_of_parts p g q (each name_of (right_words ws)) (weight_words ws)) (behind_is (behind is_return ws))
+    ∙ ap₂ (λ vs o. rule_of_parts p g q (each name_of vs) o (back_said (behind is_return ws))) h.right h.weight
+    ∙ ap₂ (λ o b. rule_of_parts p g q o (weight_words rest) (back_said b)) (each_front xs (right_words rest)) h.back
+  where
+    behind_is : (o : Option (List Word)) → elim o as (λ _. Option (Option ReturnForm)) [ None ↦ Some None | Some vs ↦ option_map Some (return_of vs) ] ≡ back_said o
+    behind_is None = refl
+    behind_is (Some vs) = refl
+
+-- words behind the names that are none
+pub no_rule : (p g q : List ℕ) (ws rest : List Word) (xs : List (List ℕ)) → HasRight ws xs rest → each name_of (right_words rest) ≡ None → rule_with p g q ws ≡ None
+no_rule p g q ws rest xs h e =
+    parts_with p g q ws rest xs h
+    ∙ ap (λ o. rule_of_parts p g q (option_map (λ ys. xs ++ ys) o) (weight_words rest) (back_said (behind is_return rest))) e
+
+-- too many names
+pub long_rule : (p g q : List ℕ) (ws rest : List Word) (xs : List (List ℕ)) → HasRight ws xs rest → most_pushed < length xs → rule_with p g q ws ≡ None
+long_rule p g q ws rest xs h long =
+    parts_with p g q ws rest xs h ∙ go (each name_of (right_words rest)) (back_said (behind is_return rest))
+  where
+    refused : (ys : List (List ℕ)) (r : Option RuleForm) → guarded (nat_le (length (xs ++ ys)) most_pushed) r ≡ None
+    refused ys r = ap (λ t. guarded t r) (lt-leb (length (xs ++ ys)) most_pushed (subst (λ n. most_pushed < n) (sym (length-append xs ys)) (omega (arith, long))))
+
+    go : (o : Option (List (List ℕ))) (b : Option (Option ReturnForm)) → rule_of_parts p g q (option_map (λ ys. xs ++ ys) o) (weight_words rest) b ≡ None
+    go None b = refl
+    go (Some ys) None = refl
+    go (Some ys) (Some back) = refused ys (Some (record { control = p; symbol = g; to = q; right = xs ++ ys; weight = weight_words rest; back = back }))
+
+-- an end behind few names
+pub parts_end : (p g q : List ℕ) (ws rest : List Word) (xs : List (List ℕ)) (e : RuleEnd) → HasRight ws xs rest → IsEnd rest e → length xs ≤ most_pushed
+    → rule_with p g q ws ≡ (back_said e.back >>= λ b. Some (record { control = p; symbol = g; to = q; right = xs; weight = e.weight; back = b }))
+parts_end p g q ws rest xs e h m short =
+    parts_with p g q ws rest xs h
+    ∙ ap (λ vs. rule_of_parts p g q (option_map (λ ys. xs ++ ys) (each name_of vs)) (weight_words rest) (back_said (behind is_return rest))) m.right
+    ∙ ap (λ ys. rule_of_parts p g q (Some ys) (weight_words rest) (back_said (behind is_return rest))) (append-nil xs)
+    ∙ ap₂ (λ o b. rule_of_parts p g q (Some xs) o (back_said b)) (sym m.weight) (sym m.back)
+    ∙ ap (λ t. back_said e.back >>= λ b. guarded t (Some (record { control = p; symbol = g; to = q; right = xs; weight = e.weight; back = b }))) (le-leb (length xs) most_pushed short)
+
+-- an end whose return is none
+pub no_return : (p g q : List ℕ) (ws rest : List Word) (xs : List (List ℕ)) (e : RuleEnd) → HasRight ws xs rest → IsEnd rest e → length xs ≤ most_pushed → back_said e.back ≡ None → rule_with p g q ws ≡ None
+no_return p g q ws rest xs e h m short b =
+    parts_end p g q ws rest xs e h m short
+    ∙ ap (λ o. o >>= λ back. Some (record { control = p; symbol = g; to = q; right = xs; weight = e.weight; back = back })) b
 
 -- ---- what is amiss
 
@@ -242,13 +285,8 @@ module _ (a : Above) (f : RuleForm) (p : RuleParts) (is : AreParts a f p) where
 
 -- ---- all of it
 
-abbrev pub rule_form : RuleWords → List (List ℕ) → Option ReturnForm → RuleForm
-rule_form r right back = record { control = r.control.now; symbol = r.symbol.now; to = r.to.now; right = right; weight = r.weight; back = back }
-
-pub said_is : (r : RuleWords) (xs : List (List ℕ)) (b : Option ReturnForm) → short_names r.right ≡ Some xs → back_said r.back ≡ Some b → rule_said r ≡ Some (rule_form r xs b)
-said_is r xs b e f =
-    ap (λ o. o >>= λ right. back_said r.back >>= λ back. Some (rule_form r right back)) e
-    ∙ ap (λ o. o >>= λ back. Some (rule_form r xs back)) f
+abbrev pub rule_form : (p g q : List ℕ) → RuleEnd → List (List ℕ) → Option ReturnForm → RuleForm
+rule_form p g q e right back = record { control = p; symbol = g; to = q; right = right; weight = e.weight; back = back }
 
 pub back_there : (o : Option (List Word)) (b : Option ReturnForm) → back_said o ≡ Some b → is_some o ≡ is_some b
 back_there None b e = let same : None ≡ b = cc in ap is_some same

@@ -1,18 +1,20 @@
 //! Rules, from the words behind `rule`.
 
-ghost use Rattle.std.specs.Prelude.{◌≡◌, ℕ, ◌∷◌, ◌==◌, ◌&&◌, ◌||◌, not, nat_le, None, IfOk, MatchOption};
+ghost use Rattle.std.specs.Prelude.{◌≡◌, ℕ, List, ◌∷◌, ◌==◌, ◌&&◌, ◌||◌, not, false, nat_le, None, IfOk, MatchOption};
 ghost use Rattle.wpds_base.specs.Faults.{first_fault};
 ghost use Rattle.wpds_port.specs.declared.Mark.TheVariants.{Arrow};
 ghost use Rattle.wpds_port.specs.declared.Word.TheVariants.{Name, Mark as Sign};
 ghost use Rattle.document_forms.specs.Above.{Above};
+ghost use Rattle.document_forms.specs.Words.{each, is_return, name_of};
 ghost use Rattle.document_forms.specs.Forms.{RuleForm, rule_of};
 ghost use Rattle.document_forms.specs.Kinds.{rule_weight};
+ghost use Rattle.rule_reader.specs.NameReads.{AreNumbersRead};
 ghost use Rattle.rule_reader.specs.RuleReads.{above_in, IsReadRule, IsRuleRead};
 ghost use Rattle.rule_reader.specs.WeightReads.{IsRead};
-ghost use Rattle.rule_reader.specs.private.Rules.{rule_said, IsRightRead, IsBackRead, AreEnds, AreParts, weight_unknown as weight_unknown_of, weight_amiss as weight_amiss_of, weight_deep as weight_deep_of, is_unknown as is_unknown_of, is_misplaced as is_misplaced_of, parts_kind, weight_kept};
+ghost use Rattle.rule_reader.specs.private.Rules.{right_words, goes_on_right, HasRight, IsEnd, IsBackRead, AreEnds, AreParts, weight_unknown as weight_unknown_of, weight_amiss as weight_amiss_of, weight_deep as weight_deep_of, is_unknown as is_unknown_of, is_misplaced as is_misplaced_of, parts_kind, weight_kept};
 
 use crate::lexemes::split_name;
-use crate::name_reads::{NamesRead, read_names};
+use crate::name_reads::NamesRead;
 use crate::names::NameTable;
 use crate::returns::{ReturnRead, read_return};
 use crate::scope::Scope;
@@ -45,13 +47,9 @@ struct RuleHead<'t> {
     rest: Words<'t>,
 }
 
-// A rule by its words.
+// What stands behind the right side of a rule: the words of its weight and those of its return, where they are written.
 #[derive(Drop)]
-struct RuleWords<'t> {
-    control: &'t [u8],
-    symbol: &'t [u8],
-    to: &'t [u8],
-    right: Words<'t>,
+struct RuleEnd<'t> {
     weight: Option<Words<'t>>,
     back: Option<Words<'t>>,
 }
@@ -101,41 +99,63 @@ fn rule_head<'t>(words: &Words<'t>) -> Option<RuleHead<'t>>
     })
 }
 
-fn rule_words<'t>(words: &Words<'t>) -> Option<RuleWords<'t>>
-    ensures { MatchOption result (rule_of words.now ≡ None)
-        (λ r. rule_of words.now ≡ rule_said r) }
+// The name with which words begin, unless it is `return`, and the words behind it.
+fn right_name<'t>(words: &Words<'t>) -> Option<(&'t [u8], Words<'t>)>
+    ensures { MatchOption result (goes_on_right words.now ≡ false)
+        (λ p. (words.now ≡ Name p.0.now ∷ p.1) × (is_return (Name p.0.now) ≡ false)) }
 {
-    let head = rule_head(words)?;
-    let (text, back) = head.rest.split_once(Lexeme::Name(b"return"));
-    let (right, weight) = text.split_once(Lexeme::Mark(Mark::Colon));
-    Some(RuleWords {
-        control: head.control,
-        symbol: head.symbol,
-        to: head.to,
-        right,
-        weight,
-        back,
-    })
+    match words.split_first() {
+        Some((Lexeme::Name(name), rest)) if name != b"return".as_slice() => Some((name, rest)),
+        _ => None,
+    }
+}
+
+// What stands behind a right side; nothing where that is no end of a rule.
+fn rule_end<'t>(words: &Words<'t>) -> Option<RuleEnd<'t>>
+    requires { goes_on_right words.now ≡ false }
+    ensures { MatchOption result (each name_of (right_words words.now) ≡ None) (IsEnd words.now) }
+{
+    let Some((first, rest)) = words.split_first() else {
+        return Some(RuleEnd {
+            weight: None,
+            back: None,
+        });
+    };
+    match first {
+        Lexeme::Mark(Mark::Colon) => {
+            let (weight, back) = rest.split_once(Lexeme::Name(b"return"));
+            Some(RuleEnd {
+                weight: Some(weight),
+                back,
+            })
+        }
+        Lexeme::Name(_) => Some(RuleEnd {
+            weight: None,
+            back: Some(rest),
+        }),
+        _ => None,
+    }
 }
 
 // ---- the parts
 
-// The symbols of a right side, of which there are two at most.
-fn read_right(
+// Reads the symbols of a right side, and returns them with the words behind it.
+fn read_right<'t>(
     alloc: Global,
     symbols: &NameTable<'_>,
-    words: &Words,
-) -> Result<Option<NamesRead>, OutOfMemory>
-    ensures { IfOk result (IsRightRead symbols.now words.now) }
+    words: &Words<'t>,
+) -> Result<(NamesRead, Words<'t>), OutOfMemory>
+    ensures right { IfOk result (λ r. (xs : List (List ℕ))
+        × AreNumbersRead symbols.now xs r.0 × HasRight words.now xs r.1) }
+    ensures end { IfOk result (λ r. goes_on_right r.1 ≡ false) }
 {
-    let (read, rest) = read_names(alloc, symbols, words)?;
-    if rest.split_first().is_some() {
-        return Ok(None);
+    let mut read = NamesRead::new(alloc);
+    let mut left = words.reborrow();
+    while let Some((name, rest)) = right_name(&left) {
+        read.add(symbols, name)?;
+        left = rest;
     }
-    if read.numbers.len() > MOST_PUSHED {
-        return Ok(None);
-    }
-    Ok(Some(read))
+    Ok((read, left))
 }
 
 // The weight of a rule, which is one where none is written.
@@ -168,7 +188,7 @@ fn read_back(
     }
 }
 
-fn read_ends(scope: &Scope<'_>, said: &RuleWords) -> Ends
+fn read_ends(scope: &Scope<'_>, said: &RuleHead) -> Ends
     ensures { (f : RuleForm) → f.control ≡ said.now.control.now → f.symbol ≡ said.now.symbol.now
         → f.to ≡ said.now.to.now → (rules queries : ℕ)
         → AreEnds (above_in scope.now rules queries) f result }
@@ -290,22 +310,26 @@ pub fn read_rule(
     ensures { IfOk result (λ read. (queries : ℕ)
         → IsRuleRead (above_in scope.now rules queries) words.now read) }
 {
-    let Some(said) = rule_words(words) else {
+    let Some(head) = rule_head(words) else {
         return Ok(None);
     };
-    let Some(right) = read_right(alloc, &scope.symbols, &said.right)? else {
+    let (right, behind) = read_right(alloc, &scope.symbols, &head.rest)?;
+    if right.numbers.len() > MOST_PUSHED {
+        return Ok(None);
+    }
+    let Some(end) = rule_end(&behind) else {
         return Ok(None);
     };
-    let Some(back) = read_back(alloc, scope.weights, &scope.items, &said.back)? else {
+    let Some(back) = read_back(alloc, scope.weights, &scope.items, &end.back)? else {
         return Ok(None);
     };
-    let weight = read_rule_weight(alloc, scope.weights, &scope.items, &said.weight)?;
+    let weight = read_rule_weight(alloc, scope.weights, &scope.items, &end.weight)?;
     let parts = RuleParts {
-        ends: read_ends(scope, &said),
+        ends: read_ends(scope, &head),
         right,
         weight,
         back,
-        given: said.back.is_some(),
+        given: end.back.is_some(),
         full: rules >= MOST_RULES,
     };
     Ok(Some(rule_from(alloc, parts)?))

@@ -1,12 +1,13 @@
 -- Rules by their words.
-use Rattle.std.specs.Prelude.{◌≡◌, ℕ, Bool, true, false, not, ◌&&◌, ◌||◌, ◌==◌, nat_le, List, [], ◌∷◌, length, Option, None, Some, is_some, option_map, unwrap_or, MatchOption}
+use Rattle.std.specs.Prelude.{◌≡◌, ℕ, Bool, true, false, not, ◌&&◌, ◌||◌, ◌==◌, nat_le, List, [], ◌∷◌, ◌++◌, length, map, Option, None, Some, is_some, option_map, unwrap_or, MatchOption}
 use Rattle.wpds_base.specs.Faults.{first_fault}
-use Rattle.wpds_base.specs.Limits.{most_pushed, most_rules}
+use Rattle.wpds_base.specs.Limits.{most_rules}
 use Rattle.wpds_port.specs.declared.Kind.{Kind}
 use Rattle.wpds_port.specs.declared.Kind.TheVariants.{Twice, Unknown, WeightText as WeightKind, Return, Count}
 use Rattle.wpds_port.specs.declared.Word.{Word}
 use Rattle.document_forms.specs.declared.weight.WeightsLine.{WeightsLine}
-use Rattle.document_forms.specs.Words.{name_of, each, guarded, ◌>>=◌}
+use Rattle.wpds_port.specs.declared.Word.TheVariants.{Name}
+use Rattle.document_forms.specs.Words.{before, behind, is_colon, is_return}
 use Rattle.document_forms.specs.Returns.{ReturnForm, PlainReturn, return_of}
 use Rattle.document_forms.specs.declared.weight.WeightText.{WeightText}
 use Rattle.document_forms.specs.declared.weight.WeightText.TheVariants.{One}
@@ -17,44 +18,45 @@ use Rattle.document_forms.specs.Kinds.{rule_weight}
 use Rattle.rule_reader.specs.WeightReads.{IsRead}
 use Rattle.rule_reader.specs.declared.weights.WeightRead.{WeightRead}
 use Rattle.rule_reader.specs.NameReads.{AreNumbersRead}
-use Rattle.rule_reader.specs.declared.name_reads.NamesRead.{NamesRead}
 use Rattle.rule_reader.specs.private.Returns.{IsReadReturn}
 use Rattle.rule_reader.specs.declared.returns.ReturnRead.{ReturnRead}
-use Rattle.rule_reader.specs.declared.rules.RuleWords.{RuleWords}
+use Rattle.rule_reader.specs.declared.rules.RuleEnd.{RuleEnd}
 use Rattle.rule_reader.specs.declared.rules.Ends.{Ends}
 use Rattle.rule_reader.specs.declared.rules.RuleParts.{RuleParts}
 
 -- ---- the form
 
--- names, if they are no more than a rule may leave on top
-abbrev pub short_names : List Word → Option (List (List ℕ))
-short_names ws = each name_of ws >>= λ xs. guarded (nat_le (length xs) most_pushed) (Some xs)
+-- the words of the right side, and those of the weight, behind the rule's second control
+
+abbrev pub right_words : List Word → List Word
+right_words ws = before is_colon (before is_return ws)
+
+abbrev pub weight_words : List Word → Option (List Word)
+weight_words ws = behind is_colon (before is_return ws)
+
+-- a name stands in front that is not `return`
+abbrev pub goes_on_right : List Word → Bool
+goes_on_right (Name x ∷ ws) = not (is_return (Name x))
+goes_on_right _ = false
+
+-- The words are those names of a right side, and then these.
+pub record HasRight (ws : List Word) (xs : List (List ℕ)) (rest : List Word) : Type 0 where
+  pub right : right_words ws ≡ map (λ x. Name x) xs ++ right_words rest
+  pub weight : weight_words ws ≡ weight_words rest
+  pub back : behind is_return ws ≡ behind is_return rest
+
+-- Behind the right side this comes.
+pub record IsEnd (ws : List Word) (e : RuleEnd) : Type 0 where
+  pub right : right_words ws ≡ []
+  pub weight : e.weight ≡ weight_words ws
+  pub back : e.back ≡ behind is_return ws
 
 -- the return behind the word `return`, if the word is there
 abbrev pub back_said : Option (List Word) → Option (Option ReturnForm)
 back_said None = Some None
 back_said (Some ws) = option_map Some (return_of ws)
 
-abbrev pub rule_said : RuleWords → Option RuleForm
-rule_said r = do
-  right ← short_names r.right
-  back ← back_said r.back
-  Some (record {
-    control = r.control.now;
-    symbol = r.symbol.now;
-    to = r.to.now;
-    right = right;
-    weight = r.weight;
-    back = back;
-  })
-
 -- ---- what is read
-
--- The symbols of a right side are read.
-abbrev pub IsRightRead : List (List ℕ) → List Word → Option NamesRead → Type 0
-IsRightRead symbols ws read =
-    MatchOption read (short_names ws ≡ None)
-    (λ r. (xs : List (List ℕ)) × (short_names ws ≡ Some xs) × AreNumbersRead symbols xs r)
 
 -- The return of a rule is read, if there is one.
 abbrev pub IsBackRead : WeightsLine → List (List ℕ) → Option (List Word) → Option ReturnRead → Type 0

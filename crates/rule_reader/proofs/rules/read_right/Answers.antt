@@ -1,25 +1,20 @@
-use Rattle.std.proofs.Common.{◌∙◌, sym, arith}
-use Rattle.rule_reader.specs.Names.{names_in_front}
-use Rattle.rule_reader.proofs.FrontNameLemmas.{some_left, none_left}
-use Rattle.rule_reader.proofs.RuleLemmas.{no_right, long_right, short_right}
+use Rattle.std.proofs.Common.{◌∷◌, ◌++◌, [], sym, subst}
+use Rattle.rule_reader.specs.private.Rules.{HasRight}
+use Rattle.rule_reader.proofs.RuleLemmas.{right_none, right_more}
 use Rattle.rule_reader.proofs.rules.read_right.Goals as goal
 
-pub returns-then-is_some : goal.returns-then-is_some
-returns-then-is_some c =
-    let left = some_left c.in_ok-read.rest c.split_first.result c.split_first.ensures (sym c.if-is_some.ensures) in
-    no_right c.args.words.now left.0 left.1 (sym c.in_ok-read.ensures.rest ∙ left.2)
+pub loop-name-init : goal.loop-name-init
+loop-name-init c = (
+  [],
+  c.new-read.ensures c.args.symbols.now,
+  subst (HasRight c.args.words.now []) (sym c.reborrow-left.ensures.same) (right_none c.args.words.now),
+)
 
-pub returns-then-len-gt-MOST_PUSHED : goal.returns-then-len-gt-MOST_PUSHED
-returns-then-len-gt-MOST_PUSHED c =
-    let none = none_left c.in_ok-read.rest c.split_first.result c.split_first.ensures (sym c.if-is_some.ensures) in
-    long_right c.args.words.now (sym c.in_ok-read.ensures.rest ∙ none)
-    (omega (arith, c.in_ok-read.read.numbers.ok.0, c.in_ok-read.ensures.numbers.count))
-
-pub returns : goal.returns
-returns c =
-    let none = none_left c.in_ok-read.rest c.split_first.result c.split_first.ensures (sym c.if-is_some.ensures) in (
-      names_in_front c.args.words.now,
-      short_right c.args.words.now (sym c.in_ok-read.ensures.rest ∙ none)
-          (omega (arith, c.in_ok-read.read.numbers.ok.0, c.in_ok-read.ensures.numbers.count)),
-      c.in_ok-read.ensures.numbers,
+pub loop-name-preserved : goal.loop-name-preserved
+loop-name-preserved c =
+    let i = c.loop-name.invariant in
+    let x = c.in-Some.name.now in (
+      i.0 ++ x ∷ [],
+      c.in_ok-add.ensures i.0 i.1,
+      right_more c.args.words.now c.loop-name.left c.in-Some.rest i.0 x c.in-Some.ensures.0 c.in-Some.ensures.1 i.2,
     )
