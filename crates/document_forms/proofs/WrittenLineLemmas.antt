@@ -1,12 +1,14 @@
 -- Lines with words are cut out of the bytes that they make, and each counts.
-use Rattle.std.proofs.Common.{◌≡◌, ◌⊎◌, inl, inr, ℕ, ◌+◌, ◌≤◌, Bool, true, false, not, cond, ◌&&◌, ◌||◌, ◌==◌, List, [], ◌∷◌, ◌++◌, map, Some, refl, sym, ap, ap₂, ◌∙◌, subst, append_assoc, arith}
-use Rattle.std.specs.Prelude.{filter, flat_map, option_and_then, nat_le}
+use Rattle.std.proofs.Common.{◌≡◌, ◌⊎◌, inl, inr, ℕ, ◌+◌, ◌≤◌, Bool, true, false, not, cond, ◌&&◌, ◌||◌, ◌==◌, List, [], ◌∷◌, ◌++◌, map, Option, Some, None, refl, sym, ap, ap₂, ◌∙◌, subst, append_assoc, arith}
+use Rattle.std.specs.Prelude.{filter, flat_map, option_map, option_and_then, nat_le}
 use Rattle.std.specs.List.{list_all}
 use Rattle.std.proofs.lemmas.Bool.{and_parts, and_from, or_cases, or_right, eqb-true, leb-true, le-leb, false_from_ne_true}
 use Rattle.wpds_port.specs.declared.Mark.TheVariants.{Arrow, Implies, Becomes, Differs, Colon, Semicolon, Comma, Dot, Star, Plus, Minus, Equal, Question, Not, And, Or, Xor, Open, Close, OpenBrace, CloseBrace}
 use Rattle.wpds_port.specs.declared.Word.{Word}
 use Rattle.wpds_port.specs.declared.Word.TheVariants.{Name, Number, Mark as Sign}
-use Rattle.wpds_port.specs.Tokens.{is_blank, word_text, is_word, is_digit, begins_name, goes_on_name}
+use Rattle.wpds_port.specs.declared.Token.{Token}
+use Rattle.wpds_port.specs.Tokens.{is_blank, word_text, is_word, is_digit, begins_name, goes_on_name, tokens, AreTokens}
+use Rattle.wpds_port.specs.Words.{words_of, if_lawful, lawful_words}
 use Rattle.document_forms.specs.Lines.{has_no_feed, IsCut, without_return, lines, past_blanks, is_said, counts, is_allowed, is_text, Line, numbered}
 use Rattle.document_forms.specs.Forms.{form_of}
 use Rattle.document_forms.specs.FormWords.{is_some_list}
@@ -129,6 +131,23 @@ words_are_text (w ∷ ws) text h =
     subst (λ x. is_text x ≡ true) (sym n.joined)
     (text_joined n.blanks (word_text w ++ h.0) (all_allowed is_blank blank_allowed n.blanks n.blank)
     (text_joined (word_text w) h.0 (word_allowed w n.word) (words_are_text ws h.0 h.2)))
+
+-- ---- a line that is cut wholly into words is text
+
+tokens_are_text : (ts : List Token) (place : ℕ) (text : List ℕ) → AreTokens place text ts → is_text text ≡ true
+tokens_are_text [] place text h = all_allowed is_blank blank_allowed text h
+tokens_are_text (t ∷ ts) place text h =
+    let f = h.2 in
+    subst (λ x. is_text x ≡ true) (sym f.joined)
+    (text_joined h.0 (word_text t.word ++ h.1) (all_allowed is_blank blank_allowed h.0 f.blank)
+    (text_joined (word_text t.word) h.1 (word_allowed t.word f.word) (tokens_are_text ts t.end h.1 h.3)))
+
+pub lawful_is_text : OneCutting → (text : List ℕ) (ws : List Word) → lawful_words text ≡ Some ws → is_text text ≡ true
+lawful_is_text cut text ws h = go (tokens text) refl h
+  where
+    go : (o : Option (List Token)) → tokens text ≡ o → option_and_then if_lawful (option_map words_of o) ≡ Some ws → is_text text ≡ true
+    go None e k = cc
+    go (Some ts) e k = tokens_are_text ts 0 text ((cut text ts).0 e)
 
 -- ---- a line of text stands as it is
 

@@ -1,6 +1,6 @@
 -- The form of a line by its words.
 use Rattle.std.proofs.Common.{◌≡◌, ◌∙◌, ℕ, Bool, true, false, List, [], ◌∷◌, Option, Some, None, refl, sym, ap, option_map}
-use Rattle.std.specs.Prelude.{option_and_then, unwrap_or, MatchOption, if◌then◌else◌, codes}
+use Rattle.std.specs.Prelude.{option_and_then, unwrap_or, MatchOption, IfSome, if◌then◌else◌, codes}
 use Rattle.std.specs.List.{list_all}
 use Rattle.wpds_base.specs.Faults.{first_fault}
 use Rattle.wpds_port.specs.declared.Kind.TheVariants.{Form}
@@ -12,6 +12,8 @@ use Rattle.wpds_port.specs.declared.Lexeme.{Lexeme}
 use Rattle.wpds_port.specs.Words.{text_words, if_lawful, lawful_words, word_of}
 use Rattle.truth_tables.specs.Texts.{is_name}
 use Rattle.document_forms.specs.Words.{guarded, is_implies, before, behind, ◌>>=◌}
+use Rattle.document_forms.specs.Lines.{is_text}
+use Rattle.document_forms.proofs.CallerLemmas.{OneCutting, lawful_is_text}
 use Rattle.document_forms.specs.FirstRefusal.{by_form}
 use Rattle.document_forms.specs.Patterns.{PatternForm, pattern_of}
 use Rattle.document_forms.specs.Forms.{WeightsForm, RuleForm, LineForm, OfWeights, OfQuery, form_of, form_behind, line_form, names_of, rule_of, query_of, weights_of, OfNames, OfRule, Controls, Symbols, Facts, Variables, Class}
@@ -83,6 +85,12 @@ pub front_of : (line : List ℕ) (ws : List Word) (r : Option (Lexeme × List Wo
 front_of line ws None e h = form_lawful line ∙ ap (option_and_then form_in) e ∙ ap form_in h
 front_of line ws (Some p) e h = form_lawful line ∙ ap (option_and_then form_in) e ∙ ap form_in h
 
+-- ---- a line that is cut wholly into words is text
+
+pub text_of : OneCutting → (line : List ℕ) (ws : List Word) (r : Option (Lexeme × List Word)) → lawful_words line ≡ Some ws → IfSome r (λ _. is_text line ≡ true)
+text_of cut line ws None e = tt
+text_of cut line ws (Some p) e = lawful_is_text cut line ws e
+
 -- ---- lines that begin with the word of their form
 
 name_is : (x : List ℕ) (w : Word) → is_name x w ≡ true → w ≡ Name x
@@ -114,7 +122,7 @@ abbrev pub symbols_in : Option LineForm → List (List ℕ)
 symbols_in f = unwrap_or (option_map (names_on Symbols) f) []
 
 -- a line that begins with another word declares no symbols
-pub other_symbols : (w : Word) (ws : List Word) → is_name (codes "symbols") w ≡ false → symbols_in (form_behind w ws) ≡ []
+other_symbols : (w : Word) (ws : List Word) → is_name (codes "symbols") w ≡ false → symbols_in (form_behind w ws) ≡ []
 other_symbols w ws h = go (is_name (codes "weights") w) (is_name (codes "controls") w) (is_name (codes "symbols") w) h (is_name (codes "facts") w) (is_name (codes "variables") w) (is_name (codes "rule") w) (is_name (codes "query") w)
   where
     weights : (o : Option WeightsForm) → symbols_in (option_map OfWeights o) ≡ []
@@ -157,6 +165,10 @@ other_symbols w ws h = go (is_name (codes "weights") w) (is_name (codes "control
     go false false false h false false true q = rules (rule_of ws)
     go false false false h false false false true = queries
     go false false false h false false false false = refl
+
+-- nor does a query
+pub query_symbols : (w : Word) (ws : List Word) → is_name (codes "query") w ≡ true → symbols_in (form_behind w ws) ≡ []
+query_symbols w ws h = other_symbols w ws (ap (is_name (codes "symbols")) (name_is (codes "query") w h))
 
 -- what a line declares of symbols, by its first word
 pub declares_symbols : (line : List ℕ) (w : Word) (ws : List Word) → line_form line ≡ form_behind w ws → is_name (codes "symbols") w ≡ true → names_of ws ≡ Some (names_in ws) → declared_on Symbols line ≡ names_in ws

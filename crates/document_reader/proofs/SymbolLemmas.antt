@@ -13,7 +13,7 @@ use Rattle.document_forms.specs.Above.{Above, names_on, with_line}
 use Rattle.document_forms.specs.FirstRefusal.{counted, forms, all_symbols}
 use Rattle.document_reader.specs.declared.reading.Reading.{Reading}
 use Rattle.document_reader.specs.private.Readings.{declared_on, names_in, symbols_with, all_behind, above_now, Takes}
-use Rattle.document_reader.proofs.LineFormLemmas.{other_symbols}
+use Rattle.document_reader.proofs.LineFormLemmas.{query_symbols}
 
 -- ---- each name once, again
 
@@ -131,9 +131,9 @@ pub all_of_lines : (ls : List Line) (h w : Line) (left : List Line) (r : Reading
 all_of_lines ls h w left r e none =
     ap (λ xs. symbols_with xs left) none ∙ sym (ap (λ k. all_symbols (map counted k)) e)
 
--- a line that begins with another word declares none
-pub none_here : (xs : Names) (w : Word) (ws : List Word) (ls : List Line) → is_name (codes "symbols") w ≡ false → all_behind xs (form_behind w ws) ls ≡ symbols_with xs ls
-none_here xs w ws ls h = ap (λ here. length (once (xs ++ (here ++ names_in Symbols (map counted ls))))) (other_symbols w ws h)
+-- a query declares none
+pub none_here : (xs : Names) (w : Word) (ws : List Word) (ls : List Line) → is_name (codes "query") w ≡ true → all_behind xs (form_behind w ws) ls ≡ symbols_with xs ls
+none_here xs w ws ls h = ap (λ here. length (once (xs ++ (here ++ names_in Symbols (map counted ls))))) (query_symbols w ws h)
 
 -- what is known stands, whatever comes out
 pub still_known : {T E : Type 0} (r : Result T E) (known : Option ℕ) (n all : ℕ) → known ≡ Some n → n ≡ all → IfOk r (λ _. IfSome known (λ k. k ≡ all))

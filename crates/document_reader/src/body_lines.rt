@@ -1,8 +1,9 @@
 //! Lines behind the weights line.
 
-ghost use Rattle.std.specs.Prelude.{◌≡◌, ◌||◌, ◌∷◌, [], ℕ, IfOk, IfNone, IfSome, Some, option_map};
+ghost use Rattle.std.specs.Prelude.{◌≡◌, ◌||◌, ◌∷◌, [], ℕ, true, not, IfOk, IfNone, IfSome, Some, option_map};
 ghost use Rattle.wpds_base.specs.Faults.{first_fault};
 ghost use Rattle.wpds_port.specs.Words.{word_of};
+ghost use Rattle.document_forms.specs.Lines.{is_text as is_text_as};
 ghost use Rattle.document_forms.specs.Above.{Above};
 ghost use Rattle.document_forms.specs.FirstRefusal.{by_form};
 ghost use Rattle.document_forms.specs.Forms.{Controls, Symbols, Facts, Variables, OfWeights, OfRule, weights_of, rule_of, query_of, form_behind, line_form};
@@ -170,7 +171,7 @@ fn take_query(
 }
 
 // Takes what the words behind the first one declare or ask. How many symbols all lines declare may be known, and is
-// counted where they ask.
+// counted where they ask. Most lines are rules.
 fn take_words<'t>(
     alloc: Global,
     known: &mut Option<usize>,
@@ -189,6 +190,13 @@ fn take_words<'t>(
         let all = all_behind reading.old.scope.symbols form left.now.lines in
         IfOk result (λ _. IfSome known.new (λ n. n ≡ all)) }
 {
+    if is_name(first, b"rule") {
+        return take_rule(alloc, reading, words);
+    }
+    if is_name(first, b"query") {
+        let all = all_symbols(alloc, known, &reading.scope.symbols, left)?;
+        return take_query(alloc, all, reading, words);
+    }
     if is_name(first, b"weights") {
         return Ok(Some(weights_kind(words)));
     }
@@ -204,14 +212,19 @@ fn take_words<'t>(
     if is_name(first, b"variables") {
         return declare_variables(reading, words);
     }
-    if is_name(first, b"rule") {
-        return take_rule(alloc, reading, words);
-    }
-    if is_name(first, b"query") {
-        let all = all_symbols(alloc, known, &reading.scope.symbols, left)?;
-        return take_query(alloc, all, reading, words);
-    }
     Ok(Some(Kind::Form))
+}
+
+// The kind by which a line is refused that has no form.
+fn formless_kind(line: &[u8]) -> Kind
+    ensures { Some result
+        ≡ first_fault ((not (is_text_as line.now), Kind.NotText) ∷ (true, Kind.Form) ∷ []) }
+{
+    if is_text(line) {
+        Kind::Form
+    } else {
+        Kind::NotText
+    }
 }
 
 /// Reads a line behind the weights line: takes what it declares or asks, or tells the kind by
@@ -237,11 +250,8 @@ pub(crate) fn read_line<'t>(
         IfOk result (λ _. IfSome known.new (λ n. n ≡ all)) }
 {
     reading.scope.items.stands_once();
-    if !is_text(line) {
-        return Ok(Some(Kind::NotText));
-    }
     let Some((first, words)) = line_front(line) else {
-        return Ok(Some(Kind::Form));
+        return Ok(Some(formless_kind(line)));
     };
     take_words(alloc, known, left, reading, first, &words)
 }

@@ -1,6 +1,6 @@
 //! The lines of a document that count, one after another.
 
-ghost use Rattle.std.specs.Prelude.{◌≡◌, ◌<◌, [], ◌∷◌, length, position, None, MatchOption};
+ghost use Rattle.std.specs.Prelude.{◌≡◌, ◌<◌, [], ◌∷◌, length, position, true, None, MatchOption, IfSome};
 ghost use Rattle.wpds_port.specs.Tokens.{is_blank};
 ghost use Rattle.wpds_port.specs.Words.{word_of};
 ghost use Rattle.document_forms.specs.Forms.{line_form, form_behind};
@@ -9,7 +9,7 @@ ghost use Rattle.document_reader.specs.LinesLeft.{left, is_feed};
 
 use document_forms::one_cutting_into_lines;
 use std::marker::Model;
-use wpds_port::{Lexeme, Words};
+use wpds_port::{Lexeme, Words, one_list_of_tokens};
 
 /// A line of a document with its number, from 1.
 #[derive(Clone, Copy)]
@@ -159,12 +159,14 @@ pub fn is_text(line: &[u8]) -> bool
     line.iter().all(|byte| allowed(*byte))
 }
 
-/// The first word of a line and those behind it, if it is cut wholly into words which a form takes.
+/// The first word of a line and those behind it, if it is cut wholly into words which a form takes. Such a line is text.
 pub(crate) fn line_front<'t>(line: &'t [u8]) -> Option<(Lexeme<'t>, Words<'t>)>
-    ensures { MatchOption result
+    ensures form { MatchOption result
         (line_form line.now ≡ None)
         (λ p. line_form line.now ≡ form_behind (word_of p.0) p.1) }
+    ensures text { IfSome result (λ _. is_text_as line.now ≡ true) }
 {
+    one_list_of_tokens();
     let words = Words::of(line)?;
     words.split_first()
 }

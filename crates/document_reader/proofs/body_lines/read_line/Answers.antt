@@ -1,4 +1,3 @@
-use Rattle.std.proofs.Common.{sym}
 use Rattle.wpds_port.specs.Words.{word_of}
 use Rattle.document_forms.specs.Forms.{form_behind}
 use Rattle.document_reader.specs.private.Readings.{all_behind}
@@ -14,4 +13,4 @@ returns-clause-few c =
 pub returns-clause-kind : goal.returns-clause-kind
 returns-clause-kind c =
     kind_answered c.args.line.now (form_behind (word_of c.in-Some.first) c.in-Some.words) c.args.reading.now.scope.symbols c.args.left.now.lines
-    c.args.reading.now c.take_words.new.reading c.take_words.result c.in-Some.ensures (sym c.if-not-is_text.ensures) c.take_words.ensures.answered
+    c.args.reading.now c.take_words.new.reading c.take_words.result c.in-Some.ensures.form c.in-Some.ensures.text c.take_words.ensures.answered
