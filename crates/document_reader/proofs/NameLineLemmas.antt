@@ -195,6 +195,9 @@ stops_names left ws all w e same h =
     let no : list_all is_free all ≡ false = sym same ∙ ap (list_all is_free) e ∙ rw (sym h) refl in
     sym (ap is_some (names_none all no))
 
+pub free_behind : (left ws all : List Word) (w : Word) → left ≡ w ∷ ws → list_all is_free left ≡ list_all is_free all → true ≡ is_free w → list_all is_free ws ≡ list_all is_free all
+free_behind left ws all w e same h = ap (λ t. t && list_all is_free ws) h ∙ sym (ap (list_all is_free) e) ∙ same
+
 pub ends_names : (left all : List Word) (r : Option (Lexeme × List Word)) → left ≡ [] → list_all is_free left ≡ list_all is_free all
     → MatchOption r (all ≡ []) (λ p. all ≡ word_of p.0 ∷ p.1) → is_some r ≡ is_some (names_of all)
 ends_names left all None e same h = sym (ap (λ ws. is_some (names_of ws)) h)

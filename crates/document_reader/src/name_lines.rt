@@ -1,6 +1,6 @@
 //! Lines that declare names of a class.
 
-ghost use Rattle.std.specs.Prelude.{◌≡◌, ◌++◌, ◌∷◌, [], IfOk, IfNone, is_some, bytes_eq};
+ghost use Rattle.std.specs.Prelude.{◌≡◌, ◌++◌, ◌∷◌, [], IfOk, IfNone, MatchOption, is_some, true, false, bytes_eq};
 ghost use Rattle.wpds_port.specs.Words.{word_of};
 ghost use Rattle.document_forms.specs.Forms.{Symbols, names_of};
 ghost use Rattle.document_forms.specs.Names.{once, is_reserved as is_reserved_of};
@@ -83,6 +83,29 @@ pub fn add_names<'t>(table: &mut NameTable<'t>, words: &Words<'t>) -> Result<boo
     Ok(twice)
 }
 
+// Adds words to the names of a class, and returns whether one stood there or stands twice; nothing where there are none,
+// or one may not be declared. The table is of no use then, nor after an answer out of memory.
+fn add_free<'t>(table: &mut NameTable<'t>, words: &Words<'t>) -> Result<Option<bool>, OutOfMemory>
+    ensures { IfOk result (λ o. MatchOption o (is_some (names_of words.now) ≡ false)
+        (λ twice. (is_some (names_of words.now) ≡ true)
+        × HasAdded table.old table.new (names_in words.now) twice)) }
+{
+    table.stands_once();
+    let mut left = words.reborrow();
+    let mut twice = false;
+    while let Some((lexeme, rest)) = left.split_first() {
+        if !is_free(lexeme) {
+            return Ok(None);
+        }
+        twice |= add_word(table, lexeme)?;
+        left = rest;
+    }
+    match words.split_first() {
+        Some(_) => Ok(Some(twice)),
+        None => Ok(None),
+    }
+}
+
 /// Declares the names of the words behind the word of a class, of which there may be so many, or
 /// tells the kind by which they are refused.
 pub(crate) fn declare<'t>(
@@ -93,11 +116,11 @@ pub(crate) fn declare<'t>(
     ensures kind { IfOk result (λ k. k ≡ kind_of_names table.old most (names_of words.now)) }
     ensures declares { IfOk result (λ k. IfNone k (Declares table.old table.new words.now)) }
 {
-    if !are_names(words) {
-        return Ok(Some(Kind::Form));
-    }
     table.stands_once();
-    if add_names(table, words)? {
+    let Some(twice) = add_free(table, words)? else {
+        return Ok(Some(Kind::Form));
+    };
+    if twice {
         return Ok(Some(Kind::Twice));
     }
     if table.len() > most {
