@@ -16,7 +16,8 @@ pub(crate) struct Entry {
     pub(crate) older: u64,
 }
 
-// The bucket of three numbers, by the high half of a sum of products (Dietzfelbinger 1996).
+// The bucket of three numbers, by the high half of a sum of products (Dietzfelbinger 1996). Counts of buckets are powers of
+// two, so that its last bits are the remainder.
 fn bucket(count: usize, x: u64, y: u64, z: u64) -> usize
     requires { 0 < count }
     ensures within { result < count }
@@ -26,7 +27,7 @@ fn bucket(count: usize, x: u64, y: u64, z: u64) -> usize
     let second = y.wrapping_mul(0xbf58_476d_1ce4_e5b9);
     let third = z.wrapping_mul(0x94d0_49bb_1331_11eb);
     let mixed = first.wrapping_add(second).wrapping_add(third);
-    (mixed >> 32) as usize % count
+    (mixed >> 32) as usize & (count - 1)
 }
 
 /// The number that stands at three numbers, by the chain of their bucket from the newest entry on.
@@ -88,10 +89,8 @@ pub(crate) fn blank(alloc: Global, count: usize) -> Result<Vec<u64>, OutOfMemory
     ensures blank { IfOk result (λ v. All IsBlank v.items) }
     ensures count { IfOk result (λ v. length v.items ≡ count) }
 {
-    let mut heads = Vec::with_capacity(alloc, count)?;
-    for _ in 0..count {
-        heads.push(0)?;
-    }
+    let mut heads = Vec::new(alloc);
+    heads.resize(count, 0)?;
     Ok(heads)
 }
 

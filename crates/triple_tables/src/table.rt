@@ -45,7 +45,7 @@ impl TripleTable {
     pub fn with_room(alloc: Global, room: usize) -> Result<TripleTable, OutOfMemory>
         ensures { IfOk result (λ t. (x y z : ℕ) → known t x y z ≡ None) }
     {
-        let heads = blank(alloc, room)?;
+        let heads = blank(alloc, buckets_for(room))?;
         let entries = Vec::with_capacity(alloc, room)?;
         Ok(TripleTable {
             alloc,
@@ -72,6 +72,20 @@ impl TripleTable {
     }
 }
 
+// How many buckets there are at least, and to how many they are doubled for the room that is asked for.
+const FEWEST_BUCKETS: usize = 16;
+
+const MOST_FOR_ROOM: usize = 0x1_0000_0000;
+
+// A power of two, at least so many up to the most.
+fn buckets_for(room: usize) -> usize {
+    let mut buckets = FEWEST_BUCKETS;
+    while buckets < room && buckets < MOST_FOR_ROOM {
+        buckets *= 2;
+    }
+    buckets
+}
+
 // Makes more buckets, and chains the entries anew, where there are no more buckets than entries.
 fn make_room(
     alloc: Global,
@@ -86,7 +100,7 @@ fn make_room(
     if entries.len() < heads.len() {
         return Ok(());
     }
-    let count = entries.len() + entries.len() / 2 + 16;
+    let count = (2 * heads.len()).max(FEWEST_BUCKETS);
     let more = blank(alloc, count)?;
     *heads = more;
     link(heads, entries);

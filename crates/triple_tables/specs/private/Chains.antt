@@ -1,11 +1,12 @@
 -- Entries in chains by buckets, from the newest to the oldest of each.
-use Rattle.std.specs.Prelude.{◌≡◌, ℕ, zero, suc, ◌+◌, ◌*◌, ◌/◌, ◌%◌, ◌^◌, ◌<◌, ◌≤◌, nat_eq, List, [], ◌∷◌, length, take, Some, slice_get, slice_index_or, if◌then◌else◌}
+use Rattle.std.specs.Prelude.{◌≡◌, ℕ, zero, suc, ◌+◌, ◌*◌, ◌-◌, ◌/◌, ◌%◌, ◌^◌, ◌<◌, ◌≤◌, nat_eq, List, [], ◌∷◌, length, take, Some, slice_get, slice_index_or, if◌then◌else◌}
+use Rattle.std.specs.Int.RustNames.{bit_and}
 use Rattle.triple_tables.specs.declared.chains.Entry.{Entry}
 
 -- the bucket of three numbers, of so many
 unfoldable pub bucket : ℕ → ℕ → ℕ → ℕ → ℕ
 bucket count x y z =
-    (((x * 11400714819323198485) % 2 ^ 64 + (y * 13787848793156543929) % 2 ^ 64) % 2 ^ 64 + (z * 10723151780598845931) % 2 ^ 64) % 2 ^ 64 / 2 ^ 32 % count
+    bit_and ((((x * 11400714819323198485) % 2 ^ 64 + (y * 13787848793156543929) % 2 ^ 64) % 2 ^ 64 + (z * 10723151780598845931) % 2 ^ 64) % 2 ^ 64 / 2 ^ 32) (count - 1)
 
 abbrev pub bucket_of : ℕ → Entry → ℕ
 bucket_of count e = bucket count e.x e.y e.z
