@@ -14,3 +14,4 @@ mod RelationLemmas
 mod VariableLemmas
 mod ShortCutLemmas
 pub mod CallerLemmas
+mod ScratchLemmas

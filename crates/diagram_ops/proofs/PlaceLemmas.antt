@@ -1,10 +1,19 @@
 -- Lists in which 0 stands for none.
-use Rattle.std.proofs.Common.{◌≡◌, ℕ, zero, suc, List, [], ◌∷◌, ◌++◌, refl}
+use Rattle.std.proofs.Common.{◌≡◌, ℕ, zero, suc, List, [], ◌++◌, take, replicate, refl, ap, ◌∙◌}
 use Rattle.std.specs.Prelude.{None}
 use Rattle.diagram_ops.specs.private.Places.{placed}
 
-pub none_push : (ns : List ℕ) → ((k : ℕ) → placed ns k ≡ None) → (k : ℕ) → placed (ns ++ 0 ∷ []) k ≡ None
-none_push [] h zero = refl
-none_push [] h (suc k) = refl
-none_push (n ∷ ns) h zero = h zero
-none_push (n ∷ ns) h (suc k) = none_push ns (λ i. h (suc i)) k
+none_repeated : (count k : ℕ) → placed (replicate count 0) k ≡ None
+none_repeated zero zero = refl
+none_repeated zero (suc k) = refl
+none_repeated (suc count) zero = refl
+none_repeated (suc count) (suc k) = none_repeated count k
+
+none_taken : (count : ℕ) → take {A = ℕ} count [] ≡ []
+none_taken zero = refl
+none_taken (suc count) = refl
+
+-- a list that was empty, filled up
+pub none_filled : (numbers : List ℕ) (cut count k : ℕ) → numbers ≡ [] → placed (take cut numbers ++ replicate count 0) k ≡ None
+none_filled numbers cut count k empty =
+    ap (λ l. placed (take cut l ++ replicate count 0) k) empty ∙ ap (λ l. placed (l ++ replicate count 0) k) (none_taken cut) ∙ none_repeated count k

@@ -49,12 +49,11 @@ fn apply_in_arena(
     let arena = Bump::new(alloc);
     // twice the nodes of the largest operand: for them, and for those of a result of that size
     let room = 2 * a.nodes().len().max(b.nodes().len()).max(c.nodes().len());
-    let mut scratch = Scratch::with_room(alloc, &arena, room)?;
-    let x = load(alloc, &mut scratch, a)?;
+    let mut scratch = Scratch::of_nodes(alloc, &arena, room, a.nodes())?;
     let y = load(alloc, &mut scratch, b)?;
     let z = load(alloc, &mut scratch, c)?;
     let mut results = TripleTable::with_room(alloc, room)?;
-    let root = apply(&mut scratch, &mut results, table, x, y, z)?;
+    let root = apply(&mut scratch, &mut results, table, a.root, y, z)?;
     let made = copy_out(alloc, &scratch, root)?;
     Ok(made)
 }

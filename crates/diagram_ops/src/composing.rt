@@ -4,6 +4,7 @@ ghost use Rattle.diagram_store.specs.Nodes.{IsReduced, IsAbove};
 ghost use Rattle.diagram_ops.specs.private.Applying.{AreApplied, lower, place, cofactor_at};
 ghost use Rattle.diagram_ops.specs.private.Composing.{AreComposed, Composes, IsJoined};
 ghost use Rattle.diagram_ops.specs.private.Composing as composing;
+ghost use Rattle.diagram_ops.specs.private.ShortCuts.{IsShortCut};
 ghost use Rattle.diagram_ops.specs.Relations.{relates, RelatesThrough};
 ghost use Rattle.diagram_ops.specs.private.Scratch.{Keeps, Stands};
 ghost use Rattle.triple_tables.specs.Tables.{known};
@@ -41,12 +42,11 @@ pub fn compose_relations(
     let arena = Bump::new(alloc);
     // twice the nodes of the larger operand: for both, and for those of a result of that size
     let room = 2 * a.nodes().len().max(b.nodes().len());
-    let mut scratch = Scratch::with_room(alloc, &arena, room)?;
-    let x = load(alloc, &mut scratch, a)?;
+    let mut scratch = Scratch::of_nodes(alloc, &arena, room, a.nodes())?;
     let y = load(alloc, &mut scratch, b)?;
     let mut results = TripleTable::with_room(alloc, room)?;
     let mut joins = TripleTable::new(alloc);
-    let root = compose(&mut scratch, &mut results, &mut joins, x, y)?;
+    let root = compose(&mut scratch, &mut results, &mut joins, a.root, y)?;
     let made = copy_out(alloc, &scratch, root)?;
     Ok(made)
 }
@@ -114,11 +114,27 @@ fn join(
         Stands scratch.new r (IsJoined scratch.new place low high) (λ v. 2 * v < place)) }
 {
     if place % 2 == 1 {
+        if let Some(known) = known_or(low, high) {
+            return Ok(known);
+        }
         let joined = apply(scratch, joins, OR, low, high, 0)?;
         return Ok(joined);
     }
     let chosen = scratch.branch((place / 2) as u32, low, high)?;
     Ok(chosen)
+}
+
+// The disjunction of two references, where it is one of them.
+fn known_or(low: u64, high: u64) -> Option<u64>
+    ensures { IfSome result (λ r. IsShortCut 252 low high 0 r) }
+{
+    if low == high || high == 0 {
+        return Some(low);
+    }
+    if low == 0 {
+        return Some(high);
+    }
+    None
 }
 
 // The lowest place of two references, if one of them is a node.

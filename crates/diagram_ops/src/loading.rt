@@ -8,11 +8,11 @@ use diagram_store::{Branch, Diagram};
 use std::alloc::Global;
 use wpds_base::OutOfMemory;
 
-/// The places of the constants.
-pub(crate) fn first_places(alloc: Global) -> Result<Vec<u64>, OutOfMemory>
+/// The places of the constants, with room for those of these nodes.
+pub(crate) fn first_places(alloc: Global, nodes: &[Branch]) -> Result<Vec<u64>, OutOfMemory>
     ensures { IfOk result (λ p. p.items ≡ 0 ∷ 1 ∷ []) }
 {
-    let mut places = Vec::new(alloc);
+    let mut places = Vec::with_capacity(alloc, nodes.len() + 2)?;
     places.push(0)?;
     places.push(1)?;
     Ok(places)
@@ -31,7 +31,7 @@ pub(crate) fn load(
         IsPlaceOf scratch.new p (IsValue diagram.now.nodes) diagram.now.nodes diagram.now.root) }
 {
     let nodes = diagram.nodes();
-    let mut places = first_places(alloc)?;
+    let mut places = first_places(alloc, nodes)?;
     for k in 0..nodes.len() {
         let place = load_node(scratch, nodes, &places, k)?;
         places.push(place)?;

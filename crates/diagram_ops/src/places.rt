@@ -26,10 +26,8 @@ impl Places {
         ensures none { IfOk result (λ p. (k : ℕ) → placed p k ≡ None) }
         ensures count { IfOk result (λ p. length p ≡ count) }
     {
-        let mut numbers = Vec::with_capacity(alloc, count)?;
-        for _ in 0..count {
-            numbers.push(0)?;
-        }
+        let mut numbers = Vec::new(alloc);
+        numbers.resize(count, 0)?;
         Ok(Places { numbers })
     }
 

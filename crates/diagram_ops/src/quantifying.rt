@@ -49,7 +49,7 @@ fn load_quantified(
         (IsQuantified diagram.now.nodes vars.now) diagram.now.nodes diagram.now.root) }
 {
     let nodes = diagram.nodes();
-    let mut places = first_places(alloc)?;
+    let mut places = first_places(alloc, nodes)?;
     let mut results = TripleTable::new(alloc);
     for k in 0..nodes.len() {
         let place = quantify_node(scratch, &mut results, nodes, &places, k, vars)?;

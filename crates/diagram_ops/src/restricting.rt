@@ -43,7 +43,7 @@ fn load_restricted(
         (IsRestricted diagram.now.nodes var value) diagram.now.nodes diagram.now.root) }
 {
     let nodes = diagram.nodes();
-    let mut places = first_places(alloc)?;
+    let mut places = first_places(alloc, nodes)?;
     for k in 0..nodes.len() {
         let place = restrict_node(scratch, nodes, &places, k, var, value)?;
         places.push(place)?;

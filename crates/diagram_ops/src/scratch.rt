@@ -1,6 +1,6 @@
-ghost use Rattle.std.specs.Prelude.{◌≡◌, ◌+◌, ◌<◌, ◌^◌, ℕ, [], Some, IfOk, length};
+ghost use Rattle.std.specs.Prelude.{◌≡◌, ◌+◌, ◌<◌, ◌^◌, ◌++◌, ℕ, [], ◌∷◌, Some, IfOk, OnOk, length};
 ghost use Rattle.diagram_store.specs.Nodes.{node_at, IsAbove, IsReduced, HasVariablesBelow};
-ghost use Rattle.diagram_ops.specs.private.Scratch.{Keeps, Stands, IsChoice};
+ghost use Rattle.diagram_ops.specs.private.Scratch.{Keeps, Stands, IsChoice, IsNext};
 
 use bumpalo::Bump;
 use diagram_store::{Branch, node};
@@ -53,6 +53,36 @@ impl<'a> Scratch<'a> {
         let nodes = Vec::with_capacity(arena, room)?;
         let places = TripleTable::with_room(alloc, room)?;
         Ok(Scratch { nodes, places })
+    }
+
+    /// The nodes of a diagram, with room for so many. They lie in the arena, and keep their references.
+    pub(crate) fn of_nodes(
+        alloc: Global,
+        arena: &'a Bump,
+        room: usize,
+        nodes: &[Branch],
+    ) -> Result<Scratch<'a>, OutOfMemory>
+        requires { IsReduced nodes.now }
+        ensures { IfOk result (λ s. s ≡ nodes.now) }
+    {
+        let mut scratch = Scratch::with_room(alloc, arena, room)?;
+        for k in 0..nodes.len() {
+            scratch.add(nodes[k])?;
+        }
+        Ok(scratch)
+    }
+
+    // Adds a node that is not there, without looking for it.
+    fn add(&mut self, node: Branch) -> Result<(), OutOfMemory>
+        requires { IsNext self.old node }
+        ensures { OnOk result (self.new ≡ self.old ++ node ∷ []) }
+    {
+        let reference = self.nodes.len() as u64 + 2;
+        self.nodes.reserve(1)?;
+        self.places
+            .insert(u64::from(node.var), node.low, node.high, reference)?;
+        self.nodes.push(node)?;
+        Ok(())
     }
 
     /// How many references there are: one for each constant, and one for each node.

@@ -8,6 +8,15 @@ use Rattle.diagram_store.specs.Meaning.{value_at}
 pub record Keeps (old new : List Branch) : Type 0 where
   pub each : (r : ℕ) (n : Branch) → node_at old r ≡ Some n → node_at new r ≡ Some n
 
+-- a node that may stand behind these, none of which it is
+pub record IsNext (nodes : List Branch) (n : Branch) : Type 0 where
+  pub low : n.low < length nodes + 2
+  pub high : n.high < length nodes + 2
+  pub low_above : IsAbove nodes n.var n.low
+  pub high_above : IsAbove nodes n.var n.high
+  pub differs : n.low ≡ n.high → ⊥
+  pub fresh : (r : ℕ) → node_at nodes r ≡ Some n → ⊥
+
 -- a table that finds each node, and nothing else
 pub record FindsNodes (places : ℕ → ℕ → ℕ → Option ℕ) (nodes : List Branch) : Type 0 where
   pub finds : (r : ℕ) (n : Branch) → node_at nodes r ≡ Some n → places n.var n.low n.high ≡ Some r
