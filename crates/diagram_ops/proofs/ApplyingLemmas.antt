@@ -6,12 +6,12 @@ use Rattle.std.proofs.lemmas.Option.{same_Some}
 use mir.Val.{bool_byte}
 use Rattle.truth_tables.specs.Tables.{value3_of}
 use Rattle.diagram_store.specs.declared.branch.Branch.{Branch}
-use Rattle.diagram_store.specs.Nodes.{IsAbove, IsReduced}
+use Rattle.diagram_store.specs.Nodes.{node_at, IsAbove, IsReduced}
 use Rattle.diagram_store.specs.Meaning.{value_at}
 use Rattle.diagram_store.proofs.CallerLemmas.{no_node, value_at_end}
 use Rattle.triple_tables.specs.Tables.{same_key}
 use Rattle.diagram_ops.specs.private.Scratch.{Keeps, Stands, IsChoice}
-use Rattle.diagram_ops.specs.private.Applying.{variable, lower, cofactor, IsTableOf, ComesBefore, IsApplied, AreApplied, Applies}
+use Rattle.diagram_ops.specs.private.Applying.{variable, place_in, lower, cofactor, IsTableOf, ComesBefore, IsApplied, AreApplied, Applies}
 use Rattle.diagram_ops.proofs.KeepingLemmas.{keeps_same, keeps_both, keeps_within, keeps_above, keeps_value}
 use Rattle.diagram_ops.proofs.PushLemmas.{key_parts}
 use Rattle.diagram_ops.proofs.CofactorLemmas.{Bounds, lower_is, lower_none, none_of_variable, node_of_variable, cofactor_value, cofactor_smaller, cofactor_within, cofactor_above}
@@ -35,6 +35,12 @@ stands_constant nodes r b meaning before e means =
           subst M (sym (value_at_end nodes r bits (no_node nodes r below) ∙ ap (λ k. nat_eq k 1) e ∙ byte_is b)) (means bits);
       above = λ v h n f. let g : None ≡ Some n = sym (no_node nodes r below) ∙ f in cc;
     }
+
+-- the lowest variable by what the references name
+pub lowest_read : (nodes : List Branch) (x y z : ℕ) (first second third : Option Branch) → first ≡ node_at nodes x → second ≡ node_at nodes y → third ≡ node_at nodes z
+    → lower (lower (place_in (λ k. k) first) (place_in (λ k. k) second)) (place_in (λ k. k) third) ≡ lower (lower (variable nodes x) (variable nodes y)) (variable nodes z)
+lowest_read nodes x y z first second third e f g =
+    ap₂ (λ a b. lower a (place_in (λ k. k) b)) (ap₂ (λ a b. lower (place_in (λ k. k) a) (place_in (λ k. k) b)) e f) g
 
 pub value3_same : (table : ℕ) (a b c a' b' c' : Bool) → a ≡ a' → b ≡ b' → c ≡ c' → value3_of table a b c ≡ value3_of table a' b' c'
 value3_same table a b c a' b' c' p q r = ap₂ (λ x y. value3_of table x y c) p q ∙ ap (λ z. value3_of table a' b' z) r

@@ -1,17 +1,17 @@
 -- One step of the composition of two relations.
-use Rattle.std.proofs.Common.{◌≡◌, ℕ, ◌+◌, ◌*◌, ◌/◌, ◌%◌, ◌<◌, ◌≤◌, Bool, true, false, ◌||◌, List, length, refl, sym, ap, ◌∙◌, subst, inl, inr, arith}
+use Rattle.std.proofs.Common.{◌≡◌, ℕ, ◌+◌, ◌*◌, ◌/◌, ◌%◌, ◌<◌, ◌≤◌, Bool, true, false, ◌||◌, List, length, refl, sym, ap, ap₂, ◌∙◌, subst, inl, inr, arith}
 use Rattle.std.specs.Prelude.{Option, None, Some, ◌⊎◌, IsTrue, nat_eq, cond}
 use Rattle.std.proofs.lemmas.Bool.{cond-true, cond-false, cases_Bool, cases_eq, eq-eqb, eqb-true, false_from_ne_true, or_left, or_right, or_cases}
 use Rattle.std.proofs.lemmas.Option.{same_Some}
 use Rattle.diagram_store.specs.declared.branch.Branch.{Branch}
-use Rattle.diagram_store.specs.Nodes.{IsAbove, IsReduced}
+use Rattle.diagram_store.specs.Nodes.{node_at, IsAbove, IsReduced}
 use Rattle.diagram_store.specs.Meaning.{value_at, set_bit}
 use Rattle.diagram_store.proofs.CallerLemmas.{constant_below, value_at_end, value_agrees, set_same, set_other}
 use Rattle.diagram_ops.specs.declared.composing.Operand.{Operand}
 use Rattle.diagram_ops.specs.declared.composing.Operand.TheVariants.{First, Second}
 use Rattle.triple_tables.specs.Tables.{same_key}
 use Rattle.diagram_ops.specs.private.Scratch.{Keeps, Stands, IsPast, IsChoice}
-use Rattle.diagram_ops.specs.private.Applying.{AreApplied, Applies, lower, place, cofactor_at}
+use Rattle.diagram_ops.specs.private.Applying.{AreApplied, Applies, lower, place_in, place, cofactor_at}
 use Rattle.diagram_ops.specs.private.Composing.{position, placed_value, IsTrueBetween, IsComposed, ComesBeforeBoth, IsComposition, AreComposed, Composes, IsJoined}
 use Rattle.diagram_ops.proofs.KeepingLemmas.{keeps_same, keeps_both, keeps_within, keeps_past, keeps_above, keeps_value}
 use Rattle.diagram_ops.proofs.PushLemmas.{key_parts}
@@ -122,6 +122,11 @@ pub record IsLowestPlace (nodes : List Branch) (x y p : ℕ) : Type 0 where
   pub first : Bounds p (place (position First) nodes x)
   pub second : Bounds p (place (position Second) nodes y)
   pub one : (place (position First) nodes x ≡ Some p) ⊎ (place (position Second) nodes y ≡ Some p)
+
+-- by what the references name
+pub lowest_read : (nodes : List Branch) (x y : ℕ) (first second : Option Branch) → first ≡ node_at nodes x → second ≡ node_at nodes y
+    → lower (place_in (position First) first) (place_in (position Second) second) ≡ lower (place (position First) nodes x) (place (position Second) nodes y)
+lowest_read nodes x y first second e f = ap₂ (λ a b. lower (place_in (position First) a) (place_in (position Second) b)) e f
 
 pub lowest_place : (nodes : List Branch) (x y p : ℕ) → lower (place (position First) nodes x) (place (position Second) nodes y) ≡ Some p → IsLowestPlace nodes x y p
 lowest_place nodes x y p e = let l = lower_is (place (position First) nodes x) (place (position Second) nodes y) p e in record { first = l.first; second = l.second; one = l.one }

@@ -1,11 +1,11 @@
 ghost use Rattle.std.specs.Prelude.{◌≡◌, ◌+◌, ◌<◌, ◌^◌, ℕ, Some, true, false, IfOk, length};
-ghost use Rattle.diagram_store.specs.Nodes.{IsReduced};
-ghost use Rattle.diagram_ops.specs.private.Applying.{AreApplied, Applies, variable, cofactor};
+ghost use Rattle.diagram_ops.specs.private.Applying.{AreApplied, Applies, place_in, cofactor_of};
 ghost use Rattle.diagram_ops.specs.private.Applying as applying;
 ghost use Rattle.triple_tables.specs.Tables.{known};
 
 use crate::scratch::Scratch;
 use crate::short_cuts::short_cut;
+use diagram_store::Branch;
 use triple_tables::TripleTable;
 use truth_tables::value3;
 use wpds_base::OutOfMemory;
@@ -28,7 +28,10 @@ pub(crate) fn apply(
     requires results { AreApplied table scratch.old (known results.old) }
     ensures { IfOk result (λ r. Applies table scratch.old scratch.new (known results.new) x y z r) }
 {
-    let Some(var) = lowest(scratch, x, y, z) else {
+    let first = scratch.node(x);
+    let second = scratch.node(y);
+    let third = scratch.node(z);
+    let Some(var) = lowest(first, second, third) else {
         return Ok(u64::from(value3(table, x == 1, y == 1, z == 1)));
     };
     if let Some(answer) = short_cut(table, x, y, z) {
@@ -37,9 +40,9 @@ pub(crate) fn apply(
     if let Some(result) = results.get(x, y, z) {
         return Ok(result);
     }
-    let xs = cofactors(scratch, var, x);
-    let ys = cofactors(scratch, var, y);
-    let zs = cofactors(scratch, var, z);
+    let xs = cofactors(var, x, first);
+    let ys = cofactors(var, y, second);
+    let zs = cofactors(var, z, third);
     let low = apply(scratch, results, table, xs.0, ys.0, zs.0)?;
     let high = apply(scratch, results, table, xs.1, ys.1, zs.1)?;
     let result = scratch.branch(var, low, high)?;
@@ -47,15 +50,13 @@ pub(crate) fn apply(
     Ok(result)
 }
 
-// The lowest variable of three references, if one of them is a node.
-fn lowest(scratch: &Scratch, x: u64, y: u64, z: u64) -> Option<u32>
-    ensures lowest { result
-        ≡ applying.lower (applying.lower (variable scratch.now x) (variable scratch.now y))
-        (variable scratch.now z) }
-    ensures reduced { IsReduced scratch.now }
+// The lowest variable of what three references name, if one of them is a node.
+fn lowest(first: Option<Branch>, second: Option<Branch>, third: Option<Branch>) -> Option<u32>
+    ensures { result ≡ applying.lower
+        (applying.lower (place_in (λ k. k) first) (place_in (λ k. k) second))
+        (place_in (λ k. k) third) }
 {
-    let first = lower(variable(scratch, x), variable(scratch, y));
-    lower(first, variable(scratch, z))
+    lower(lower(variable(first), variable(second)), variable(third))
 }
 
 fn lower(a: Option<u32>, b: Option<u32>) -> Option<u32>
@@ -68,22 +69,21 @@ fn lower(a: Option<u32>, b: Option<u32>) -> Option<u32>
     }
 }
 
-fn variable(scratch: &Scratch, reference: u64) -> Option<u32>
-    ensures variable { result ≡ applying.variable scratch.now reference }
-    ensures reduced { IsReduced scratch.now }
+fn variable(found: Option<Branch>) -> Option<u32>
+    ensures { result ≡ place_in (λ k. k) found }
 {
-    match scratch.node(reference) {
+    match found {
         Some(node) => Some(node.var),
         None => None,
     }
 }
 
-// Where the walk goes on from a reference where the bit of a variable is false, and where it is true.
-fn cofactors(scratch: &Scratch, var: u32, reference: u64) -> (u64, u64)
-    ensures low { result.0 ≡ cofactor scratch.now var false reference }
-    ensures high { result.1 ≡ cofactor scratch.now var true reference }
+// Where the walk goes on from a reference, by what it names, where the bit of a variable is false, and where it is true.
+fn cofactors(var: u32, reference: u64, found: Option<Branch>) -> (u64, u64)
+    ensures low { result.0 ≡ cofactor_of (λ k. k) var false reference found }
+    ensures high { result.1 ≡ cofactor_of (λ k. k) var true reference found }
 {
-    match scratch.node(reference) {
+    match found {
         Some(node) if node.var == var => (node.low, node.high),
         _ => (reference, reference),
     }

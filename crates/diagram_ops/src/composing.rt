@@ -1,7 +1,7 @@
 ghost use Rattle.std.specs.Prelude.{◌≡◌, ◌↔◌, ◌+◌, ◌*◌, ◌/◌, ◌<◌, ◌^◌, ℕ, Bool, true, false, IsTrue, IfOk, IfSome, length};
 ghost use Rattle.diagram_store.specs.Diagrams.{IsOver};
 ghost use Rattle.diagram_store.specs.Nodes.{IsReduced, IsAbove};
-ghost use Rattle.diagram_ops.specs.private.Applying.{AreApplied, lower, place, cofactor_at};
+ghost use Rattle.diagram_ops.specs.private.Applying.{AreApplied, lower, place_in, cofactor_of};
 ghost use Rattle.diagram_ops.specs.private.Composing.{AreComposed, Composes, IsJoined};
 ghost use Rattle.diagram_ops.specs.private.Composing as composing;
 ghost use Rattle.diagram_ops.specs.private.ShortCuts.{IsShortCut};
@@ -15,7 +15,7 @@ use crate::copying::copy_out;
 use crate::loading::load;
 use crate::scratch::Scratch;
 use bumpalo::Bump;
-use diagram_store::{Diagram, independent_variables};
+use diagram_store::{Branch, Diagram, independent_variables};
 use std::alloc::Global;
 use triple_tables::TripleTable;
 use wpds_base::OutOfMemory;
@@ -77,14 +77,16 @@ fn compose(
     if x == 0 || y == 0 {
         return Ok(0);
     }
-    let Some(place) = lowest(scratch, x, y) else {
+    let first = scratch.node(x);
+    let second = scratch.node(y);
+    let Some(place) = lowest(first, second) else {
         return Ok(1);
     };
     if let Some(result) = results.get(x, y, 0) {
         return Ok(result);
     }
-    let xs = branches(scratch, Operand::First, place, x);
-    let ys = branches(scratch, Operand::Second, place, y);
+    let xs = branches(Operand::First, place, x, first);
+    let ys = branches(Operand::Second, place, y, second);
     let low = compose(scratch, results, joins, xs.0, ys.0)?;
     let high = compose(scratch, results, joins, xs.1, ys.1)?;
     let result = join(scratch, joins, place, low, high)?;
@@ -137,28 +139,27 @@ fn known_or(low: u64, high: u64) -> Option<u64>
     None
 }
 
-// The lowest place of two references, if one of them is a node.
-fn lowest(scratch: &Scratch, x: u64, y: u64) -> Option<u64>
-    ensures lowest { result ≡ lower (place (composing.position First) scratch.now x)
-        (place (composing.position Second) scratch.now y) }
+// The lowest place of what two references name, if one of them is a node.
+fn lowest(first: Option<Branch>, second: Option<Branch>) -> Option<u64>
+    ensures lowest { result ≡ lower (place_in (composing.position First) first)
+        (place_in (composing.position Second) second) }
     ensures of_variable { IfSome result (λ p. p / 2 < 2 ^ 32) }
-    ensures reduced { IsReduced scratch.now }
 {
-    let first = place_of(scratch, Operand::First, x);
-    let second = place_of(scratch, Operand::Second, y);
-    match (first, second) {
+    match (
+        place_of(Operand::First, first),
+        place_of(Operand::Second, second),
+    ) {
         (Some(v), Some(w)) => Some(v.min(w)),
         (Some(v), None) => Some(v),
         (None, w) => w,
     }
 }
 
-fn place_of(scratch: &Scratch, operand: Operand, reference: u64) -> Option<u64>
-    ensures place { result ≡ place (composing.position operand) scratch.now reference }
+fn place_of(operand: Operand, found: Option<Branch>) -> Option<u64>
+    ensures place { result ≡ place_in (composing.position operand) found }
     ensures of_variable { IfSome result (λ p. p / 2 < 2 ^ 32) }
-    ensures reduced { IsReduced scratch.now }
 {
-    match scratch.node(reference) {
+    match found {
         Some(node) => Some(position(operand, node.var)),
         None => None,
     }
@@ -176,14 +177,14 @@ fn position(operand: Operand, var: u32) -> u64
     }
 }
 
-// Where the walk goes on from a reference where the bit at a place is false, and where it is true.
-fn branches(scratch: &Scratch, operand: Operand, place: u64, reference: u64) -> (u64, u64)
+// Where the walk goes on from a reference, by what it names, where the bit at a place is false, and where it is true.
+fn branches(operand: Operand, place: u64, reference: u64, found: Option<Branch>) -> (u64, u64)
     ensures low { result.0
-        ≡ cofactor_at (composing.position operand) scratch.now place false reference }
+        ≡ cofactor_of (composing.position operand) place false reference found }
     ensures high { result.1
-        ≡ cofactor_at (composing.position operand) scratch.now place true reference }
+        ≡ cofactor_of (composing.position operand) place true reference found }
 {
-    match scratch.node(reference) {
+    match found {
         Some(node) if position(operand, node.var) == place => (node.low, node.high),
         _ => (reference, reference),
     }

@@ -16,9 +16,13 @@ lower None b = b
 lower (Some v) None = Some v
 lower (Some v) (Some w) = if nat_le v w then Some v else Some w
 
+-- the place of a node's variable in an order, if there is a node
+abbrev pub place_in : (ℕ → ℕ) → Option Branch → Option ℕ
+place_in order found = option_map (λ n. order n.var) found
+
 -- the place of a reference's variable in an order, if it is a node
 abbrev pub place : (ℕ → ℕ) → List Branch → ℕ → Option ℕ
-place order nodes r = option_map (λ n. order n.var) (node_at nodes r)
+place order nodes r = place_in order (node_at nodes r)
 
 abbrev pub cofactor_of : (ℕ → ℕ) → ℕ → Bool → ℕ → Option Branch → ℕ
 cofactor_of order p b r None = r
