@@ -3,6 +3,7 @@ ghost use Rattle.diagram_store.specs.Diagrams.{IsOver};
 ghost use Rattle.relation_laws.specs.Relations.{Pairs, relation_of, no_pairs};
 ghost use Rattle.relation_weights.specs.private.Diagrams.{HasPairs};
 
+use crate::results::mixed;
 use diagram_store::Diagram;
 use std::alloc::Global;
 use std::marker::Model;
@@ -16,6 +17,8 @@ use wpds_base::OutOfMemory;
 #[derive(Drop)]
 pub struct Relation {
     diagram: Arc<Diagram>,
+    // A number that tells most relations apart, for the table of kept results.
+    mark: u64,
 }
 
 impl Model for Relation {
@@ -36,8 +39,9 @@ impl Relation {
         ensures { IfOk result (λ r. (n : ℕ) (a : Pairs) → IsOver (2 * n) diagram
             → HasPairs diagram a → r ≡ relation_of n a) }
     {
+        let mark = mark_of(&diagram);
         let diagram = Arc::new(alloc, diagram)?;
-        Ok(Relation { diagram })
+        Ok(Relation { diagram, mark })
     }
 
     /// The diagram.
@@ -67,6 +71,26 @@ impl Relation {
         ensures { IfOk result (λ r. r ≡ self.now) }
     {
         let diagram = self.diagram.clone()?;
-        Ok(Relation { diagram })
+        Ok(Relation {
+            diagram,
+            mark: self.mark,
+        })
     }
+
+    /// A number that is the same for equal relations, and tells most others apart.
+    pub(crate) fn mark(&self) -> u64 {
+        self.mark
+    }
+}
+
+// A number that tells most diagrams apart: a sum of products, and its upper half folded (Knuth 1998, section 6.4).
+fn mark_of(diagram: &Diagram) -> u64 {
+    let mut mark = diagram.root;
+    for node in diagram.nodes() {
+        let low = node.low.wrapping_mul(0xBF58_476D_1CE4_E5B9);
+        let high = node.high.wrapping_mul(0x94D0_49BB_1331_11EB);
+        let branches = low.wrapping_add(high).wrapping_add(u64::from(node.var));
+        mark = mixed(mark, branches);
+    }
+    mark ^ (mark / 0x1_0000_0000)
 }

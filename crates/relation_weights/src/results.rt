@@ -118,7 +118,7 @@ impl Results {
     ) -> Result<Option<Relation>, OutOfMemory>
         ensures { IfOk result (λ r. IfSome r (λ w. w ≡ after_of n (Slots slots.now) of.now)) }
     {
-        let mark = mark_of(of);
+        let mark = of.mark();
         for turn in 0..TRIES {
             match at(&self.returns, mark.wrapping_add(turn)) {
                 Some(kept) if kept.is_of(n, slots, of) => return Ok(Some(kept.result.share()?)),
@@ -139,7 +139,7 @@ impl Results {
     /// Keeps what was returned of a relation, where there is room for their nodes, a place and memory.
     pub(crate) fn keep_return(&self, alloc: Global, made: OfReturn) {
         if self.takes(&[&made.of, &made.result]) {
-            let mark = mark_of(&made.of);
+            let mark = made.of.mark();
             keep(alloc, &self.returns, mark, made);
         }
     }
@@ -198,26 +198,14 @@ fn place_of(mark: u64, count: usize) -> usize {
 // A number that tells most operands apart.
 fn mark_of_pair(step: Step, a: &Relation, b: &Relation) -> u64 {
     let first = match step {
-        Step::Union => mixed(mark_of(a), 1),
-        Step::Composition => mixed(mark_of(a), 2),
+        Step::Union => mixed(a.mark(), 1),
+        Step::Composition => mixed(a.mark(), 2),
     };
-    let both = mixed(first, mark_of(b));
+    let both = mixed(first, b.mark());
     both ^ (both / 0x1_0000_0000)
 }
 
-// A number that tells most relations apart: a sum of products, and its upper half folded (Knuth 1998, section 6.4).
-fn mark_of(w: &Relation) -> u64 {
-    let mut mark = w.diagram().root;
-    for node in w.diagram().nodes() {
-        let low = node.low.wrapping_mul(0xBF58_476D_1CE4_E5B9);
-        let high = node.high.wrapping_mul(0x94D0_49BB_1331_11EB);
-        let branches = low.wrapping_add(high).wrapping_add(u64::from(node.var));
-        mark = mixed(mark, branches);
-    }
-    mark ^ (mark / 0x1_0000_0000)
-}
-
 // Two numbers mixed by a multiplication.
-fn mixed(one: u64, other: u64) -> u64 {
+pub(crate) fn mixed(one: u64, other: u64) -> u64 {
     (one ^ other).wrapping_mul(0x9E37_79B9_7F4A_7C15)
 }
