@@ -47,12 +47,12 @@ fn apply_in_arena(
     // the law that gives the variables of the result
     independent_variables();
     let arena = Bump::new(alloc);
-    // twice the nodes of the largest operand: for them, and for those of a result of that size
-    let room = 2 * a.nodes().len().max(b.nodes().len()).max(c.nodes().len());
-    let mut scratch = Scratch::of_nodes(alloc, &arena, room, a.nodes())?;
+    // twice the nodes of the operands: for them, and for a result as large as all of them
+    let count = a.nodes().len() + b.nodes().len() + c.nodes().len();
+    let mut scratch = Scratch::of_nodes(alloc, &arena, 2 * count, a.nodes())?;
     let y = load(alloc, &mut scratch, b)?;
     let z = load(alloc, &mut scratch, c)?;
-    let mut results = TripleTable::with_room(alloc, room)?;
+    let mut results = TripleTable::with_room(alloc, count)?;
     let root = apply(&mut scratch, &mut results, table, a.root, y, z)?;
     let made = copy_out(alloc, &scratch, root)?;
     Ok(made)

@@ -40,8 +40,8 @@ pub fn compose_relations(
     // the law that gives the variables of the result
     independent_variables();
     let arena = Bump::new(alloc);
-    // twice the nodes of the larger operand: for both, and for those of a result of that size
-    let room = 2 * a.nodes().len().max(b.nodes().len());
+    // twice the nodes of the operands: for them, and for a result as large as both
+    let room = 2 * (a.nodes().len() + b.nodes().len());
     let mut scratch = Scratch::of_nodes(alloc, &arena, room, a.nodes())?;
     let y = load(alloc, &mut scratch, b)?;
     let mut results = TripleTable::with_room(alloc, room)?;
