@@ -54,7 +54,7 @@ fn apply_in_arena(
     let z = load(alloc, &mut scratch, c)?;
     let mut results = TripleTable::with_room(alloc, count)?;
     let root = apply(&mut scratch, &mut results, table, a.root, y, z)?;
-    let made = copy_out(alloc, &scratch, root)?;
+    let made = copy_out(alloc, &arena, &scratch, root)?;
     Ok(made)
 }
 

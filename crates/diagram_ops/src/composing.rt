@@ -47,7 +47,7 @@ pub fn compose_relations(
     let mut results = TripleTable::with_room(alloc, room)?;
     let mut joins = TripleTable::new(alloc);
     let root = compose(&mut scratch, &mut results, &mut joins, a.root, y)?;
-    let made = copy_out(alloc, &scratch, root)?;
+    let made = copy_out(alloc, &arena, &scratch, root)?;
     Ok(made)
 }
 

@@ -6,32 +6,37 @@ ghost use Rattle.diagram_ops.specs.private.Places.{placed};
 
 use crate::places::Places;
 use crate::scratch::Scratch;
-use diagram_store::{Branch, BranchList, Diagram, one_reference};
+use bumpalo::Bump;
+use diagram_store::{Branch, Diagram, one_reference};
 use std::alloc::Global;
 use wpds_base::OutOfMemory;
 
-// Nodes in canonical order, and the place of each scratch reference that has one.
+// Nodes in canonical order, in an arena, and the place of each scratch reference that has one.
 #[derive(Drop)]
-struct Copy {
-    nodes: Vec<Branch>,
+struct Copy<'a> {
+    nodes: Vec<Branch, &'a Bump>,
     places: Places,
 }
 
-/// The diagram with the meaning of a scratch reference.
-pub(crate) fn copy_out(alloc: Global, scratch: &Scratch, root: u64) -> Result<Diagram, OutOfMemory>
+/// The diagram with the meaning of a scratch reference. Its nodes are gathered in the arena, and take no more room than they
+/// need in the diagram.
+pub(crate) fn copy_out(
+    alloc: Global,
+    arena: &Bump,
+    scratch: &Scratch,
+    root: u64,
+) -> Result<Diagram, OutOfMemory>
     requires { root < length scratch.now + 2 }
     ensures { IfOk result (λ d. (bits : ℕ → Bool) → meaning d bits
         ≡ value_at scratch.now root bits) }
 {
     let mut copy = Copy {
-        nodes: Vec::new(alloc),
+        nodes: Vec::new(arena),
         places: Places::new(alloc, scratch.references())?,
     };
     let place = copy_from(scratch, &mut copy, root)?;
-    Ok(Diagram {
-        root: place,
-        nodes: BranchList::from_vec(copy.nodes),
-    })
+    let made = Diagram::of_nodes(alloc, &copy.nodes, place)?;
+    Ok(made)
 }
 
 // Copies what a reference reaches, low first, and returns its place.

@@ -31,7 +31,7 @@ pub fn exists(alloc: Global, a: &Diagram, vars: &[u32]) -> Result<Diagram, OutOf
     let arena = Bump::new(alloc);
     let mut scratch = Scratch::new(alloc, &arena);
     let root = load_quantified(alloc, &mut scratch, a, vars)?;
-    let made = copy_out(alloc, &scratch, root)?;
+    let made = copy_out(alloc, &arena, &scratch, root)?;
     Ok(made)
 }
 

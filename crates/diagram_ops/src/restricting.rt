@@ -24,7 +24,7 @@ pub fn restrict(alloc: Global, a: &Diagram, var: u32, value: bool) -> Result<Dia
     let arena = Bump::new(alloc);
     let mut scratch = Scratch::new(alloc, &arena);
     let root = load_restricted(alloc, &mut scratch, a, var, value)?;
-    let made = copy_out(alloc, &scratch, root)?;
+    let made = copy_out(alloc, &arena, &scratch, root)?;
     Ok(made)
 }
 

@@ -9,14 +9,15 @@ use Rattle.diagram_ops.proofs.copying.copy_out.Goals as goal
 pub copy_from-requires-clause-copy : goal.copy_from-requires-clause-copy
 copy_from-requires-clause-copy c = copy_empty c.args.scratch.now (placed c.in_ok-new.field-0) c.new.result.items c.in_ok-new.ensures.none c.new.ensures.items
 
-pub invariant_of-result : goal.invariant_of-result
-invariant_of-result c = record {
-  is_canonical =
-      let P : List Branch → Type 0 = λ l. IsCanonical c.in_ok-place.place l in
-      subst P (sym c.from_vec.ensures)
-      (copy_canonical c.args.scratch.now (placed c.in_ok-new.field-0) (placed c.copy_from.new.copy.places) c.new.result.items c.copy_from.new.copy.nodes.items c.args.root c.in_ok-place.place
-      c.new.ensures.items c.in_ok-place.ensures.copies);
-}
+pub of_nodes-requires : goal.of_nodes-requires
+of_nodes-requires c =
+    let P : List Branch → Type 0 = λ l. IsCanonical c.in_ok-place.place l in
+    subst P (sym c.deref.ensures.value)
+    (copy_canonical c.args.scratch.now (placed c.in_ok-new.field-0) (placed c.copy_from.new.copy.places) c.new.result.items c.copy_from.new.copy.nodes.items c.args.root c.in_ok-place.place
+    c.new.ensures.items c.in_ok-place.ensures.copies)
 
 pub returns : goal.returns
-returns c = λ bits. ap (λ l. value_at l c.in_ok-place.place bits) c.from_vec.ensures ∙ c.in_ok-place.ensures.copies.copied.means bits
+returns c = λ bits.
+    ap (λ r. value_at c.in_ok-made.made.nodes r bits) c.in_ok-made.ensures.root
+    ∙ ap (λ l. value_at l c.in_ok-place.place bits) (c.in_ok-made.ensures.nodes ∙ c.deref.ensures.value)
+    ∙ c.in_ok-place.ensures.copies.copied.means bits
