@@ -27,11 +27,7 @@ pub fn saturate_alone<'s, S: Semiring, D: Direction<S>, G: Gate>(
     book.system();
     'turns: while !book.is_closed() {
         gate.between(0);
-        // a match, since `?` moves the whole book once more
-        book = match book.turn_alone(alloc, 0) {
-            Ok(next) => next,
-            Err(OutOfMemory) => return Err(OutOfMemory),
-        };
+        book = book.turn_alone(alloc, 0)?;
     }
     Ok(book)
 }
