@@ -59,13 +59,14 @@ fn mark_in(text: &[u8]) -> Option<Mark>
     }
 }
 
+// How long the name is that the text begins with. Most bytes of names are small letters, for which one test is enough.
 fn name_len(text: &[u8]) -> usize
     ensures within { result ≤ length text.now }
     ensures bytes { take result text.now ≡ bytes_while goes_on_name text.now }
 {
     let mut n = 0;
     for b in text {
-        if !name_goes_on(*b) {
+        if !b.is_ascii_lowercase() && !name_goes_on(*b) {
             return n;
         }
         n += 1;
