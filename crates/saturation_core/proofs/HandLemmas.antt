@@ -9,6 +9,7 @@ use Rattle.std.specs.Int.{bit_at}
 use Rattle.std.proofs.lemmas.Nat.Bits.{bit_at_lowest, bit_at-suc, bit_at-zero}
 use Rattle.weighted_automata.specs.declared.place.Place.{Place}
 use Rattle.weighted_automata.specs.declared.transitions.Entry.{Entry}
+use Rattle.witness_graph.specs.declared.node.Node.{Node}
 use Rattle.saturation_laws.specs.declared.event.Event.{Event}
 use Rattle.saturation_laws.specs.declared.holding.Holding.{Holding}
 use Rattle.saturation_laws.specs.Books.{BookValue}
@@ -112,9 +113,9 @@ module _ {S W Map : Type 0} where
   pub seat_read : (hs : List (Option (Holding S W Map))) (k : ℕ) (x : Place) → option_map (λ h. h.place) (hand_at k hs) ≡ Some x → k < length hs
   seat_read hs k x e = let h = hand_of (hand_at k hs) x e in seat_within hs k h.0 h.1
 
--- a book with these transitions, this queue, these hands and this journal
-abbrev pub moved : {S W Map D : Type 0} → BookValue S W Map D → List (Entry S W Map) → List Place → List (Option (Holding S W Map)) → List Event → BookValue S W Map D
-moved b ts queue hands journal = record b { state = record { transitions = ts; nodes = b.state.nodes; queue = queue; hands = hands }; journal = journal }
+-- a book with these transitions, nodes, queue, hands and journal
+abbrev pub moved : {S W Map D : Type 0} → BookValue S W Map D → List (Entry S W Map) → List Node → List Place → List (Option (Holding S W Map)) → List Event → BookValue S W Map D
+moved b ts ns queue hands journal = record b { state = record { transitions = ts; nodes = ns; queue = queue; hands = hands }; journal = journal }
 
 -- a queue with a front: what is taken is that, and the rest is left
 pub popped : {X Y : Type 0} (f : Y → X) (o : Option Y) (old new : List X) (x : X) (P : Type 0) → old ≡ x ∷ drop 1 old

@@ -10,11 +10,11 @@ book_view b = record {
   system = b.system.now;
   direction = b.direction;
   opening = b.opening;
-  state = record { transitions = b.found.transitions.transitions; nodes = b.found.graph.nodes; queue = b.found.transitions.queue; hands = b.out.items };
-  journal = events_at b.found.transitions.transitions b.journal.events;
+  state = record { transitions = b.found.value.transitions.transitions; nodes = b.found.value.graph.nodes; queue = b.found.value.transitions.queue; hands = b.out.items };
+  journal = events_at b.found.value.transitions.transitions b.journal.events;
 }
 
 -- Each hand that is out can be given back without memory.
 pub record HasRoom {S D W Map : Type 0} (b : Inside S D W Map) : Type 0 where
   pub journal : hands_out b.out.items ≤ b.journal.spare
-  pub queue : hands_out b.out.items ≤ b.found.transitions.spare
+  pub queue : hands_out b.out.items ≤ b.found.value.transitions.spare

@@ -30,7 +30,8 @@ pub struct Book<'s, S: Semiring, D: Direction<S>> {
     system: &'s System<S>,
     direction: D,
     opening: Opening,
-    found: Found<S>,
+    // in a box, so that a book is small where it is handed on by value
+    found: Box<Found<S>>,
     out: Vec<Option<Holding<S>>>,
     journal: Journal,
     // kept from one turn to the next for its memory alone
@@ -49,8 +50,8 @@ impl<'s, S: Semiring, D: Direction<S>> Model for Book<'s, S, D> {
     ghost view = { book_view };
 
     ghost invariant = { λ b. IsBook S.operations D.way (book_view b) × HasRoom b
-        × (b.found.graph.side ≡ (D.way.tables b.direction b.system.now).side)
-        × AreThere b.found.transitions.transitions b.journal.events };
+        × (b.found.value.graph.side ≡ (D.way.tables b.direction b.system.now).side)
+        × AreThere b.found.value.transitions.transitions b.journal.events };
 }
 
 impl<'s, S: Semiring, D: Direction<S>> Book<'s, S, D> {
@@ -72,10 +73,11 @@ impl<'s, S: Semiring, D: Direction<S>> Book<'s, S, D> {
         }) }
     {
         let side = direction.side();
-        let mut found = Found::new(alloc, side)?;
+        let mut begun = Found::new(alloc, side)?;
         let edges = opening.edges.as_slice();
-        found.add_edges(alloc, system.semiring(), edges)?;
-        found.add_pops_of(alloc, side, system)?;
+        begun.add_edges(alloc, system.semiring(), edges)?;
+        begun.add_pops_of(alloc, side, system)?;
+        let found = Box::new(alloc, begun)?;
         Ok(Book {
             system,
             direction,
@@ -178,12 +180,12 @@ impl<'s, S: Semiring, D: Direction<S>> Book<'s, S, D> {
         ensures works { IfOk result (λ t. HandWorks S.operations D.way self.old t) }
         ensures err { OnErr result (self.new ≡ self.old) }
     {
-        match self.found.transitions.front() {
+        let transitions = &self.found.transitions;
+        match transitions.front() {
             None if none_out(&self.out) => Ok(Taken::Closed),
             None => Ok(Taken::Idle(seats_out(&self.out))),
             Some(next) => {
                 let (direction, system) = (&self.direction, self.system);
-                let transitions = &self.found.transitions;
                 let listed = list_jobs(alloc, direction, system, transitions, next)?;
                 let jobs = SharedJobs::new(alloc, listed)?;
                 let kept = jobs.share()?;
@@ -211,13 +213,15 @@ impl<'s, S: Semiring, D: Direction<S>> Book<'s, S, D> {
     {
         let mut book = self;
         let (system, direction) = (book.system, book.direction);
-        let Some(next) = book.found.transitions.pop() else {
+        let mut kept = book.found;
+        let found = &mut *kept;
+        let Some(next) = found.transitions.pop() else {
             unreachable!()
         };
         book.journal.take(seat, next.number)?;
         let mut changes = book.changes;
-        book.found
-            .apply_place(alloc, &direction, system, next, &mut changes)?;
+        found.apply_place(alloc, &direction, system, next, &mut changes)?;
+        book.found = kept;
         book.changes = changes;
         book.journal.settle(seat);
         Ok(book)
@@ -278,9 +282,10 @@ impl<'s, S: Semiring, D: Direction<S>> Book<'s, S, D> {
         let semiring = self.system.semiring();
         let (jobs, worths) = (done.jobs().as_slice(), done.candidates().as_slice());
         let plan = plan_jobs(alloc, semiring, &self.found, jobs, worths)?;
-        self.found.make_room(alloc, &plan)?;
+        let found = &mut *self.found;
+        found.make_room(alloc, &plan)?;
         let count = plan.len() as u64;
-        self.found.lower_all(alloc, plan);
+        found.lower_all(alloc, plan);
         self.journal.settle(seat);
         put(&mut self.out, seat as usize, None);
         Ok(Lowered { count })

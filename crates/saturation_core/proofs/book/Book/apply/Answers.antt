@@ -4,8 +4,9 @@ use Rattle.semiring_laws.specs.Semiring.{Fits}
 use Rattle.saturation_laws.specs.declared.event.Event.TheVariants.{Settle}
 use Rattle.saturation_laws.specs.Books.{BookValue, Makes, IsBook}
 use Rattle.saturation_core.specs.Seats.{hands_out}
-use Rattle.saturation_core.specs.private.Plans.{changes_with, AreNodesFrom}
-use Rattle.saturation_core.specs.private.Steps.{with_hands, IsKept}
+use Rattle.saturation_core.specs.declared.found.Found.{Found}
+use Rattle.saturation_core.specs.private.Plans.{changes_with, AreNodesFrom, plan_of}
+use Rattle.saturation_core.specs.private.Steps.{with_hands, Becomes, IsKept}
 use Rattle.saturation_core.specs.BookView.{book_view}
 use Rattle.saturation_laws.proofs.CallerLemmas.{event_keeps}
 use Rattle.saturation_core.proofs.HandLemmas.{hands_out-seats}
@@ -31,38 +32,42 @@ plan_jobs-requires-clause-len g c =
 
 pub plan_jobs-requires-clause-kept : goal.plan_jobs-requires-clause-kept
 plan_jobs-requires-clause-kept g c =
-    subst (λ z. IsKept (g.S.Semiring.operations z) c.self.inside.found) (sym c.semiring-semiring.ensures.value)
-    (book_keeps g.S.Semiring.operations g.S.Semiring.laws g.D.Direction.way g.met.D.Direction.laws (book_view c.self.inside) c.self.invariant.0)
+    subst (λ (f : Found _ _ _). IsKept (g.S.Semiring.operations c.semiring-semiring.result.now) f) (sym c.deref.ensures)
+    (subst (λ z. IsKept (g.S.Semiring.operations z) c.self.inside.found.value) (sym c.semiring-semiring.ensures.value)
+    (book_keeps g.S.Semiring.operations g.S.Semiring.laws g.D.Direction.way g.met.D.Direction.laws (book_view c.self.inside) c.self.invariant.0))
 
 -- room alone is no change of the book
 pub invariant_of-self : goal.invariant_of-self
 invariant_of-self g c =
     let b = book_view c.self.inside in
-    let same = c.make_room.ensures.state c.self.inside.out.items in (
+    let same = c.make_room.ensures.state c.self.inside.out.items ∙ ap (λ (f : Found _ _ _). with_hands f c.self.inside.out.items) c.deref_mut-found.ensures.value in
+    let spare = ap (λ (f : Found _ _ _). f.transitions.spare) c.deref_mut-found.ensures.value in (
       subst (λ st. IsBook g.S.Semiring.operations g.D.Direction.way (record b { state = st; journal = events_at st.transitions c.self.inside.journal.events })) (sym same) c.self.invariant.0,
       record {
         journal = c.self.invariant.1.journal;
-        queue = omega (arith, c.self.invariant.1.queue, c.make_room.ensures.kept);
+        queue = omega (arith, spare, c.self.invariant.1.queue, c.make_room.ensures.kept);
       },
-      c.make_room.ensures.side ∙ c.self.invariant.2,
+      c.make_room.ensures.side ∙ ap (λ (f : Found _ _ _). f.graph.side) c.deref_mut-found.ensures.value ∙ c.self.invariant.2,
       subst (λ st. AreThere st.transitions c.self.inside.journal.events) (sym same) c.self.invariant.3,
     )
 
 pub returns-in_err-make_room-clause-err : goal.returns-in_err-make_room-clause-err
 returns-in_err-make_room-clause-err g c =
     let b = book_view c.self.inside in
-    on_refusal c.from_residual-in_err-make_room.result (ap (λ st. record b { state = st; journal = events_at st.transitions c.self.inside.journal.events }) (c.make_room.ensures.state c.self.inside.out.items) ∙ c.self.view_is)
+    on_refusal c.from_residual-in_err-make_room.result (ap (λ st. record b { state = st; journal = events_at st.transitions c.self.inside.journal.events }) (c.make_room.ensures.state c.self.inside.out.items ∙ ap (λ (f : Found _ _ _). with_hands f c.self.inside.out.items) c.deref_mut-found.ensures.value) ∙ c.self.view_is)
 
 pub lower_all-requires-clause-nodes : goal.lower_all-requires-clause-nodes
 lower_all-requires-clause-nodes g c =
     let r = ready g.S.Semiring.operations g.D.Direction.way g.met.D.Direction.same_candidate (book_view c.self.inside) c.args.self.now c.self.view_is c.args.done.now c.requires c.candidates.ensures.worked
     c.seat-seat.result c.as_slice-jobs.result.now c.as_slice-worths.result.now c.seat-seat.ensures (c.as_slice-jobs.ensures ∙ c.jobs.ensures.value) (c.as_slice-worths.ensures ∙ c.candidates.ensures.value) in
-    let planned = planned_is g.S.Semiring.operations g.D.Direction.way c.self.inside.system.now.semiring c.semiring-semiring.result.now (changes_with c.as_slice-jobs.result.now c.as_slice-worths.result.now) (length c.self.inside.found.graph.nodes)
-    c.self.inside.found.transitions.transitions c.in_ok-plan.plan c.in_ok-plan.ensures c.semiring-semiring.ensures.value in
-    subst (λ ns. AreNodesFrom (length ns) c.in_ok-plan.plan) (sym (ap (λ st. st.nodes) (c.make_room.ensures.state [])))
+    let planned = planned_is g.S.Semiring.operations g.D.Direction.way c.self.inside.system.now.semiring c.semiring-semiring.result.now (changes_with c.as_slice-jobs.result.now c.as_slice-worths.result.now) (length c.self.inside.found.value.graph.nodes)
+    c.self.inside.found.value.transitions.transitions c.in_ok-plan.plan
+    (c.in_ok-plan.ensures ∙ ap (λ (f : Found _ _ _). plan_of (g.S.Semiring.operations c.semiring-semiring.result.now) (changes_with c.as_slice-jobs.result.now c.as_slice-worths.result.now) (length f.graph.nodes) f.transitions.transitions) c.deref.ensures)
+    c.semiring-semiring.ensures.value in
+    subst (λ ns. AreNodesFrom (length ns) c.in_ok-plan.plan) (sym (ap (λ st. st.nodes) (c.make_room.ensures.state []) ∙ ap (λ (f : Found _ _ _). f.graph.nodes) c.deref_mut-found.ensures.value))
     (nodes_next g.S.Semiring.operations g.S.Semiring.laws g.D.Direction.way g.met.D.Direction.laws
     (book_view c.self.inside) c.self.invariant.0 c.seat-seat.result c.as_slice-jobs.result.now r.out c.as_slice-worths.result.now r.worths
-    (length c.self.inside.found.graph.nodes) c.in_ok-plan.plan refl planned)
+    (length c.self.inside.found.value.graph.nodes) c.in_ok-plan.plan refl planned)
 
 pub settle-requires-clause-seat : goal.settle-requires-clause-seat
 settle-requires-clause-seat g c =
@@ -77,6 +82,10 @@ settle-requires-clause-room g c =
     c.seat-seat.result c.as_slice-jobs.result.now c.as_slice-worths.result.now c.seat-seat.ensures (c.as_slice-jobs.ensures ∙ c.jobs.ensures.value) (c.as_slice-worths.ensures ∙ c.candidates.ensures.value) in
     omega (arith, one_out c.self.inside.out.items c.seat-seat.result c.as_slice-jobs.result.now r.out, c.self.invariant.1.journal)
 
+-- room alone changes nothing that was found
+roomy : (g : _) (c : goal.After-put g) → Becomes c.self.inside.found.value (λ st. st) c.make_room.new.self
+roomy g c = λ hands. c.make_room.ensures.state hands ∙ ap (λ (f : Found _ _ _). with_hands f hands) c.deref_mut-found.ensures.value
+
 made : (g : _) (c : goal.After-put g) → Makes g.S.Semiring.operations g.D.Direction.way (book_view c.self.inside) (Settle c.seat-seat.result)
     (record (book_view c.self.inside) {
       state = with_hands c.lower_all.new.self c.put.new.out.items;
@@ -85,16 +94,18 @@ made : (g : _) (c : goal.After-put g) → Makes g.S.Semiring.operations g.D.Dire
 made g c =
     let r = ready g.S.Semiring.operations g.D.Direction.way g.met.D.Direction.same_candidate (book_view c.self.inside) c.args.self.now c.self.view_is c.args.done.now c.requires c.candidates.ensures.worked
     c.seat-seat.result c.as_slice-jobs.result.now c.as_slice-worths.result.now c.seat-seat.ensures (c.as_slice-jobs.ensures ∙ c.jobs.ensures.value) (c.as_slice-worths.ensures ∙ c.candidates.ensures.value) in
-    let planned = planned_is g.S.Semiring.operations g.D.Direction.way c.self.inside.system.now.semiring c.semiring-semiring.result.now (changes_with c.as_slice-jobs.result.now c.as_slice-worths.result.now) (length c.self.inside.found.graph.nodes)
-    c.self.inside.found.transitions.transitions c.in_ok-plan.plan c.in_ok-plan.ensures c.semiring-semiring.ensures.value in
+    let planned = planned_is g.S.Semiring.operations g.D.Direction.way c.self.inside.system.now.semiring c.semiring-semiring.result.now (changes_with c.as_slice-jobs.result.now c.as_slice-worths.result.now) (length c.self.inside.found.value.graph.nodes)
+    c.self.inside.found.value.transitions.transitions c.in_ok-plan.plan
+    (c.in_ok-plan.ensures ∙ ap (λ (f : Found _ _ _). plan_of (g.S.Semiring.operations c.semiring-semiring.result.now) (changes_with c.as_slice-jobs.result.now c.as_slice-worths.result.now) (length f.graph.nodes) f.transitions.transitions) c.deref.ensures)
+    c.semiring-semiring.ensures.value in
     let b = book_view c.self.inside in
-    settled g.S.Semiring.operations g.D.Direction.way b c.seat-seat.result c.as_slice-jobs.result.now c.as_slice-worths.result.now (length c.self.inside.found.graph.nodes) c.in_ok-plan.plan
+    settled g.S.Semiring.operations g.D.Direction.way b c.seat-seat.result c.as_slice-jobs.result.now c.as_slice-worths.result.now (length c.self.inside.found.value.graph.nodes) c.in_ok-plan.plan
     r.out r.worths refl planned
     c.lower_all.new.self c.put.new.out.items (events_at c.lower_all.new.self.transitions.transitions c.settle.new.self.events)
-    (put_on c.in_ok-plan.plan c.self.inside.found c.make_room.new.self c.lower_all.new.self c.make_room.ensures.state c.lower_all.ensures.state c.self.inside.out.items)
+    (put_on c.in_ok-plan.plan c.self.inside.found.value c.make_room.new.self c.lower_all.new.self (roomy g c) c.lower_all.ensures.state c.self.inside.out.items)
     c.put.ensures
     (settle_then c.lower_all.new.self.transitions.transitions c.self.inside.journal.events c.settle.new.self.events c.seat-seat.result c.settle.ensures.events
-    ∙ ap (λ es. es ++ Settle c.seat-seat.result ∷ []) (events_stay c.self.inside.found.transitions.transitions c.lower_all.new.self.transitions.transitions (put_grows_to c.in_ok-plan.plan c.self.inside.found c.make_room.new.self c.lower_all.new.self c.make_room.ensures.state c.lower_all.ensures.state) c.self.inside.journal.events c.self.invariant.3))
+    ∙ ap (λ es. es ++ Settle c.seat-seat.result ∷ []) (events_stay c.self.inside.found.value.transitions.transitions c.lower_all.new.self.transitions.transitions (put_grows_to c.in_ok-plan.plan c.self.inside.found.value c.make_room.new.self c.lower_all.new.self (roomy g c) c.lower_all.ensures.state) c.self.inside.journal.events c.self.invariant.3))
 
 pub invariant_of-self-2 : goal.invariant_of-self-2
 invariant_of-self-2 g c =
@@ -110,9 +121,9 @@ invariant_of-self-2 g c =
         journal = omega (arith, one, now, c.self.invariant.1.journal, c.settle.ensures.spare);
         queue = omega (arith, few, seats, c.in_ok-make_room.ensures.queue, c.lower_all.ensures.queue);
       },
-      c.lower_all.ensures.side ∙ c.make_room.ensures.side ∙ c.self.invariant.2,
+      c.lower_all.ensures.side ∙ c.make_room.ensures.side ∙ ap (λ (f : Found _ _ _). f.graph.side) c.deref_mut-found.ensures.value ∙ c.self.invariant.2,
       settle_there c.lower_all.new.self.transitions.transitions c.self.inside.journal.events c.settle.new.self.events c.seat-seat.result c.settle.ensures.events
-          (there_stay c.self.inside.found.transitions.transitions c.lower_all.new.self.transitions.transitions (put_grows_to c.in_ok-plan.plan c.self.inside.found c.make_room.new.self c.lower_all.new.self c.make_room.ensures.state c.lower_all.ensures.state) c.self.inside.journal.events c.self.invariant.3),
+          (there_stay c.self.inside.found.value.transitions.transitions c.lower_all.new.self.transitions.transitions (put_grows_to c.in_ok-plan.plan c.self.inside.found.value c.make_room.new.self c.lower_all.new.self (roomy g c) c.lower_all.ensures.state) c.self.inside.journal.events c.self.invariant.3),
     )
 
 pub returns-clause-settled : goal.returns-clause-settled
@@ -129,5 +140,5 @@ returns-clause-count g c =
     let b = book_view c.self.inside in
     let was : length c.args.self.now.state.nodes ≡ length b.state.nodes = ap (λ v. length v.state.nodes) (sym c.self.view_is) in
     let all = settled_nodes g.S.Semiring.operations g.D.Direction.way b c.in_ok-plan.plan c.lower_all.new.self
-    (put_on c.in_ok-plan.plan c.self.inside.found c.make_room.new.self c.lower_all.new.self c.make_room.ensures.state c.lower_all.ensures.state c.self.inside.out.items) in
+    (put_on c.in_ok-plan.plan c.self.inside.found.value c.make_room.new.self c.lower_all.new.self (roomy g c) c.lower_all.ensures.state c.self.inside.out.items) in
     omega (arith, was, all)

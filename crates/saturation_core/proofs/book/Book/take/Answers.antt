@@ -1,10 +1,15 @@
-use Rattle.std.proofs.Common.{◌≡◌, ◌<◌, ◌≤◌, ◌+◌, sym, ap, ◌∙◌, subst, length, List, arith}
-use Rattle.weighted_automata.specs.Entries.{entry_at}
+use Rattle.std.proofs.Common.{◌≡◌, ◌<◌, ◌≤◌, ◌+◌, [], ◌∷◌, sym, ap, ◌∙◌, subst, length, drop, List, arith}
+use Rattle.std.specs.Prelude.{MatchOption, IfSome, Some}
+use Rattle.weighted_automata.specs.declared.transitions.Entry.{Entry}
+use Rattle.weighted_automata.specs.Entries.{entry_at, index_at}
+use Rattle.witness_graph.specs.declared.node.Node.{Node}
 use Rattle.saturation_laws.specs.declared.event.Event.TheVariants.{Take}
 use Rattle.saturation_laws.specs.declared.job.Job.{Job}
 use Rattle.saturation_core.specs.declared.hand.Hand.{Hand}
 use Rattle.saturation_laws.specs.States.{hand_at, jobs_at}
 use Rattle.saturation_laws.specs.Books.{BookValue, Makes, CanWork}
+use Rattle.saturation_laws.specs.Ways.{HaveFitWeights, jobs_of_place}
+use Rattle.saturation_core.specs.declared.found.Found.{Found}
 use Rattle.saturation_core.specs.BookView.{book_view}
 use Rattle.saturation_laws.proofs.CallerLemmas.{book_fits, event_keeps, taken_works, taken}
 use Rattle.saturation_core.specs.declared.queued.NumberedPlace.{NumberedPlace}
@@ -13,23 +18,50 @@ use Rattle.saturation_core.proofs.JournalLemmas.{take_then, take_there}
 use Rattle.saturation_core.proofs.HandLemmas.{hands_out-seats, hands_out-set, moved, popped}
 use Rattle.saturation_core.proofs.book.Book.take.Goals as goal
 
+-- no transition changes
+stay : (g : _) (c : goal.After-put g) → c.pop.new.self.transitions ≡ c.self.inside.found.value.transitions.transitions
+stay g c = c.pop.ensures.transitions ∙ ap (λ (f : Found _ _ _). f.transitions.transitions) c.deref_mut.ensures.value
+
+-- the front is what is taken
+front : (g : _) (c : goal.After-put g) → c.self.inside.found.value.transitions.queue ≡ c.in-Some.next.place ∷ drop 1 c.self.inside.found.value.transitions.queue
+front g c = subst (λ (f : Found _ _ _). f.transitions.queue ≡ c.in-Some.next.place ∷ drop 1 f.transitions.queue) c.deref.ensures c.in-Some.ensures.place
+
+took : (g : _) (c : goal.After-put g) → (c.self.inside.found.value.transitions.queue ≡ c.in-Some.next.place ∷ c.pop.new.self.queue) × (c.self.inside.found.value.transitions.spare + 1 ≤ c.pop.new.self.spare)
+took g c =
+    popped (λ (n : NumberedPlace). n.place) c.pop.result c.self.inside.found.value.transitions.queue c.pop.new.self.queue c.in-Some.next.place (c.self.inside.found.value.transitions.spare + 1 ≤ c.pop.new.self.spare) (front g c)
+    (subst (λ (f : Found _ _ _). MatchOption c.pop.result (f.transitions.queue ≡ []) (λ n. f.transitions.queue ≡ n.place ∷ c.pop.new.self.queue)) c.deref_mut.ensures.value c.pop.ensures.place)
+    (subst (λ (f : Found _ _ _). IfSome c.pop.result (λ _. f.transitions.spare + 1 ≤ c.pop.new.self.spare)) c.deref_mut.ensures.value c.pop.ensures.spare)
+
+-- the number is that of the place
+at : (g : _) (c : goal.After-put g) → index_at c.in-Some.next.place c.self.inside.found.value.transitions.transitions ≡ Some c.in-Some.next.number
+at g c = subst (λ (f : Found _ _ _). index_at c.in-Some.next.place f.transitions.transitions ≡ Some c.in-Some.next.number) c.deref.ensures c.in-Some.ensures.at
+
+listed : (g : _) (c : goal.After-put g) → c.in_ok-listed-in-Some.listed
+    ≡ jobs_of_place g.S.Semiring.operations g.D.Direction.way c.self.inside.direction c.self.inside.system.now c.in-Some.next.place c.self.inside.found.value.transitions.transitions
+listed g c =
+    c.in_ok-listed-in-Some.ensures
+    ∙ ap (λ (f : Found _ _ _). jobs_of_place g.S.Semiring.operations g.D.Direction.way c.self.inside.direction c.self.inside.system.now c.in-Some.next.place f.transitions.transitions) c.deref.ensures
+
 made : (g : _) (c : goal.After-put g) → Makes g.S.Semiring.operations g.D.Direction.way (book_view c.self.inside) (Take c.args.seat c.in-Some.next.place)
-    (moved (book_view c.self.inside) c.pop.new.self.transitions c.pop.new.self.queue c.put.new.out.items (events_at c.pop.new.self.transitions c.take.new.self.events))
+    (moved (book_view c.self.inside) c.pop.new.self.transitions c.deref_mut.result.now.graph.nodes c.pop.new.self.queue c.put.new.out.items (events_at c.pop.new.self.transitions c.take.new.self.events))
 made g c =
+    let b = book_view c.self.inside in
     let seats : length c.self.inside.out.items ≡ 64 = c.self.invariant.0.lock.shape.seats in
     let seat : c.args.seat < 64 = c.requires.seat in
     let within : c.args.seat < length c.self.inside.out.items = omega arith in
-    subst (λ ts. Makes g.S.Semiring.operations g.D.Direction.way (book_view c.self.inside) (Take c.args.seat c.in-Some.next.place)
-    (moved (book_view c.self.inside) ts c.pop.new.self.queue c.put.new.out.items (events_at ts c.take.new.self.events))) (sym c.pop.ensures.transitions)
+    let Made : List (Entry _ _ _) → List Node → Type 0 = λ ts ns. Makes g.S.Semiring.operations g.D.Direction.way b (Take c.args.seat c.in-Some.next.place)
+    (moved b ts ns c.pop.new.self.queue c.put.new.out.items (events_at ts c.take.new.self.events)) in
+    subst (Made c.pop.new.self.transitions) (sym (ap (λ (f : Found _ _ _). f.graph.nodes) c.deref_mut.ensures.value))
+    (subst (λ ts. Made ts b.state.nodes) (sym (stay g c))
     (taken g.S.Semiring.operations g.D.Direction.way (book_view c.self.inside) c.args.seat c.in-Some.next.place
-    c.pop.new.self.queue c.put.new.out.items (events_at c.self.inside.found.transitions.transitions c.take.new.self.events)
+    c.pop.new.self.queue c.put.new.out.items (events_at c.self.inside.found.value.transitions.transitions c.take.new.self.events)
     within
     (ap (λ b. hand_at c.args.seat b.state.hands) c.self.view_is ∙ c.requires.free)
-    (popped (λ (n : NumberedPlace). n.place) c.pop.result c.self.inside.found.transitions.queue c.pop.new.self.queue c.in-Some.next.place _ c.in-Some.ensures.place c.pop.ensures.place c.pop.ensures.spare).0
+    (took g c).0
     c.in_ok-kept-in-Some.kept
-    (c.in_ok-kept-in-Some.ensures ∙ c.in_ok-jobs-in-Some.ensures ∙ c.in_ok-listed-in-Some.ensures)
+    (c.in_ok-kept-in-Some.ensures ∙ c.in_ok-jobs-in-Some.ensures ∙ listed g c)
     c.put.ensures
-    (take_then c.self.inside.found.transitions.transitions c.self.inside.journal.events c.take.new.self.events c.args.seat c.in-Some.next.number c.in-Some.next.place c.in-Some.ensures.at c.in_ok-take-in-Some.ensures.ok))
+    (take_then c.self.inside.found.value.transitions.transitions c.self.inside.journal.events c.take.new.self.events c.args.seat c.in-Some.next.number c.in-Some.next.place (at g c) c.in_ok-take-in-Some.ensures.ok)))
 
 pub invariant_of-self-in-Some : goal.invariant_of-self-in-Some
 invariant_of-self-in-Some g c =
@@ -37,7 +69,7 @@ invariant_of-self-in-Some g c =
     let seat : c.args.seat < 64 = c.requires.seat in
     let more = hands_out-set c.self.inside.out.items c.put.new.out.items c.args.seat _ c.put.ensures in
     let few = hands_out-seats c.self.inside.out.items c.put.new.out.items c.args.seat _ c.put.ensures in
-    let one = popped (λ (n : NumberedPlace). n.place) c.pop.result c.self.inside.found.transitions.queue c.pop.new.self.queue c.in-Some.next.place (c.self.inside.found.transitions.spare + 1 ≤ c.pop.new.self.spare) c.in-Some.ensures.place c.pop.ensures.place c.pop.ensures.spare in (
+    let one = took g c in (
       event_keeps g.S.Semiring.operations g.S.Semiring.laws g.D.Direction.way
           g.met.D.Direction.laws
           (book_view c.self.inside) c.self.invariant.0 (Take c.args.seat c.in-Some.next.place) _ (made g c),
@@ -45,34 +77,38 @@ invariant_of-self-in-Some g c =
         journal = omega (arith, few, seats, c.in_ok-take-in-Some.ensures.room);
         queue = omega (arith, more, one.1, c.self.invariant.1.queue);
       },
-      c.self.invariant.2,
-      subst (λ ts. AreThere ts c.take.new.self.events) (sym c.pop.ensures.transitions)
-          (take_there c.self.inside.found.transitions.transitions c.self.inside.journal.events c.take.new.self.events c.args.seat c.in-Some.next.number c.in-Some.next.place c.in-Some.ensures.at c.in_ok-take-in-Some.ensures.ok c.self.invariant.3),
+      ap (λ (f : Found _ _ _). f.graph.side) c.deref_mut.ensures.value ∙ c.self.invariant.2,
+      subst (λ ts. AreThere ts c.take.new.self.events) (sym (stay g c))
+          (take_there c.self.inside.found.value.transitions.transitions c.self.inside.journal.events c.take.new.self.events c.args.seat c.in-Some.next.number c.in-Some.next.place (at g c) c.in_ok-take-in-Some.ensures.ok c.self.invariant.3),
     )
 
 pub returns-in_ok-take-in-Some-clause-taken : goal.returns-in_ok-take-in-Some-clause-taken
 returns-in_ok-take-in-Some-clause-taken g c =
-    let new = moved (book_view c.self.inside) c.pop.new.self.transitions c.pop.new.self.queue c.put.new.out.items (events_at c.pop.new.self.transitions c.take.new.self.events) in
+    let new = moved (book_view c.self.inside) c.pop.new.self.transitions c.deref_mut.result.now.graph.nodes c.pop.new.self.queue c.put.new.out.items (events_at c.pop.new.self.transitions c.take.new.self.events) in
     let hand : List (Job g.row.S.Denot g.row.S-W.Denot g.row.S-Ret.Denot) → Hand g.row.S.Denot g.row.S-W.Denot g.row.S-Ret.Denot = λ js. record { seat = c.args.seat; jobs = js } in
     let jobs : BookValue g.row.S.Denot g.row.S-W.Denot g.row.S-Ret.Denot g.row.D.Denot → List (Job g.row.S.Denot g.row.S-W.Denot g.row.S-Ret.Denot) =
     λ b. jobs_at (g.S.Semiring.operations b.system.semiring) (g.D.Direction.way.tables b.direction b.system) (entry_at c.in-Some.next.place b.state.transitions) b.state.transitions in (
       c.in-Some.next.place,
       subst (λ b. Makes g.S.Semiring.operations g.D.Direction.way b (Take c.args.seat c.in-Some.next.place) new) c.self.view_is (made g c),
-      ap hand (c.in_ok-jobs-in-Some.ensures ∙ c.in_ok-listed-in-Some.ensures ∙ ap jobs c.self.view_is),
+      ap hand (c.in_ok-jobs-in-Some.ensures ∙ listed g c ∙ ap jobs c.self.view_is),
     )
 
 pub list_jobs-requires-clause-weights : goal.list_jobs-requires-clause-weights
 list_jobs-requires-clause-weights g c =
-    book_fits g.S.Semiring.operations g.S.Semiring.laws g.D.Direction.way g.met.D.Direction.laws
-    (book_view c.self.inside) c.self.invariant.0
+    subst (λ (f : Found _ _ _). HaveFitWeights g.S.Semiring.operations c.self.inside.system.now f.transitions.transitions) (sym c.deref.ensures)
+    (book_fits g.S.Semiring.operations g.S.Semiring.laws g.D.Direction.way g.met.D.Direction.laws
+    (book_view c.self.inside) c.self.invariant.0)
 
 pub returns-in_ok-take-in-Some-clause-works : goal.returns-in_ok-take-in-Some-clause-works
 returns-in_ok-take-in-Some-clause-works g c =
     let seats : length c.self.inside.out.items ≡ 64 = c.self.invariant.0.lock.shape.seats in
     let seat : c.args.seat < 64 = c.requires.seat in
+    let b = book_view c.self.inside in
+    let Made : List (Entry _ _ _) → List Node → Type 0 = λ ts ns. Makes g.S.Semiring.operations g.D.Direction.way b (Take c.args.seat c.in-Some.next.place)
+    (moved b ts ns c.pop.new.self.queue c.put.new.out.items (events_at ts c.take.new.self.events)) in
     subst (λ b. CanWork g.S.Semiring.operations g.D.Direction.way b c.in_ok-jobs-in-Some.jobs) c.self.view_is
     (taken_works g.S.Semiring.operations g.S.Semiring.laws g.D.Direction.way g.met.D.Direction.laws
-    (book_view c.self.inside) c.self.invariant.0 c.args.seat c.in-Some.next.place c.pop.new.self.queue c.put.new.out.items (events_at c.self.inside.found.transitions.transitions c.take.new.self.events)
-    (subst (λ ts. Makes g.S.Semiring.operations g.D.Direction.way (book_view c.self.inside) (Take c.args.seat c.in-Some.next.place)
-    (moved (book_view c.self.inside) ts c.pop.new.self.queue c.put.new.out.items (events_at ts c.take.new.self.events))) c.pop.ensures.transitions (made g c)) (omega (arith, seats, seat)) c.in_ok-kept-in-Some.kept c.in_ok-jobs-in-Some.jobs c.put.ensures
+    b c.self.invariant.0 c.args.seat c.in-Some.next.place c.pop.new.self.queue c.put.new.out.items (events_at c.self.inside.found.value.transitions.transitions c.take.new.self.events)
+    (subst (Made b.state.transitions) (ap (λ (f : Found _ _ _). f.graph.nodes) c.deref_mut.ensures.value)
+    (subst (λ ts. Made ts c.deref_mut.result.now.graph.nodes) (stay g c) (made g c))) (omega (arith, seats, seat)) c.in_ok-kept-in-Some.kept c.in_ok-jobs-in-Some.jobs c.put.ensures
     (sym c.in_ok-kept-in-Some.ensures))

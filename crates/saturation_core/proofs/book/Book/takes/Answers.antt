@@ -5,5 +5,5 @@ use Rattle.saturation_core.proofs.book.Book.takes.Goals as goal
 
 pub returns : goal.returns
 returns g c =
-    c.takes.ensures ∙ sym (takes_with c.self.inside.found.transitions.transitions c.self.inside.journal.events c.self.invariant.3)
+    c.takes.ensures ∙ sym (takes_with c.self.inside.found.value.transitions.transitions c.self.inside.journal.events c.self.invariant.3)
     ∙ ap (λ b. takes b.journal) c.self.view_is

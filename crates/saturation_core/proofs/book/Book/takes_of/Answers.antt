@@ -5,5 +5,5 @@ use Rattle.saturation_core.proofs.book.Book.takes_of.Goals as goal
 
 pub returns : goal.returns
 returns g c =
-    c.takes_of.ensures ∙ sym (takes_with_of c.self.inside.found.transitions.transitions c.args.seat c.self.inside.journal.events c.self.invariant.3)
+    c.takes_of.ensures ∙ sym (takes_with_of c.self.inside.found.value.transitions.transitions c.args.seat c.self.inside.journal.events c.self.invariant.3)
     ∙ ap (λ b. takes_of c.args.seat b.journal) c.self.view_is
