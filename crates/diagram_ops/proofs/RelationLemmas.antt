@@ -62,19 +62,18 @@ spread_between old middle new i =
     let is : (4 * i + 1) / 4 ≡ i = omega arith in
     cond-true (nat_eq ((4 * i + 1) % 2) 1) (middle ((4 * i + 1) / 4)) (of_states old new ((4 * i + 1) / 2)) (eq-eqb ((4 * i + 1) % 2) 1 odd) ∙ ap middle is
 
--- the result, copied out of scratch nodes where both relations were loaded
-pub relates_composed : (nodes : List Branch) → IsReduced nodes → (x y r : ℕ) → ((bits : ℕ → Bool) → IsComposed nodes x y bits (value_at nodes r bits))
-    → (a : Diagram) → ((bits : ℕ → Bool) → value_at nodes x bits ≡ meaning a bits) → (b : Diagram) → ((bits : ℕ → Bool) → value_at nodes y bits ≡ meaning b bits)
+-- the result, made of scratch nodes
+pub relates_composed : (a b : Diagram) (nodes : List Branch) (r : ℕ) → ((bits : ℕ → Bool) → IsComposed a.nodes b.nodes a.root b.root bits (value_at nodes r bits))
     → (d : Diagram) → ((bits : ℕ → Bool) → meaning d bits ≡ value_at nodes r bits) → (old new : ℕ → Bool) → IsTrue (relates d old new) ↔ RelatesThrough a b old new
-relates_composed nodes whole x y r means a ax b by d dr old new = (
+relates_composed a b nodes r means d dr old new = (
   λ yes.
       let o = (means (of_states old new)).0 (sym (dr (of_states old new)) ∙ yes) in
       let middle : ℕ → Bool = λ k. o.0 (4 * k + 1) in
       let f = first_bits old middle new o.0 o.1 (λ k. refl) in
       let g = second_bits old middle new o.0 o.1 (λ k. refl) in (
         middle,
-        sym (ax (of_states old middle)) ∙ sym (same_bits nodes whole x (λ v. o.0 (position First v)) (of_states old middle) f) ∙ o.2,
-        sym (by (of_states middle new)) ∙ sym (same_bits nodes whole y (λ v. o.0 (position Second v)) (of_states middle new) g) ∙ o.3,
+        sym (same_bits a.nodes a.is_canonical.reduced a.root (λ v. o.0 (position First v)) (of_states old middle) f) ∙ o.2,
+        sym (same_bits b.nodes b.is_canonical.reduced b.root (λ v. o.0 (position Second v)) (of_states middle new) g) ∙ o.3,
       ),
   λ m.
       let all : ℕ → Bool = spread old m.0 new in
@@ -84,7 +83,7 @@ relates_composed nodes whole x y r means a ax b by d dr old new = (
       ∙ (means (of_states old new)).1 (
         all,
         spread_stays old m.0 new,
-        same_bits nodes whole x (λ v. all (position First v)) (of_states old m.0) f ∙ ax (of_states old m.0) ∙ m.1,
-        same_bits nodes whole y (λ v. all (position Second v)) (of_states m.0 new) g ∙ by (of_states m.0 new) ∙ m.2,
+        same_bits a.nodes a.is_canonical.reduced a.root (λ v. all (position First v)) (of_states old m.0) f ∙ m.1,
+        same_bits b.nodes b.is_canonical.reduced b.root (λ v. all (position Second v)) (of_states m.0 new) g ∙ m.2,
       ),
 )

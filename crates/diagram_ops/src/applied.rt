@@ -54,6 +54,10 @@ fn apply_in_arena(
     let z = load(alloc, &mut scratch, c)?;
     let mut results = TripleTable::with_room(alloc, count)?;
     let root = apply(&mut scratch, &mut results, table, a.root, y, z)?;
+    if root == a.root {
+        let same = a.copy(alloc)?;
+        return Ok(same);
+    }
     let made = copy_out(alloc, &arena, &scratch, root)?;
     Ok(made)
 }

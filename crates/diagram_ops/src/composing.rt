@@ -12,10 +12,9 @@ ghost use Rattle.diagram_ops.specs.declared.composing.Operand.TheVariants.{First
 
 use crate::applying::{OR, apply};
 use crate::copying::copy_out;
-use crate::loading::load;
 use crate::scratch::Scratch;
 use bumpalo::Bump;
-use diagram_store::{Branch, Diagram, independent_variables};
+use diagram_store::{Branch, Diagram, independent_variables, node};
 use std::alloc::Global;
 use triple_tables::TripleTable;
 use wpds_base::OutOfMemory;
@@ -40,13 +39,12 @@ pub fn compose_relations(
     // the law that gives the variables of the result
     independent_variables();
     let arena = Bump::new(alloc);
-    // twice the nodes of the operands: for them, and for a result as large as both
+    // for a result as large as both operands, and what is made on the way
     let room = 2 * (a.nodes().len() + b.nodes().len());
-    let mut scratch = Scratch::of_nodes(alloc, &arena, room, a.nodes())?;
-    let y = load(alloc, &mut scratch, b)?;
+    let mut scratch = Scratch::with_room(alloc, &arena, room)?;
     let mut results = TripleTable::with_room(alloc, room)?;
     let mut joins = TripleTable::new(alloc);
-    let root = compose(&mut scratch, &mut results, &mut joins, a.root, y)?;
+    let root = compose(a, b, &mut scratch, &mut results, &mut joins, a.root, b.root)?;
     let made = copy_out(alloc, &arena, &scratch, root)?;
     Ok(made)
 }
@@ -58,8 +56,10 @@ pub(crate) enum Operand {
     Second,
 }
 
-// The composition of two references. Each pair is worked out once.
+// The composition of a reference of each relation, whose nodes are read where they stand. Each pair is worked out once.
 fn compose(
+    a: &Diagram,
+    b: &Diagram,
     scratch: &mut Scratch,
     results: &mut TripleTable,
     joins: &mut TripleTable,
@@ -67,18 +67,18 @@ fn compose(
     y: u64,
 ) -> Result<u64, OutOfMemory>
     requires reduced { IsReduced scratch.old }
-    requires x { x < length scratch.old + 2 }
-    requires y { y < length scratch.old + 2 }
-    requires results { AreComposed scratch.old (known results.old) }
+    requires x { x < length a.now.nodes + 2 }
+    requires y { y < length b.now.nodes + 2 }
+    requires results { AreComposed a.now.nodes b.now.nodes scratch.old (known results.old) }
     requires joins { AreApplied 252 scratch.old (known joins.old) }
-    ensures { IfOk result (λ r.
-        Composes scratch.old scratch.new (known results.new) (known joins.new) x y r) }
+    ensures { IfOk result (λ r. Composes a.now.nodes b.now.nodes
+        scratch.old scratch.new (known results.new) (known joins.new) x y r) }
 {
     if x == 0 || y == 0 {
         return Ok(0);
     }
-    let first = scratch.node(x);
-    let second = scratch.node(y);
+    let first = node(a.nodes(), x);
+    let second = node(b.nodes(), y);
     let Some(place) = lowest(first, second) else {
         return Ok(1);
     };
@@ -87,8 +87,8 @@ fn compose(
     }
     let xs = branches(Operand::First, place, x, first);
     let ys = branches(Operand::Second, place, y, second);
-    let low = compose(scratch, results, joins, xs.0, ys.0)?;
-    let high = compose(scratch, results, joins, xs.1, ys.1)?;
+    let low = compose(a, b, scratch, results, joins, xs.0, ys.0)?;
+    let high = compose(a, b, scratch, results, joins, xs.1, ys.1)?;
     let result = join(scratch, joins, place, low, high)?;
     results.insert(x, y, 0, result)?;
     Ok(result)
