@@ -163,12 +163,12 @@ all_zero : (xs : List Place) → Each (λ e. seat_of e ≡ 0) (turns_of xs)
 all_zero [] = tt
 all_zero (x ∷ xs) = (refl, (refl, all_zero xs))
 
-pub alone_seats : (log : List Event) → IsAlone log → IsWorkedBySeats 1 log
-alone_seats log alone =
+pub alone_seats : (workers : ℕ) (log : List Event) → 0 < workers → IsAlone log → IsWorkedBySeats workers log
+alone_seats workers log some alone =
     let xs = alone.0 in
     let zero = subst (Each (λ e. seat_of e ≡ 0)) (sym alone.1) (all_zero xs) in
     record {
-      seats = each-map (λ e. seat_of e ≡ 0) (λ e. seat_of e < 1) (λ e is. omega (arith, is)) log zero;
+      seats = each-map (λ e. seat_of e ≡ 0) (λ e. seat_of e < workers) (λ e is. subst (λ n. n < workers) (sym is) some) log zero;
       each = λ seat. elim (cases_eq seat 0) [
         | inl same ↦ subst (λ n. IsDrivenBy n (of_pass seat_of n log)) (sym same)
             (xs, None, own-after seat_of 0 [] log zero ∙ alone.1 ∙ turns_are xs ∙ sym (append-nil (turns_by 0 xs)))
@@ -177,7 +177,7 @@ alone_seats log alone =
     }
 
 pub ok_alone : {X Y : Type 0} (r : Result X Y) (workers : ℕ) (journal : X → List Event) → workers ≡ 1 → IfOk r (λ b. IsAlone (journal b)) → IfOk r (λ b. IsWorkedBySeats workers (journal b))
-ok_alone (Ok b) workers journal one alone = subst (λ n. IsWorkedBySeats n (journal b)) (sym one) (alone_seats (journal b) alone)
+ok_alone (Ok b) workers journal one alone = alone_seats workers (journal b) (omega (arith, one)) alone
 ok_alone (Err e) workers journal one alone = tt
 
 pub too_few : (joined made workers : ℕ) → joined ≡ workers → made ≡ workers → joined < made → ⊥

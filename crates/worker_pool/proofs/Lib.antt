@@ -7,4 +7,5 @@ mod WorkerTurnLemmas
 mod DrivingLemmas
 mod ErrandLemmas
 mod GiveLemmas
+mod ClosingLemmas
 mod Examples

@@ -17,6 +17,6 @@ mod turns;
 pub use alone::saturate_alone;
 pub use driven::{DriveEnd, Driven};
 pub use driving::drive;
-pub use laws::{one_worker_has_one_journal, workers_bound_takes};
+pub use laws::{one_worker_closes, one_worker_has_one_journal, workers_bound_takes};
 pub use saturating::saturate;
 pub use shared::{Origin, Shared};
