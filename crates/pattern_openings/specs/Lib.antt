@@ -1,1 +1,2 @@
 pub mod PatternOpenings
+pub mod JointOpenings

@@ -1,10 +1,12 @@
-ghost use Rattle.std.specs.Prelude.{◌↔◌, ◌+◌, ◌<◌, ℕ, IsTrue, length};
+ghost use Rattle.std.specs.Prelude.{◌↔◌, ◌≡◌, ◌+◌, ◌<◌, ℕ, All, IsTrue, List, Some, length, slice_get};
 ghost use Rattle.weighted_automata.specs.declared.place.Place.{Place as PlaceValue};
 ghost use Rattle.pushdown_rules.specs.Configuration.{Configuration};
 ghost use Rattle.config_patterns.specs.Membership.{PatternValue, has_member};
 ghost use Rattle.wpds_base.specs.Lists.{IsIn};
+ghost use Rattle.saturation_laws.specs.declared.opening.Opening.{Opening as OpeningValue};
 ghost use Rattle.saturation_laws.specs.Paths.{IsOpened};
 ghost use Rattle.pattern_openings.specs.PatternOpenings.{state_of, opening_of, IsEdgeOf};
+ghost use Rattle.pattern_openings.specs.JointOpenings.{joint_edges, joint_finals, LeadsToItem};
 
 /// The opening of a pattern reads the pattern's members, and no others: for each configuration with one of the controls.
 pub fn openings_read_members()
@@ -24,4 +26,25 @@ pub fn openings_join_states()
     ensures last { (pattern : PatternValue) (controls : ℕ) →
         IsIn (state_of controls pattern.control (length pattern.items))
         (opening_of controls pattern).finals }
+{}
+
+/// The edges of several patterns together read the members of each of them, and no others, to this one's final states:
+/// for each configuration with one of the controls.
+pub fn joint_openings_read_members()
+    ensures { (patterns : List PatternValue) (controls : ℕ) →
+        All (λ (d : PatternValue). d.control < controls) patterns →
+        (k : ℕ) (pattern : PatternValue) (finals : List ℕ) →
+        slice_get patterns k ≡ Some pattern →
+        slice_get (joint_finals controls patterns) k ≡ Some finals →
+        (d : Configuration) → d.control < controls →
+        let joint : OpeningValue = record {
+          edges = joint_edges controls patterns;
+          finals = finals;
+        } in IsOpened joint d ↔ IsTrue (has_member pattern d) }
+{}
+
+/// The edges of several patterns together go over a symbol to a state that is no control.
+pub fn joint_edges_lead_to_items()
+    ensures { (patterns : List PatternValue) (controls : ℕ) (x : PlaceValue) →
+        IsIn x (joint_edges controls patterns) → LeadsToItem controls x }
 {}
