@@ -37,7 +37,8 @@ use Rattle.path_sum.proofs.AddedLemmas.{grown_begins}
 use Rattle.path_sum.proofs.EntryLemmas.{present_here}
 use Rattle.path_sum.proofs.GrowingLemmas.{IsSum}
 use Rattle.path_sum.proofs.BookLemmas.{finished_answers}
-use Rattle.path_sum.proofs.RoundLemmas.{IsUnderWay, left_of, past, sum_good, begun, front_ready, round_keeps, round_falls, ended, all_kept, few_nodes}
+use Rattle.path_sum.specs.private.Rounds.{IsUnderWay, input_of}
+use Rattle.path_sum.proofs.RoundLemmas.{left_of, past, sum_good, begun, front_ready, round_keeps, round_falls, ended, all_kept, few_nodes}
 use Rattle.path_sum.proofs.PlaceLemmas.{places_count}
 use Rattle.path_sum.proofs.MemberLemmas.{members_way}
 use Rattle.saturation_laws.specs.Ways.{Way, HasPathSums}
@@ -56,7 +57,7 @@ module _ {S W Map D : Type 0} {operations : S → Operations W Map} (laws : (x :
   side = (way.tables d p).side
 
   abbrev pub input : SumInputValue S W Map
-  input = record { semiring = p.semiring; side = side; opening = o; transitions = ts; pattern = pattern }
+  input = input_of operations way p d o ts nodes pattern
 
   -- what the code goes over
   pub input_is : (t : SumInputValue S W Map) (m : S) (sd : Side) → t ≡ record { semiring = m; side = sd; opening = o; transitions = ts; pattern = pattern } → m ≡ p.semiring → side ≡ sd → t ≡ input

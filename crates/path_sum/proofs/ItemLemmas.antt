@@ -147,7 +147,7 @@ target_of (Along i j x) = j
 target_of m = 0
 
 -- what goes along an edge has one
-moves_have : (i g j : ℕ) (x : Place) (es : List Place) → IsIn (Along i j x) (edge_moves i g x es) → has_place (record { from = i; label = Symbol g; to = j }) es ≡ true
+pub moves_have : (i g j : ℕ) (x : Place) (es : List Place) → IsIn (Along i j x) (edge_moves i g x es) → has_place (record { from = i; label = Symbol g; to = j }) es ≡ true
 moves_have i g j x [] h = absurd h
 moves_have i g j x (e ∷ es) h =
     let y : Place = record { from = i; label = Symbol g; to = j } in

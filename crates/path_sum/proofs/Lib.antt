@@ -18,3 +18,5 @@ mod PlaceLemmas
 mod RoundLemmas
 mod MemberLemmas
 mod FinishedLemmas
+mod ExistLemmas
+mod EndsLemmas

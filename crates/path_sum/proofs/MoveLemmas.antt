@@ -65,7 +65,7 @@ edge_in i g j x (e ∷ es) (inr h) =
     let P : List Move → Type 0 = IsIn (Along i j x) in
     cond_both (goes i g e) (Along i e.to x ∷ edge_moves i g x es) (edge_moves i g x es) P (λ t. inr (edge_in i g j x es h)) (λ t. edge_in i g j x es h)
 
-has_state_from : (q : ℕ) (rs : List ℕ) → IsIn q rs → has_state q rs ≡ true
+pub has_state_from : (q : ℕ) (rs : List ℕ) → IsIn q rs → has_state q rs ≡ true
 has_state_from q [] h = elim h [ ]
 has_state_from q (r ∷ rs) (inl e) = or_left (nat_eq r q) (has_state q rs) (eq-eqb r q e)
 has_state_from q (r ∷ rs) (inr h) = or_right (nat_eq r q) (has_state q rs) (has_state_from q rs h)

@@ -23,6 +23,7 @@ use Rattle.path_sum.specs.private.Work.{moves_of, IsSummed, IsAwaited, IsAmong, 
 use Rattle.path_sum.specs.private.Growing.{IsReady}
 use Rattle.path_sum.specs.private.Paths.{SumRun, IsSummable}
 use Rattle.path_sum.specs.private.Inputs.{SumInputValue}
+use Rattle.path_sum.specs.private.Rounds.{IsUnderWay}
 use Rattle.path_sum.proofs.GrowingLemmas.{IsSum}
 use Rattle.path_sum.proofs.SumLemmas.{grown_good}
 use Rattle.path_sum.proofs.WorkingLemmas.{work_keeps, bare_awaited, moves_count, work_falls, summed_up, fallen_top}
@@ -34,13 +35,6 @@ abbrev pub past : {S W Map : Type 0} → CoreState S W Map → List Place → Co
 past st q = record { transitions = st.transitions; nodes = st.nodes; queue = q; hands = st.hands }
 
 module _ {S W Map : Type 0} (s : Operations W Map) (input : SumInputValue S W Map) (nodes : List Node) where
-  -- What holds of a sum whenever it takes the next pair.
-  pub record IsUnderWay (st : CoreState S W Map) : Type 0 where
-    pub grown : IsGrown s input.side input.opening input.transitions nodes (ways_of input.pattern) st
-    pub awaited : IsAwaited s input.side input.opening input.transitions (ways_of input.pattern) st
-    pub among : IsAmong (sum_places (ways_of input.pattern) input.transitions) st.transitions
-    pub few : length st.nodes ≤ length nodes + 1 + fallen s st.transitions (sum_places (ways_of input.pattern) input.transitions)
-
   -- what is left to do
   abbrev pub left_of : CoreState S W Map → ℕ
   left_of st = let places = sum_places (ways_of input.pattern) input.transitions in (length places * s.top_rank - fallen s st.transitions places) + length st.queue

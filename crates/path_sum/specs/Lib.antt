@@ -3,4 +3,5 @@ pub mod Answers
 pub mod Saturated
 pub mod Pairs
 pub mod Results
+pub mod Values
 pub mod private

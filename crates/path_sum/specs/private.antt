@@ -4,3 +4,5 @@ pub mod Paths
 pub mod Work
 pub mod Growing
 pub mod Lookups
+pub mod Ends
+pub mod Rounds

@@ -5,9 +5,13 @@
 mod answer;
 mod change;
 mod growing;
+mod laws;
 mod lookup;
 mod sum_input;
 mod summing;
+mod values;
 
 pub use answer::Answer;
+pub use laws::sums_have_answers;
 pub use summing::{sum, sum_parts, sum_value};
+pub use values::sum_values;

@@ -5,6 +5,7 @@ ghost use Rattle.saturation_laws.specs.Books.{IsClosed};
 ghost use Rattle.saturation_laws.specs.Openings.{AreKept};
 ghost use Rattle.path_sum.specs.Sums.{answer_place};
 ghost use Rattle.path_sum.specs.private.Growing.{IsShownOver, BeginsBehind, begun_of, state_of};
+ghost use Rattle.path_sum.specs.private.Rounds.{IsWalked};
 ghost use Rattle.path_sum.specs.Saturated.{IsSaturatedAutomaton};
 ghost use Rattle.path_sum.specs.Answers.{Shows, IsValueOf};
 ghost use Rattle.path_sum.specs.Results.{IsSumOver, IsSumOf};
@@ -74,6 +75,33 @@ fn list_answer<S: Semiring>(
     }
 }
 
+/// The sum with all that goes on from its first pair: nothing waits behind it.
+pub(crate) fn walk<'g, S: Semiring, D: Direction<S>>(
+    alloc: Global,
+    system: &System<S>,
+    direction: &D,
+    opening: &Opening,
+    transitions: &Transitions<S>,
+    graph: &'g Graph,
+    pattern: &Pattern,
+) -> Result<Growing<'g, S>, OutOfMemory>
+    requires automaton { IsSaturatedAutomaton S.operations D.way system.now direction.now
+        opening.now transitions.now.transitions graph.now.nodes }
+    requires pattern { pattern.now.control < system.now.controls }
+    ensures walked { IfOk result (λ x. IsWalked S.operations D.way system.now direction.now
+        opening.now transitions.now.transitions graph.now.nodes pattern.now (state_of x)) }
+    ensures graph { IfOk result (λ x. x.nodes.graph ≡ graph.now) }
+{
+    let semiring = system.semiring();
+    let side = direction.side();
+    let input = SumInput::new(alloc, semiring, side, opening, transitions, pattern)?;
+    let mut sum = start(alloc, &input, graph)?;
+    'rounds: while let Some(taken) = sum.pairs.pop() {
+        sum.draw(alloc, &input, taken)?;
+    }
+    Ok(sum)
+}
+
 /// The weight of all runs between a pattern and an opening, from the pattern's members to what the opening reads where
 /// the direction goes backwards, and the other way round forwards: the combination, over the members and all paths of
 /// the transitions that read one to a final state, of the product along the path (Reps, Schwoon, Jha, Melski 2005). The
@@ -98,13 +126,16 @@ pub fn sum_parts<S: Semiring, D: Direction<S>>(
     ensures { IfOk result (Shows listed (IsSumOver S.operations D.way system.now direction.now
         opening.now transitions.now.transitions graph.now.nodes pattern.now)) }
 {
+    let sum = walk(
+        alloc,
+        system,
+        direction,
+        opening,
+        transitions,
+        graph,
+        pattern,
+    )?;
     let semiring = system.semiring();
-    let side = direction.side();
-    let input = SumInput::new(alloc, semiring, side, opening, transitions, pattern)?;
-    let mut sum = start(alloc, &input, graph)?;
-    'rounds: while let Some(taken) = sum.pairs.pop() {
-        sum.draw(alloc, &input, taken)?;
-    }
     let value = weight_now(alloc, semiring, sum.pairs.list(), ANSWER)?;
     let listing = list_answer(alloc, &sum, listed)?;
     Ok(Answer { value, listing })
