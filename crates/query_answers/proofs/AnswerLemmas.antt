@@ -82,7 +82,7 @@ module _ {S W Map D : Type 0} (operations : S → Operations W Map) (way : Way S
       }
 
 module _ {S W Map : Type 0} (operations : S → Operations W Map) (law : OpeningsReadMembers) (p : Pushdown S W Map) where
-  backward_is : (b : BookValue S W Map Pre) (a : Answer S W Map) (summed : PatternValue) (side : Side) (workers : ℕ) (from to : PatternValue)
+  pub backward_is : (b : BookValue S W Map Pre) (a : Answer S W Map) (summed : PatternValue) (side : Side) (workers : ℕ) (from to : PatternValue)
       → IsSumOf operations (pre_way operations) b summed a → (opened_of side from to).control < p.controls → summed_of side from to ≡ summed
       → IsSaturated operations p side workers (opened_of side from to) (BackwardOf b) → IsAnswer operations p side workers from to a
   backward_is b a summed Forward workers from to sums below same saturated = absurd saturated

@@ -1,1 +1,4 @@
 mod AnswerLemmas
+pub mod CallerLemmas
+mod ValueLemmas
+mod SharedLemmas

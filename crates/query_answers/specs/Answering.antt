@@ -1,5 +1,5 @@
 -- What an answer to a query is, with the saturation that it comes from.
-use Rattle.std.specs.Prelude.{◌≡◌, ◌↔◌, ℕ, None, IfSome}
+use Rattle.std.specs.Prelude.{◌≡◌, ◌↔◌, ℕ, List, None, Some, IfSome, length, slice_get}
 use Rattle.semiring_laws.specs.Semiring.{Operations}
 use Rattle.pushdown_rules.specs.Pushdown.{Pushdown}
 use Rattle.pushdown_rules.specs.Values.{value_of}
@@ -18,7 +18,7 @@ use Rattle.poststar.specs.declared.post.Post.{Post}
 use Rattle.query_answers.specs.declared.saturation.Saturation.{Saturation}
 use Rattle.query_answers.specs.declared.saturation.Saturation.TheVariants.{Backward as BackwardOf, Forward as ForwardOf}
 use Rattle.path_sum.specs.declared.answer.Answer.{Answer}
-use Rattle.path_sum.specs.Answers.{listed_runs, IsGrownAnswer}
+use Rattle.path_sum.specs.Answers.{listed_runs, IsGrownAnswer, IsValueOf}
 use Rattle.path_sum.specs.Sums.{ways_of}
 use Rattle.worker_pool.specs.Alone.{IsAlone}
 use Rattle.worker_pool.specs.Errands.{IsWorkedBySeats}
@@ -96,3 +96,9 @@ module _ {S W Map : Type 0} (operations : S → Operations W Map) (p : Pushdown 
   pub record IsAnswer (side : Side) (workers : ℕ) (from to : PatternValue) (a : Answer S W Map) : Type 0 where
     pub shows : ShowsAnswer operations p from to side a
     pub grown : IsGrownBy side workers from to a
+
+  -- Each value is that of an answer to the query for runs from one pattern to the pattern at the same place, backwards.
+  pub record AreValues (workers : ℕ) (from : PatternValue) (tos : List PatternValue) (values : List W) : Type 0 where
+    pub count : length values ≡ length tos
+    pub each : (k : ℕ) (to : PatternValue) (v : W) → slice_get tos k ≡ Some to → slice_get values k ≡ Some v
+        → IsValueOf (IsAnswer Backward workers from to) v

@@ -3,6 +3,8 @@
 
 mod answering;
 mod saturation;
+mod values;
 
 pub use answering::{answer, answer_over, saturate, value, value_over};
 pub use saturation::Saturation;
+pub use values::values_from;

@@ -1,0 +1,214 @@
+-- The values of queries that share one saturation backwards.
+use Rattle.std.proofs.Common.{◌≡◌, ◌↔◌, ℕ, zero, suc, ◌+◌, ◌<◌, List, [], ◌∷◌, IsTrue, length, map, refl, sym, ap, ap₂, ◌∙◌, subst, arith}
+use Rattle.std.specs.Prelude.{All, Bool, false, Some, ◌||◌, not, nat_eq, cond, filter, slice_get}
+use Rattle.std.specs.List.{AllByRecursion}
+use Rattle.std.proofs.lemmas.List.Elements.{All-from_recursion, recursion_from_All}
+use Rattle.std.proofs.lemmas.Bool.{and_parts, eqb-true}
+use Rattle.std.proofs.lemmas.Option.{same_Some}
+use Rattle.semiring_laws.specs.Semiring.{Operations, IsSemiring}
+use Rattle.pushdown_rules.specs.Answers.{Answers}
+use Rattle.pushdown_rules.specs.Configuration.{Configuration}
+use Rattle.pushdown_rules.specs.InSystem.{AnswersIn}
+use Rattle.pushdown_rules.specs.Pushdown.{Pushdown, IsSystem}
+use Rattle.config_patterns.specs.Membership.{PatternValue, has_member, items_match}
+use Rattle.narrow_patterns.specs.Narrowed.{may_stand_below, narrowed, narrowed_items}
+use Rattle.config_patterns.specs.declared.item.Item.{Item}
+use Rattle.pattern_openings.specs.JointOpenings.{joint_edges, joint_finals}
+use Rattle.pattern_openings.specs.PatternOpenings.{IsOver, opening_of}
+use Rattle.path_sum.specs.Answers.{AnswersOpening, IsValueOf, listed_runs}
+use Rattle.path_sum.specs.Results.{IsSumOf}
+use Rattle.path_sum.specs.Values.{with_finals, IsSaturatedTo, IsValueTo, AreValuesTo}
+use Rattle.path_sum.specs.declared.answer.Answer.{Answer}
+use Rattle.prestar.proofs.CallerLemmas.{pattern_fits}
+use Rattle.prestar.specs.declared.pre.Pre.{Pre}
+use Rattle.prestar_laws.specs.Fitting.{fits_pre}
+use Rattle.prestar_laws.specs.Ways.{pre_way}
+use Rattle.saturation_laws.specs.Books.{BookValue, IsBook, IsClosed}
+use Rattle.saturation_laws.specs.declared.opening.Opening.{Opening}
+use Rattle.saturation_laws.specs.Paths.{IsOpened}
+use Rattle.saturation_laws.specs.Ways.{Way, IsLawful}
+use Rattle.saturation_laws.proofs.CallerLemmas.{closed_applies}
+use Rattle.prestar_laws.proofs.CallerLemmas.{pre_laws}
+use Rattle.witness_graph.specs.declared.node.Side.TheVariants.{Pre as Backward}
+use Rattle.worker_pool.specs.Closing.{IsClosedAlone, just_opened}
+use Rattle.worker_pool.specs.Workers.{IsWorkerCount}
+use Rattle.query_answers.specs.Answering.{IsAnswer, AreValues}
+use Rattle.query_answers.specs.private.Shared.{IsSharedBy, narrowed_for}
+use Rattle.query_answers.proofs.AnswerLemmas.{OpeningsReadMembers, backward_is}
+
+-- a pattern's members are what an opening reads, where it reads them at each control
+members_are_read : (pattern : PatternValue) (o : Opening) (controls : ℕ) → pattern.control < controls
+    → ((d : Configuration) → d.control < controls → IsOpened o d ↔ IsTrue (has_member pattern d))
+    → (d : Configuration) → IsTrue (has_member pattern d) ↔ (IsOpened o d × (d.control < controls))
+members_are_read pattern o controls below law d = (there, λ both. (law d both.1).0 both.0)
+  where
+    there : IsTrue (has_member pattern d) → IsOpened o d × (d.control < controls)
+    there e =
+        let same = eqb-true d.control pattern.control (and_parts (nat_eq d.control pattern.control) (items_match pattern.items d.stack) e).0 in
+        let within = subst (λ k. k < controls) (sym same) below in
+        ((law d within).1 e, within)
+
+-- what stands at a place of a list that is mapped
+mapped_at : {X Y : Type 0} (f : X → Y) (xs : List X) (k : ℕ) (x : X) → slice_get xs k ≡ Some x → slice_get (map f xs) k ≡ Some (f x)
+mapped_at f [] k x e = cc
+mapped_at f (y ∷ xs) zero x e = ap Some (ap f (same_Some y x e))
+mapped_at f (y ∷ xs) (suc k) x e = mapped_at f xs k x e
+
+-- ---- tests that say the same
+
+module _ (k m : ℕ → Bool) (same : (g : ℕ) → k g ≡ m g) where
+  filters_same : (xs : List ℕ) → filter k xs ≡ filter m xs
+  filters_same [] = refl
+  filters_same (x ∷ xs) = ap (λ b. cond b (x ∷ filter k xs) (filter k xs)) (same x) ∙ ap (λ ys. cond (m x) (x ∷ ys) ys) (filters_same xs)
+
+  items_same : (below : Bool) (xs : List Item) → narrowed_items k below xs ≡ narrowed_items m below xs
+  items_same below [] = refl
+  items_same below (x ∷ xs) =
+      let set : List ℕ → Item = λ ys. record x { set = cond below ys x.set } in
+      ap₂ (λ y ys. y ∷ ys) (ap set (filters_same x.set)) (items_same (below || not x.star) xs)
+
+  narrowed_same : (to : PatternValue) → narrowed k to ≡ narrowed m to
+  narrowed_same to = ap (λ items. let d : PatternValue = record to { items = items } in d) (items_same false to.items)
+
+  pub all_same : (tos : List PatternValue) → map (narrowed k) tos ≡ map (narrowed m) tos
+  all_same [] = refl
+  all_same (to ∷ tos) = ap₂ (λ d ds. d ∷ ds) (narrowed_same to) (all_same tos)
+
+-- ---- the laws that are called
+
+module _ {S W Map : Type 0} (operations : S → Operations W Map) where
+  abbrev pub Closes : Type 0
+  Closes = (b : BookValue S W Map Pre) → IsBook operations (pre_way operations) b → b.journal ≡ [] → (c : BookValue S W Map Pre) × IsClosedAlone operations (pre_way operations) b c
+
+  abbrev pub Opens : Type 0
+  Opens = (p : Pushdown S W Map) (d : Pre) (o : Opening) → IsSystem operations p → IsTrue (fits_pre p o) → IsBook operations (pre_way operations) (just_opened operations (pre_way operations) p d o)
+
+  abbrev pub HasSums : Type 0
+  HasSums = (b : BookValue S W Map Pre) (pattern : PatternValue) → IsBook operations (pre_way operations) b → IsClosed b → pattern.control < b.system.controls
+      → (a : Answer S W Map) × IsSumOf operations (pre_way operations) b pattern a
+
+  abbrev pub Agree : Type 0
+  Agree = (p : Pushdown S W Map) (from to : Configuration → Bool) (v w : W) (xs ys : List (List ℕ)) → IsSystem operations p
+      → AnswersIn operations p from to v xs → AnswersIn operations p from to w ys → v ≡ w
+
+  abbrev pub Narrow : Type 0
+  Narrow = (p : Pushdown S W Map) (from to : PatternValue) (v : W) (runs : List (List ℕ))
+      → AnswersIn operations p (has_member from) (has_member (narrowed (may_stand_below p.rules from) to)) v runs ↔ AnswersIn operations p (has_member from) (has_member to) v runs
+
+abbrev pub JointOpeningsRead : Type 0
+JointOpeningsRead = (patterns : List PatternValue) (controls : ℕ) → All (λ (d : PatternValue). d.control < controls) patterns
+    → (k : ℕ) (d : PatternValue) (finals : List ℕ) → slice_get patterns k ≡ Some d → slice_get (joint_finals controls patterns) k ≡ Some finals
+    → (c : Configuration) → c.control < controls → IsOpened (record { edges = joint_edges controls patterns; finals = finals }) c ↔ IsTrue (has_member d c)
+
+module _ {S W Map : Type 0} (operations : S → Operations W Map) (p : Pushdown S W Map) (valid : IsSystem operations p) (workers : ℕ) (some : IsWorkerCount workers) where
+  -- there is an answer to each query
+  answer_exists : Closes operations → Opens operations → HasSums operations → OpeningsReadMembers → (from to : PatternValue) → from.control < p.controls → to.control < p.controls
+      → (a : Answer S W Map) × IsAnswer operations p Backward workers from to a
+  answer_exists closes opens sums law from to low_from low_to =
+      let o = opening_of p.controls to in
+      let opened = just_opened operations (pre_way operations) p (record {}) o in
+      let c = closes opened (opens p (record {}) o valid (pattern_fits p to)) refl in
+      let a = sums c.0 from c.1.book c.1.closed (subst (λ (q : Pushdown S W Map). from.control < q.controls) (sym c.1.base.system) low_from) in (
+        a.0,
+        backward_is operations law p c.0 a.0 from Backward workers from to a.1 low_to refl
+            (record { system = c.1.base.system; opening = c.1.base.opening; book = c.1.book; closed = c.1.closed; seats = c.1.seats workers some; alone = λ _. c.1.alone }),
+      )
+
+  -- a value that answers is that of an answer
+  value_of_answer : Closes operations → Opens operations → HasSums operations → OpeningsReadMembers → Agree operations → (from to : PatternValue) → from.control < p.controls → to.control < p.controls
+      → (v : W) (runs : List (List ℕ)) → Answers (operations p.semiring) p (has_member from) (has_member to) v runs → IsValueOf (IsAnswer operations p Backward workers from to) v
+  value_of_answer closes opens sums law agree from to low_from low_to v runs answers =
+      let a = answer_exists closes opens sums law from to low_from low_to in
+      (a.0, a.1, agree p (has_member from) (has_member to) v a.0.value runs (listed_runs a.0.listing) valid answers a.1.shows.answers)
+
+-- ---- the book that they share
+
+module _ {S W Map : Type 0} (operations : S → Operations W Map) (laws : (x : S) → IsSemiring (operations x)) (b : BookValue S W Map Pre)
+    (is : IsBook operations (pre_way operations) b) (closed : IsClosed b) where
+  lawful : IsLawful operations (pre_way {D = Pre} operations)
+  lawful d p o valid fits = pre_laws valid (laws p.semiring) o fits
+
+  -- a closed book is a finished saturation whatever the final states
+  pub saturated_to : (finals : List ℕ) → IsSaturatedTo operations (pre_way operations) b finals
+  saturated_to finals =
+      let shape = is.lock.shape in
+      record {
+        fits = is.fits;
+        sound = is.lock.sound;
+        opened = is.lock.opened;
+        applied = closed_applies operations laws (pre_way operations) lawful b is closed;
+        shape = record { places = shape.places; seats = refl; queue = tt; present = λ x h. absurd h; nodes = shape.nodes; tight = shape.tight };
+      }
+
+module _ {S W Map D : Type 0} (operations : S → Operations W Map) (way : Way S W Map D) (b : BookValue S W Map D) (pattern : PatternValue) where
+  value_at : (sets : List (List ℕ)) (vs : List W) → AreValuesTo operations way b pattern sets vs → (k : ℕ) (v : W) → slice_get vs k ≡ Some v
+      → (finals : List ℕ) × (slice_get sets k ≡ Some finals) × IsValueTo operations way b pattern finals v
+  value_at [] [] are k v e = cc
+  value_at [] (w ∷ vs) are k v e = absurd are
+  value_at (f ∷ sets) [] are k v e = absurd are
+  value_at (f ∷ sets) (w ∷ vs) are zero v e = (f, refl, subst (IsValueTo operations way b pattern f) (same_Some w v e) are.0)
+  value_at (f ∷ sets) (w ∷ vs) are (suc k) v e = value_at sets vs are.1 k v e
+
+  as_many : (sets : List (List ℕ)) (vs : List W) → AreValuesTo operations way b pattern sets vs → length vs ≡ length sets
+  as_many [] [] are = refl
+  as_many [] (w ∷ vs) are = absurd are
+  as_many (f ∷ sets) [] are = absurd are
+  as_many (f ∷ sets) (w ∷ vs) are = let rest = as_many sets vs are.1 in omega (arith, rest)
+
+finals_count : (states : ℕ) (ds : List PatternValue) → length (joint_finals states ds) ≡ length ds
+finals_count states [] = refl
+finals_count states (d ∷ ds) = let rest = finals_count (states + length d.items) ds in omega (arith, rest)
+
+map_count : {X Y : Type 0} (f : X → Y) (xs : List X) → length (map f xs) ≡ length xs
+map_count f [] = refl
+map_count f (x ∷ xs) = let rest = map_count f xs in omega (arith, rest)
+
+-- controls of narrowed patterns are those of the patterns
+all_low : (controls symbols : ℕ) (keep : ℕ → Bool) (tos : List PatternValue) → AllByRecursion (IsOver controls symbols) tos → AllByRecursion (λ (d : PatternValue). d.control < controls) (map (narrowed keep) tos)
+all_low controls symbols keep [] over = tt
+all_low controls symbols keep (d ∷ tos) over = (over.0.control, all_low controls symbols keep tos over.1)
+
+low_at : (controls symbols : ℕ) (tos : List PatternValue) → AllByRecursion (IsOver controls symbols) tos → (k : ℕ) (to : PatternValue) → slice_get tos k ≡ Some to → to.control < controls
+low_at controls symbols [] over k to e = cc
+low_at controls symbols (d ∷ tos) over zero to e = subst (λ (x : PatternValue). x.control < controls) (same_Some d to e) over.0.control
+low_at controls symbols (d ∷ tos) over (suc k) to e = low_at controls symbols tos over.1 k to e
+
+module _ {S W Map : Type 0} (operations : S → Operations W Map)
+    (closes : Closes operations) (opens : Opens operations) (sums : HasSums operations) (law : OpeningsReadMembers) (agree : Agree operations) (narrow : Narrow operations) (joint : JointOpeningsRead)
+    (p : Pushdown S W Map) (workers : ℕ) (from : PatternValue) (tos : List PatternValue) (b : BookValue S W Map Pre) (vs : List W)
+    (valid : IsSystem operations p) (some : IsWorkerCount workers) (low_from : from.control < p.controls) (over : All (IsOver p.controls p.symbols) tos)
+    (shared : IsSharedBy p (narrowed_for p from tos) b) (are : AreValuesTo operations (pre_way operations) b from (joint_finals p.controls (narrowed_for p from tos)) vs) where
+  abbrev keep : ℕ → Bool
+  keep = may_stand_below p.rules from
+
+  abbrev ns : List PatternValue
+  ns = narrowed_for p from tos
+
+  each_over : AllByRecursion (IsOver p.controls p.symbols) tos
+  each_over = recursion_from_All (IsOver p.controls p.symbols) tos over
+
+  low : All (λ (d : PatternValue). d.control < p.controls) ns
+  low = All-from_recursion (λ (d : PatternValue). d.control < p.controls) ns (all_low p.controls p.symbols keep tos each_over)
+
+  at_one : (k : ℕ) (to : PatternValue) (v : W) → slice_get tos k ≡ Some to → slice_get vs k ≡ Some v → IsValueOf (IsAnswer operations p Backward workers from to) v
+  at_one k to v there value =
+      let low_to = low_at p.controls p.symbols tos each_over k to there in
+      let n = narrowed keep to in
+      let one = value_at operations (pre_way operations) b from (joint_finals p.controls ns) vs are k v value in
+      let finals = one.0 in
+      let o : Opening = record { edges = joint_edges p.controls ns; finals = finals } in
+      let s = operations p.semiring in
+      let opens_at : AnswersOpening (operations b.system.semiring) Backward b.system (with_finals b.opening finals) (has_member from) v one.2.0 = one.2.1 in
+      let here : AnswersOpening s Backward p o (has_member from) v one.2.0 =
+      subst (λ u. AnswersOpening s Backward p (with_finals u finals) (has_member from) v one.2.0) shared.opening
+      (subst (λ (q : Pushdown S W Map). AnswersOpening (operations q.semiring) Backward q (with_finals b.opening finals) (has_member from) v one.2.0) shared.system opens_at) in
+      let reads = members_are_read n o p.controls low_to (joint ns p.controls low k n finals (mapped_at (narrowed keep) tos k to there) one.1) in
+      let answers : Answers s p (has_member from) (has_member n) v one.2.0 = here (has_member n) reads in
+      value_of_answer operations p valid workers some closes opens sums law agree from to low_from low_to v one.2.0 ((narrow p from to v one.2.0).0 answers)
+
+  -- each of the values is that of an answer
+  pub shared_values : AreValues operations p workers from tos vs
+  shared_values = record {
+    count = as_many operations (pre_way operations) b from (joint_finals p.controls ns) vs are ∙ finals_count p.controls ns ∙ map_count (narrowed keep) tos;
+    each = λ k to v there value. at_one k to v there value;
+  }
