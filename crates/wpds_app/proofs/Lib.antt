@@ -1,3 +1,4 @@
+mod GroupLemmas
 mod InputLemmas
 mod KeptLemmas
 mod LadderLemmas

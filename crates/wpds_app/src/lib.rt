@@ -12,6 +12,7 @@ mod report;
 mod request;
 mod status;
 mod texts;
+mod together;
 
 pub use input::Input;
 pub use laws::{

@@ -16,6 +16,7 @@ ghost use Rattle.wpds_app.specs.private.Kept.{AreKept, TellsAt, opened_text, sum
 
 use crate::alike::same_pattern;
 use crate::crew::Crew;
+use crate::together::lines_by_values;
 use copy_weights::CopyConst;
 use cost_weights::Cost;
 use document_forms::{Document, PatternText, QueryLine, WeightsLine};
@@ -50,8 +51,8 @@ fn answer_lines<S: DocumentWeights>(
     query_text(alloc, number, &value, &answer.listing, options)
 }
 
-// The line of the value of the query with a number.
-fn value_line<S: DocumentWeights>(
+/// The line of the value of the query with a number.
+pub(crate) fn value_line<S: DocumentWeights>(
     alloc: Global,
     semiring: &S,
     items: &Names,
@@ -121,8 +122,8 @@ fn query_lines<S: DocumentWeights>(
     )
 }
 
-// Keeps lines at a place.
-fn keep(kept: &mut [Option<Text>], place: usize, lines: Text)
+/// Keeps lines at a place.
+pub(crate) fn keep(kept: &mut [Option<Text>], place: usize, lines: Text)
     requires { place < length kept.old }
     ensures { kept.new ≡ slice_set kept.old place (Some lines) }
 {
@@ -168,6 +169,58 @@ fn keep_alike<S: DocumentWeights>(
 
 // The lines of the query at a place. Those of the later queries that start from the same pattern are kept: one saturation
 // serves them all.
+fn lines_by_saturation<
+    H: Threads + Wait + Sync,
+    S: DocumentWeights<W: Send + Sync, Ret: Send + Sync> + Send + Sync,
+    G: Gate,
+>(
+    crew: &Crew<'_, H, G>,
+    alloc: Global,
+    system: &System<S>,
+    document: &Document<Names>,
+    options: Options,
+    place: usize,
+    kept: &mut [Option<Text>],
+) -> Result<Text, OutOfMemory>
+    requires document { IsDocument document.now }
+    requires system { system.now ≡ system_of S.kind system.now.semiring document.now }
+    requires place { place < length document.now.queries }
+    requires room { length kept.old ≡ length document.now.queries }
+    requires kept { AreKept S.kind options system.now.semiring document.now kept.old }
+    requires workers { IsWorkerCount options.workers }
+    ensures lines { let semiring = system.now.semiring in
+        IfOk result (TellsAt S.kind options semiring document.now place) }
+    ensures kept { let semiring = system.now.semiring in
+        OnOk result (AreKept S.kind options semiring document.now kept.new) }
+    ensures room { length kept.new ≡ length kept.old }
+{
+    let query = &document.queries.as_slice()[place];
+    let opened = opened_text(options.by, query);
+    let pattern = pattern_from(alloc, system, opened)?;
+    let saturation = saturate(
+        crew.rt,
+        alloc,
+        system,
+        options.by,
+        options.workers,
+        &pattern,
+        crew.gate,
+    )?;
+    let number = place as u64 + 1;
+    let lines = query_lines(alloc, &saturation, document, options, number, query)?;
+    keep_alike(
+        alloc,
+        &saturation,
+        document,
+        options,
+        opened,
+        place + 1,
+        kept,
+    )?;
+    Ok(lines)
+}
+
+// The lines of the query at a place. Lines of later queries that are found with them are kept.
 fn lines_at<
     H: Threads + Wait + Sync,
     S: DocumentWeights<W: Send + Sync, Ret: Send + Sync> + Send + Sync,
@@ -196,30 +249,11 @@ fn lines_at<
     if let Some(lines) = kept[place].take() {
         return Ok(lines);
     }
-    let query = &document.queries.as_slice()[place];
-    let opened = opened_text(options.by, query);
-    let pattern = pattern_from(alloc, system, opened)?;
-    let saturation = saturate(
-        crew.rt,
-        alloc,
-        system,
-        options.by,
-        options.workers,
-        &pattern,
-        crew.gate,
-    )?;
-    let number = place as u64 + 1;
-    let lines = query_lines(alloc, &saturation, document, options, number, query)?;
-    keep_alike(
-        alloc,
-        &saturation,
-        document,
-        options,
-        opened,
-        place + 1,
-        kept,
-    )?;
-    Ok(lines)
+    if options.is_brief() && options.by == Side::Pre {
+        lines_by_values(crew, alloc, system, document, options, place, kept)
+    } else {
+        lines_by_saturation(crew, alloc, system, document, options, place, kept)
+    }
 }
 
 // As many places for lines, where nothing is kept yet.

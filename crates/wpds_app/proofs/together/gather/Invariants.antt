@@ -1,0 +1,5 @@
+use Rattle.wpds_app.specs.private.Groups.{IsGroup}
+use Rattle.wpds_app.proofs.together.gather.Given as goal
+
+abbrev pub invariant-loop-k : goal.invariant-loop-k
+invariant-loop-k g l = IsGroup l.document l.place l.group

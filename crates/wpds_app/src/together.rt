@@ -1,0 +1,228 @@
+//! Queries that begin at one pattern are answered together where values alone are asked for, backwards.
+
+ghost use Rattle.std.specs.Prelude.{◌≡◌, ◌<◌, [], ◌∷◌, ◌++◌, IfOk, IsTrue, OnOk, length};
+ghost use Rattle.wpds_base.specs.Limits.{most_queries};
+ghost use Rattle.pattern_openings.specs.PatternOpenings.{IsOver};
+ghost use Rattle.document_forms.specs.Lawful.{IsDocument, IsQueryOf};
+ghost use Rattle.document_systems.specs.Systems.{system_of, side_of};
+ghost use Rattle.witness_graph.specs.declared.node.Side.TheVariants.{Pre as Backward};
+ghost use Rattle.worker_pool.specs.Workers.{IsWorkerCount};
+ghost use Rattle.report_text.specs.Reports.{IsBrief};
+ghost use Rattle.wpds_app.specs.private.Groups.{IsGroup};
+ghost use Rattle.wpds_app.specs.private.Kept.{AreKept, TellsAt};
+
+use crate::alike::same_pattern;
+use crate::crew::Crew;
+use crate::report::{keep, value_line};
+use config_patterns::Pattern;
+use document_forms::{Document, QueryLine};
+use document_systems::{DocumentWeights, Names, pattern_from};
+use pushdown_rules::System;
+use query_answers::values_from;
+use report_text::Options;
+use semiring_laws::Semiring;
+use std::alloc::Global;
+use std::sync::Wait;
+use std::thread::Threads;
+use wpds_base::OutOfMemory;
+use wpds_port::{Gate, Text};
+
+// How many queries a group has at most, how many edges their patterns have together, how many transitions over a symbol the
+// states of their items may come to have, one for each control, and how many pairs of a state of the pattern where runs
+// begin and one of the saturation a walk may come to.
+const MOST_QUERIES: usize = 1000;
+
+const MOST_EDGES: u64 = 1_000_000;
+
+const MOST_TRANSITIONS: u64 = 4_000_000;
+
+const MOST_PAIRS: u64 = 4_000_000;
+
+/// Queries that begin at one pattern, by their places, with the patterns where they end.
+#[derive(Drop)]
+struct Group {
+    // how many states the pattern has where they begin
+    states: u64,
+    places: Vec<usize>,
+    ends: Vec<Pattern>,
+    // how many edges and items the patterns have
+    edges: u64,
+    items: u64,
+}
+
+// How many edges the automaton of a pattern has: an item's symbols lead to it from itself if it has a star, and from each
+// state before it with nothing but starred items between.
+fn edge_count(pattern: &Pattern) -> u64 {
+    let mut edges = 0u64;
+    let mut sources = 1u64;
+    for k in 0..pattern.items() {
+        let item = pattern.item(k);
+        let from = sources.saturating_add(item.star as u64);
+        edges = edges.saturating_add(from.saturating_mul(item.set.len() as u64));
+        sources = if item.star { from } else { 1 };
+    }
+    edges
+}
+
+impl Group {
+    // The query at a place alone, which ends at this pattern, and begins at one with so many states.
+    fn alone(alloc: Global, states: u64, place: usize, end: Pattern) -> Result<Group, OutOfMemory>
+        ensures places { IfOk result (λ g. g.places.items ≡ place ∷ []) }
+        ensures ends { IfOk result (λ g. g.ends.items ≡ end ∷ []) }
+    {
+        let mut places = Vec::new(alloc);
+        let mut ends = Vec::new(alloc);
+        let (edges, items) = (edge_count(&end), end.items() as u64);
+        places.push(place)?;
+        ends.push(end)?;
+        Ok(Group {
+            states,
+            places,
+            ends,
+            edges,
+            items,
+        })
+    }
+
+    // Whether a query that ends at this pattern may come to the group. The transitions of a group are in memory at once,
+    // and what is saturated from each pattern is kept until all are: within these limits they take no more, in order, than
+    // what one query may take.
+    fn has_room<S: Semiring>(&self, system: &System<S>, end: &Pattern) -> bool
+        ensures { IsTrue result → length self.now.ends.items < most_queries }
+    {
+        let edges = self.edges.saturating_add(edge_count(end));
+        let items = self.items.saturating_add(end.items() as u64);
+        let transitions = items
+            .saturating_mul(system.controls() as u64)
+            .saturating_mul(system.symbols() as u64);
+        let pairs = items
+            .saturating_add(system.controls() as u64)
+            .saturating_mul(self.states);
+        self.ends.len() < MOST_QUERIES
+            && edges <= MOST_EDGES
+            && transitions <= MOST_TRANSITIONS
+            && pairs <= MOST_PAIRS
+    }
+
+    // Adds the query at a place, which ends at this pattern.
+    fn add(&mut self, place: usize, end: Pattern) -> Result<(), OutOfMemory>
+        ensures places { OnOk result (self.new.places.items ≡ self.old.places.items ++ place ∷ []) }
+        ensures ends { OnOk result (self.new.ends.items ≡ self.old.ends.items ++ end ∷ []) }
+    {
+        self.edges = self.edges.saturating_add(edge_count(&end));
+        self.items = self.items.saturating_add(end.items() as u64);
+        self.places.push(place)?;
+        self.ends.push(end)?;
+        Ok(())
+    }
+}
+
+// The pattern where a query ends.
+fn end_of<S: DocumentWeights>(
+    alloc: Global,
+    system: &System<S>,
+    document: &Document<Names>,
+    query: &QueryLine,
+) -> Result<Pattern, OutOfMemory>
+    requires system { system.now ≡ system_of S.kind system.now.semiring document.now }
+    requires query { IsQueryOf document.now query.now }
+    ensures value { IfOk result (λ p. p ≡ side_of document.now query.now.to) }
+    ensures over { IfOk result (IsOver system.now.controls system.now.symbols) }
+{
+    pattern_from(alloc, system, &query.to)
+}
+
+// The query at a place, and those of the later ones of which nothing is kept that begin at the same pattern: as many as a
+// group takes.
+fn gather<S: DocumentWeights>(
+    alloc: Global,
+    system: &System<S>,
+    document: &Document<Names>,
+    place: usize,
+    kept: &[Option<Text>],
+) -> Result<Group, OutOfMemory>
+    requires document { IsDocument document.now }
+    requires system { system.now ≡ system_of S.kind system.now.semiring document.now }
+    requires place { place < length document.now.queries }
+    requires room { length kept.now ≡ length document.now.queries }
+    ensures { IfOk result (IsGroup document.now place) }
+{
+    let queries = document.queries.as_slice();
+    let first = &queries[place];
+    let states = (first.from.items.len() as u64).saturating_add(1);
+    let mut group = Group::alone(
+        alloc,
+        states,
+        place,
+        end_of(alloc, system, document, first)?,
+    )?;
+    for k in place + 1..queries.len() {
+        let query = &queries[k];
+        if kept[k].is_some() || !same_pattern(&query.from, &first.from) {
+            continue;
+        }
+        let end = end_of(alloc, system, document, query)?;
+        if !group.has_room(system, &end) {
+            break;
+        }
+        group.add(k, end)?;
+    }
+    Ok(group)
+}
+
+// A semiring computes what documents mean by it.
+fn kind_computes<S: DocumentWeights>()
+    ensures { S.kind.operations ≡ S.operations }
+{}
+
+/// The line of the query at a place, where values alone are written and runs are followed backwards. Those of later
+/// queries that begin at the same pattern are kept: the values of a group of them are found together.
+pub(crate) fn lines_by_values<
+    H: Threads + Wait + Sync,
+    S: DocumentWeights<W: Send + Sync, Ret: Send + Sync> + Send + Sync,
+    G: Gate,
+>(
+    crew: &Crew<'_, H, G>,
+    alloc: Global,
+    system: &System<S>,
+    document: &Document<Names>,
+    options: Options,
+    place: usize,
+    kept: &mut [Option<Text>],
+) -> Result<Text, OutOfMemory>
+    requires document { IsDocument document.now }
+    requires system { system.now ≡ system_of S.kind system.now.semiring document.now }
+    requires place { place < length document.now.queries }
+    requires room { length kept.old ≡ length document.now.queries }
+    requires kept { AreKept S.kind options system.now.semiring document.now kept.old }
+    requires workers { IsWorkerCount options.workers }
+    requires brief { IsBrief options }
+    requires backward { options.by ≡ Backward }
+    ensures lines { let semiring = system.now.semiring in
+        IfOk result (TellsAt S.kind options semiring document.now place) }
+    ensures kept { let semiring = system.now.semiring in
+        OnOk result (AreKept S.kind options semiring document.now kept.new) }
+    ensures room { length kept.new ≡ length kept.old }
+{
+    kind_computes::<S>();
+    let group = gather(alloc, system, document, place, kept)?;
+    let from = pattern_from(alloc, system, &document.queries.as_slice()[place].from)?;
+    let ends = group.ends.as_slice();
+    let values = values_from(
+        crew.rt,
+        alloc,
+        system,
+        options.workers,
+        &from,
+        ends,
+        crew.gate,
+    )?;
+    let (semiring, names) = (system.semiring(), &document.items);
+    for j in 1..values.len() {
+        let later = group.places[j];
+        prove!(later < kept.len());
+        let line = value_line(alloc, semiring, names, later as u64 + 1, &values[j])?;
+        keep(kept, later, line);
+    }
+    value_line(alloc, semiring, names, place as u64 + 1, &values[0])
+}
