@@ -11,10 +11,10 @@ use witness_graph::{Listing, Node, Side};
 use wpds_port::OpenGate;
 
 // A query: a control and items to start from, a control and items to end in.
-type Query = (u32, Items<'static>, u32, Items<'static>);
+pub(crate) type Query = (u32, Items<'static>, u32, Items<'static>);
 
 // A query with the cost of its answer.
-type Row = (Query, Option<u64>);
+pub(crate) type Row = (Query, Option<u64>);
 
 // The answer to a query between controls of the system, by a direction.
 fn answer_to<S: Semiring<W: Send + Sync, Ret: Send + Sync> + Send + Sync>(

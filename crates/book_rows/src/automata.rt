@@ -1,9 +1,12 @@
 use semiring_laws::Reach;
+use std::alloc::Global;
+use std::process::Abort;
 use std::test::Fail;
 use weighted_automata::{
     Label, Place, Transitions, lowering_changes_one_place, places_are_told_apart,
     places_stand_once, transitions_stand_at_their_places,
 };
+use wpds_base::OutOfMemory;
 
 const fn place(from: u32, label: Label, to: u32) -> Place {
     Place { from, label, to }
@@ -13,11 +16,51 @@ const A: Label = Label::Symbol(0);
 
 const B: Label = Label::Symbol(1);
 
+// A place, its weight and node, and where it stands then.
+type Lowered = (Place, bool, u64, u64);
+
+fn check_lowered(
+    rt: &impl Abort,
+    transitions: &mut Transitions<Reach>,
+    alloc: Global,
+    (at, weight, node, stands): Lowered,
+) {
+    assert_eq!(rt; transitions.lower(alloc, at, weight, node), Ok(stands));
+    assert_eq!(rt; transitions.find(at), Some(stands));
+    assert!(rt; stands < transitions.len());
+    let entry = transitions.entry(stands);
+    assert_eq!(rt; (entry.place, entry.weight, entry.node), (at, weight, node));
+}
+
+// Where the transitions from a state with a label stand.
+fn check_from(
+    rt: &impl Abort,
+    transitions: &Transitions<Reach>,
+    state: u32,
+    label: Label,
+    stand: [Option<u64>; 3],
+) {
+    for (k, stands) in stand.into_iter().enumerate() {
+        assert_eq!(rt; transitions.from_state(state, label, k), stands);
+    }
+}
+
+// Where the transitions into a state stand.
+fn check_into(
+    rt: &impl Abort,
+    transitions: &Transitions<Reach>,
+    state: u32,
+    stand: [Option<u64>; 5],
+) {
+    for (k, stands) in stand.into_iter().enumerate() {
+        assert_eq!(rt; transitions.into_state(state, k), stands);
+    }
+}
+
 #[test]
-fn lowers_and_finds(rt: HostRuntime) -> Result<(), Fail> {
+fn lowers_and_finds(rt: HostRuntime) {
     let alloc = rt.alloc();
     let mut transitions: Transitions<Reach> = Transitions::new(alloc);
-    // a place, its weight and node, and where it stands then
     let steps = [
         (place(0, A, 1), false, 10u64, 0u64),
         (place(0, Label::Empty, 1), true, 11, 1),
@@ -26,12 +69,8 @@ fn lowers_and_finds(rt: HostRuntime) -> Result<(), Fail> {
         (place(0, B, 1), true, 14, 3),
         (place(2, A, 1), true, 15, 4),
     ];
-    for (at, weight, node, stands) in steps {
-        assert_eq!(rt; transitions.lower(alloc, at, weight, node), Ok(stands));
-        assert_eq!(rt; transitions.find(at), Some(stands));
-        assert!(rt; stands < transitions.len());
-        let entry = transitions.entry(stands);
-        assert_eq!(rt; (entry.place, entry.weight, entry.node), (at, weight, node));
+    for step in steps {
+        check_lowered(&rt, &mut transitions, alloc, step);
     }
     assert_eq!(rt; transitions.len(), 5);
     assert_eq!(rt; transitions.find(place(2, B, 1)), None);
@@ -43,9 +82,7 @@ fn lowers_and_finds(rt: HostRuntime) -> Result<(), Fail> {
         (2, A, [Some(4), None, None]),
         (1, A, [None; 3]),
     ] {
-        for (k, stands) in stand.into_iter().enumerate() {
-            assert_eq!(rt; transitions.from_state(state, label, k), stands);
-        }
+        check_from(&rt, &transitions, state, label, stand);
     }
     // a state, and where the transitions into it stand
     for (state, stand) in [
@@ -53,27 +90,21 @@ fn lowers_and_finds(rt: HostRuntime) -> Result<(), Fail> {
         (2, [Some(2), None, None, None, None]),
         (0, [None; 5]),
     ] {
-        for (k, stands) in stand.into_iter().enumerate() {
-            assert_eq!(rt; transitions.into_state(state, k), stands);
-        }
+        check_into(&rt, &transitions, state, stand);
     }
-    Ok(())
 }
 
-#[test]
-fn walks_rows(rt: HostRuntime) -> Result<(), Fail> {
-    let alloc = rt.alloc();
-    let mut transitions: Transitions<Reach> = Transitions::new(alloc);
-    for (from, label, to) in [
-        (0, A, 1),
-        (0, Label::Empty, 1),
-        (0, A, 2),
-        (0, B, 1),
-        (2, A, 1),
-        (3, Label::Empty, 1),
-    ] {
-        transitions.lower(alloc, place(from, label, to), true, 0)?;
+// Transitions at these places, in order.
+fn made(alloc: Global, places: &[(u32, Label, u32)]) -> Result<Transitions<Reach>, OutOfMemory> {
+    let mut transitions = Transitions::new(alloc);
+    for (from, label, to) in places {
+        transitions.lower(alloc, place(*from, *label, *to), true, 0)?;
     }
+    Ok(transitions)
+}
+
+// Where rows begin.
+fn check_firsts(rt: &impl Abort, transitions: &Transitions<Reach>) {
     // a state, a label, and where the first transition from there stands
     for (state, label, first) in [
         (0, A, Some(0u64)),
@@ -92,6 +123,10 @@ fn walks_rows(rt: HostRuntime) -> Result<(), Fail> {
         assert_eq!(rt; transitions.first_out_of(state), out);
         assert_eq!(rt; transitions.first_empty_into(state), empty);
     }
+}
+
+// How rows go on.
+fn check_nexts(rt: &impl Abort, transitions: &Transitions<Reach>) {
     // for each, and one behind the last: the next with its state and label, the next with its state, and
     // the next that reads nothing into where it goes, if it reads nothing
     let nexts = [
@@ -108,7 +143,34 @@ fn walks_rows(rt: HostRuntime) -> Result<(), Fail> {
         assert_eq!(rt; transitions.next_out_of(k as u64), out);
         assert_eq!(rt; transitions.next_empty_into(k as u64), empty);
     }
+}
+
+#[test]
+fn walks_rows(rt: HostRuntime) -> Result<(), Fail> {
+    let places = [
+        (0, A, 1),
+        (0, Label::Empty, 1),
+        (0, A, 2),
+        (0, B, 1),
+        (2, A, 1),
+        (3, Label::Empty, 1),
+    ];
+    let transitions = made(rt.alloc(), &places)?;
+    check_firsts(&rt, &transitions);
+    check_nexts(&rt, &transitions);
     Ok(())
+}
+
+fn check_roomy(
+    rt: &impl Abort,
+    transitions: &mut Transitions<Reach>,
+    alloc: Global,
+    at: Place,
+    number: u64,
+) {
+    assert!(rt; transitions.has_room(at));
+    assert_eq!(rt; transitions.lower(alloc, at, true, number), Ok(number));
+    assert!(rt; transitions.has_room(at));
 }
 
 #[test]
@@ -120,9 +182,7 @@ fn room_first(rt: HostRuntime) -> Result<(), Fail> {
     transitions.reserve(alloc, &places)?;
     assert_eq!(rt; transitions.len(), 0);
     for (k, at) in places.into_iter().enumerate() {
-        assert!(rt; transitions.has_room(at));
-        assert_eq!(rt; transitions.lower(alloc, at, true, k as u64), Ok(k as u64));
-        assert!(rt; transitions.has_room(at));
+        check_roomy(&rt, &mut transitions, alloc, at, k as u64);
     }
     assert!(rt; !transitions.has_room(place(0, B, 1)));
     places_are_told_apart();

@@ -4,6 +4,7 @@ use saturation_core::{Book, Done, NumberedPlace, QueuedTransitions, Taken};
 use saturation_laws::{Direction, Opening, PlaceList, StateList};
 use semiring_laws::{Reach, Semiring};
 use std::alloc::Global;
+use std::process::Abort;
 use std::test::Fail;
 use weighted_automata::{Label, Place};
 use witness_graph::{Node, Side};
@@ -119,20 +120,52 @@ fn counts<S: Semiring, D: Direction<S>>(book: &Book<'_, S, D>, seat: u32) -> (u1
     (book.takes(), book.takes_of(seat))
 }
 
+// What a book over these edges holds before a seat takes.
+fn check_opened(rt: &impl Abort, book: &Book<'_, Reach, Gather>, edges: &[Place]) {
+    assert!(rt; book.direction().same_way(&FORWARDS));
+    assert_eq!(rt; book.opening().edges.as_slice(), edges);
+    assert_eq!(rt; book.system().rules(), 0);
+    assert_eq!(rt; book.transitions().find(place(1, 2)), Some(1));
+    assert_eq!(rt; (book.transitions().len(), book.graph().len()), (2, 1));
+    assert!(rt; !book.is_closed());
+}
+
+// A seat that gives back first, a seat that asks, the answer, the takes, and those of the seat.
+type Asked = (Option<u32>, u32, Answer, u128, u128);
+
+fn check_asked(
+    rt: &impl Abort,
+    book: &mut Book<'_, Reach, Gather>,
+    alloc: Global,
+    (back, seat, answer, takes, own): Asked,
+) -> Result<(), OutOfMemory> {
+    if let Some(giver) = back {
+        assert!(rt; give(book, giver));
+    }
+    assert_eq!(rt; ask(book, alloc, seat)?, answer);
+    assert_eq!(rt; counts(book, seat), (takes, own));
+    assert!(rt; !book.is_closed());
+    Ok(())
+}
+
+fn check_all_asked(
+    rt: &impl Abort,
+    book: &mut Book<'_, Reach, Gather>,
+    alloc: Global,
+    rows: &[Asked],
+) -> Result<(), OutOfMemory> {
+    for row in rows {
+        check_asked(rt, book, alloc, *row)?;
+    }
+    Ok(())
+}
+
 #[test]
 fn seats_take_in_turn(rt: HostRuntime) -> Result<(), Fail> {
     let alloc = rt.alloc();
     let system = System::new(alloc, Reach, 1, 1);
     let edges = [place(0, 1), place(1, 2), place(0, 1)];
-    let mut book = opened(alloc, &system, &edges)?;
-    assert!(rt; book.direction().same_way(&FORWARDS));
-    assert_eq!(rt; book.opening().edges.as_slice(), edges.as_slice());
-    assert_eq!(rt; book.system().rules(), 0);
-    assert_eq!(rt; book.transitions().find(place(1, 2)), Some(1));
-    assert_eq!(rt; (book.transitions().len(), book.graph().len()), (2, 1));
-    assert!(rt; !book.is_closed());
-    // a seat that gives back first, a seat that asks, the answer, the takes, and those of the seat
-    for (back, seat, answer, takes, own) in [
+    let rows = [
         (None, 7, Answer::Hand(7), 1u128, 1u128),
         (None, 63, Answer::Hand(63), 2, 1),
         (None, 1, Answer::Idle((1u64 << 63) + 128), 2, 0),
@@ -140,14 +173,10 @@ fn seats_take_in_turn(rt: HostRuntime) -> Result<(), Fail> {
         (Some(7), 1, Answer::Hand(1), 3, 1),
         (Some(63), 63, Answer::Hand(63), 4, 2),
         (None, 7, Answer::Idle((1 << 63) + 2), 4, 1),
-    ] {
-        if let Some(giver) = back {
-            assert!(rt; give(&mut book, giver));
-        }
-        assert_eq!(rt; ask(&mut book, alloc, seat)?, answer);
-        assert_eq!(rt; counts(&book, seat), (takes, own));
-        assert!(rt; !book.is_closed());
-    }
+    ];
+    let mut book = opened(alloc, &system, &edges)?;
+    check_opened(&rt, &book, &edges);
+    check_all_asked(&rt, &mut book, alloc, &rows)?;
     assert!(rt; !give(&mut book, 7));
     Ok(())
 }
@@ -206,18 +235,22 @@ struct Story {
 }
 
 // The turns of the seats, one after another.
+fn tell(book: &mut Book<'_, Reach, Gather>, alloc: Global) -> Result<Story, OutOfMemory> {
+    Ok(Story {
+        turns: turns(book, alloc)?,
+        lowered: found(book),
+        hub: turn(book, alloc, 1)?,
+        edge: turn(book, alloc, 1)?,
+        last: ask(book, alloc, 63)?,
+        end: found(book),
+        takes: counts(book, 1),
+    })
+}
+
 fn play(alloc: Global) -> Result<Story, OutOfMemory> {
     let system = System::new(alloc, Reach, 1, 1);
     let mut book = opened(alloc, &system, &[place(0, 1), place(1, 2)])?;
-    Ok(Story {
-        turns: turns(&mut book, alloc)?,
-        lowered: found(&book),
-        hub: turn(&mut book, alloc, 1)?,
-        edge: turn(&mut book, alloc, 1)?,
-        last: ask(&mut book, alloc, 63)?,
-        end: found(&book),
-        takes: counts(&book, 1),
-    })
+    tell(&mut book, alloc)
 }
 
 #[test]
@@ -265,12 +298,32 @@ fn held_over(
     Ok(Some((before && given, book.holds(&done))))
 }
 
-// The same of a book whose system has one rule, over a system with a rule of each weight.
+// The same over a system with a rule of each weight.
+fn held_with(
+    book: &mut Book<'_, Reach, Gather>,
+    alloc: Global,
+    weights: &[bool],
+    side: Side,
+) -> Result<Option<(bool, bool)>, RuleFault> {
+    let other = with_rules(alloc, weights)?;
+    Ok(held_over(book, alloc, &other, side)?)
+}
+
+// The same of a book over this system.
+fn held_in(
+    alloc: Global,
+    system: &System<Reach>,
+    weights: &[bool],
+    side: Side,
+) -> Result<Option<(bool, bool)>, RuleFault> {
+    let mut book = opened(alloc, system, &[place(0, 1)])?;
+    held_with(&mut book, alloc, weights, side)
+}
+
+// The same of a system that has one rule.
 fn held_by(alloc: Global, weights: &[bool], side: Side) -> Result<Option<(bool, bool)>, RuleFault> {
     let system = with_rules(alloc, &[true])?;
-    let other = with_rules(alloc, weights)?;
-    let mut book = opened(alloc, &system, &[place(0, 1)])?;
-    Ok(held_over(&mut book, alloc, &other, side)?)
+    held_in(alloc, &system, weights, side)
 }
 
 #[test]
@@ -290,19 +343,33 @@ fn held_where_hand_side_and_rules_agree(rt: HostRuntime) -> Result<(), Fail> {
     Ok(())
 }
 
+// The hand of seat 9 of a book over one edge.
+fn check_worked(rt: &impl Abort, done: &Done<'_, Reach, Gather>) {
+    assert_eq!(rt; (done.seat(), done.side()), (9, Side::Post));
+    assert_eq!(rt; done.candidates().as_slice(), [true].as_slice());
+    assert_eq!(rt; done.jobs().as_slice().len(), 1);
+    assert_eq!(rt; done.system().rules(), 0);
+}
+
+fn check_work(
+    rt: &impl Abort,
+    book: &mut Book<'_, Reach, Gather>,
+    alloc: Global,
+) -> Result<(), OutOfMemory> {
+    let done = work(book, alloc, 9)?;
+    assert!(rt; done.is_some());
+    if let Some(done) = &done {
+        check_worked(rt, done);
+    }
+    Ok(())
+}
+
 #[test]
 fn worked_out(rt: HostRuntime) -> Result<(), Fail> {
     let alloc = rt.alloc();
     let system = System::new(alloc, Reach, 1, 1);
     let mut book = opened(alloc, &system, &[place(0, 1)])?;
-    let done = work(&mut book, alloc, 9)?;
-    assert!(rt; done.is_some());
-    if let Some(done) = done {
-        assert_eq!(rt; (done.seat(), done.side()), (9, Side::Post));
-        assert_eq!(rt; done.candidates().as_slice(), [true].as_slice());
-        assert_eq!(rt; done.jobs().as_slice().len(), 1);
-        assert_eq!(rt; done.system().rules(), 0);
-    }
+    check_work(&rt, &mut book, alloc)?;
     Ok(())
 }
 

@@ -1,5 +1,6 @@
 use semiring_laws::Reach;
 use std::alloc::Global;
+use std::process::Abort;
 use std::test::Fail;
 use witness_graph::{
     Graph, Listing, Node, Overlay, Side, listing_stays_tight, post_order_has_the_reached,
@@ -46,103 +47,109 @@ fn listed(alloc: Global, nodes: &[Node]) -> Result<Listing, OutOfMemory> {
     graph.listing(alloc, len - 1)
 }
 
+// Lists the last of these nodes.
+fn check_listing(
+    rt: &impl Abort,
+    alloc: Global,
+    nodes: &[Node],
+    want: &[Node],
+) -> Result<(), OutOfMemory> {
+    let listing = listed(alloc, nodes)?;
+    assert_eq!(rt; listing.side, Side::Post);
+    assert_eq!(rt; listing.nodes.as_slice(), want);
+    assert_eq!(rt; listing.nodes.into_vec().as_slice(), want);
+    Ok(())
+}
+
 #[test]
 fn listings(rt: HostRuntime) -> Result<(), Fail> {
-    let alloc = rt.alloc();
-    let cases = [
+    let rows: [(&[Node], &[Node]); 3] = [
         // one node
-        (vec![in alloc; START]?, vec![in alloc; START]?),
+        (&[START], &[START]),
         // nodes that are not reached
         (
-            vec![in alloc;
+            &[
                 START,
                 START,
                 lower(None, Some(7), Some(0), None),
                 START,
                 lower(None, Some(0), Some(1), None),
-            ]?,
-            vec![in alloc; START, lower(None, Some(0), Some(0), None)]?,
+            ],
+            &[START, lower(None, Some(0), Some(0), None)],
         ),
         // before, first and second, in this order
         (
-            vec![in alloc;
+            &[
                 lower(None, Some(1), None, None),
                 lower(None, Some(2), None, None),
                 lower(None, Some(3), None, None),
                 lower(Some(2), None, Some(0), Some(1)),
-            ]?,
-            vec![in alloc;
+            ],
+            &[
                 lower(None, Some(3), None, None),
                 lower(None, Some(1), None, None),
                 lower(None, Some(2), None, None),
                 lower(Some(0), None, Some(1), Some(2)),
-            ]?,
+            ],
         ),
     ];
-    for (nodes, want) in cases {
-        let listing = listed(alloc, &nodes)?;
-        assert_eq!(rt; listing.side, Side::Post);
-        assert_eq!(rt; listing.nodes.as_slice(), want.as_slice());
-        assert_eq!(rt; listing.nodes.into_vec().as_slice(), want.as_slice());
+    for (nodes, want) in rows {
+        check_listing(&rt, rt.alloc(), nodes, want)?;
     }
     Ok(())
 }
 
 #[test]
 fn listings_of_shared_nodes(rt: HostRuntime) -> Result<(), Fail> {
-    let alloc = rt.alloc();
-    let cases = [
+    let rows: [(&[Node], &[Node]); 3] = [
         // a chain of nodes before
         (
-            vec![in alloc;
+            &[
                 START,
                 lower(None, Some(5), Some(0), None),
                 lower(Some(1), Some(6), Some(0), Some(0)),
                 lower(Some(2), Some(7), None, None),
-            ]?,
-            vec![in alloc;
+            ],
+            &[
                 START,
                 lower(None, Some(5), Some(0), None),
                 lower(Some(1), Some(6), Some(0), Some(0)),
                 lower(Some(2), Some(7), None, None),
-            ]?,
+            ],
         ),
         // a diamond, its right side first
         (
-            vec![in alloc;
+            &[
                 START,
                 lower(None, Some(1), Some(0), None),
                 lower(None, Some(2), Some(0), None),
                 lower(None, None, Some(2), Some(1)),
-            ]?,
-            vec![in alloc;
+            ],
+            &[
                 START,
                 lower(None, Some(2), Some(0), None),
                 lower(None, Some(1), Some(0), None),
                 lower(None, None, Some(1), Some(2)),
-            ]?,
+            ],
         ),
         // a node that is reached through two others, and from the root
         (
-            vec![in alloc;
+            &[
                 START,
                 lower(None, Some(1), Some(0), None),
                 lower(Some(1), Some(2), Some(1), None),
                 lower(Some(0), None, Some(2), Some(1)),
-            ]?,
-            vec![in alloc;
+            ],
+            &[
                 START,
                 lower(None, Some(1), Some(0), None),
                 lower(Some(1), Some(2), Some(1), None),
                 lower(Some(0), None, Some(2), Some(1)),
-            ]?,
+            ],
         ),
     ];
-    for (nodes, want) in cases {
-        let listing = listed(alloc, &nodes)?;
-        assert_eq!(rt; listing.side, Side::Post);
-        assert_eq!(rt; listing.nodes.as_slice(), want.as_slice());
-        assert_eq!(rt; listing.nodes.into_vec().as_slice(), want.as_slice());
+    for (nodes, want) in rows {
+        check_listing(&rt, rt.alloc(), nodes, want)?;
     }
     Ok(())
 }
@@ -177,36 +184,44 @@ fn nodes_that_may_stand(rt: HostRuntime) {
     }
 }
 
-#[test]
-fn room_first(rt: HostRuntime) -> Result<(), Fail> {
-    let alloc = rt.alloc();
+// A graph with room for three nodes, and these.
+fn check_pushed(rt: &impl Abort, alloc: Global, nodes: [Node; 3]) -> Result<Graph, OutOfMemory> {
     let mut graph = Graph::new(alloc, Side::Pre);
     graph.reserve(alloc, 3)?;
-    let nodes = [
-        START,
-        lower(None, Some(0), Some(0), None),
-        lower(Some(1), Some(1), Some(0), None),
-    ];
     for node in nodes {
         let number = graph.len();
         assert!(rt; node.is_at(number));
         assert_eq!(rt; graph.push_node(alloc, node), Ok(number));
     }
-    let copy = graph.copy(alloc)?;
-    assert_eq!(rt; copy.side(), Side::Pre);
-    assert_eq!(rt; copy.len(), 3);
+    Ok(graph)
+}
+
+fn check_graph(rt: &impl Abort, graph: &Graph, nodes: [Node; 3]) {
+    assert_eq!(rt; graph.side(), Side::Pre);
+    assert_eq!(rt; graph.len(), 3);
     for (k, node) in nodes.into_iter().enumerate() {
-        assert!(rt; (k as u64) < copy.len());
-        assert_eq!(rt; copy.node(k as u64), node);
+        assert!(rt; (k as u64) < graph.len());
+        assert_eq!(rt; graph.node(k as u64), node);
     }
-    Ok(())
 }
 
 #[test]
-fn a_long_chain(rt: HostRuntime) -> Result<(), Fail> {
+fn room_first(rt: HostRuntime) -> Result<(), Fail> {
     let alloc = rt.alloc();
+    let nodes = [
+        START,
+        lower(None, Some(0), Some(0), None),
+        lower(Some(1), Some(1), Some(0), None),
+    ];
+    let graph = check_pushed(&rt, alloc, nodes)?;
+    check_graph(&rt, &graph.copy(alloc)?, nodes);
+    Ok(())
+}
+
+// A node, and as many that name the one before them.
+fn chain(alloc: Global, links: u64) -> Result<Vec<Node>, OutOfMemory> {
     let mut nodes = vec![in alloc; START]?;
-    for k in 0u64..200_000 {
+    for k in 0..links {
         let node = if k % 2 == 0 {
             lower(Some(k), Some(1), None, None)
         } else {
@@ -214,28 +229,31 @@ fn a_long_chain(rt: HostRuntime) -> Result<(), Fail> {
         };
         nodes.push(node)?;
     }
-    let graph = graph_of(alloc, &nodes)?;
-    let len = graph.len();
-    assert!(rt; 0 < len);
-    let listing = graph.listing(alloc, len - 1)?;
-    assert_eq!(rt; listing.nodes.as_slice(), nodes.as_slice());
-    Ok(())
+    Ok(nodes)
 }
 
 #[test]
-fn nodes_over_a_graph(rt: HostRuntime) -> Result<(), Fail> {
-    let alloc = rt.alloc();
-    let below = lower(None, Some(7), Some(0), None);
-    let base = graph_of(alloc, &[START, below])?;
-    let mut over = Overlay::new(alloc, &base);
+fn a_long_chain(rt: HostRuntime) -> Result<(), Fail> {
+    let nodes = chain(rt.alloc(), 200_000)?;
+    check_listing(&rt, rt.alloc(), &nodes, &nodes)?;
+    Ok(())
+}
+
+// Over a graph of two nodes two are added, and the last is listed.
+fn listed_over(rt: &impl Abort, alloc: Global, base: &Graph) -> Result<Listing, OutOfMemory> {
+    let mut over = Overlay::new(alloc, base);
     assert_eq!(rt; over.side(), Side::Post);
     let first = over.push_node(alloc, START)?;
     assert_eq!(rt; first, 2);
     let node = lower(Some(first), Some(4), None, Some(1));
     assert!(rt; node.is_at(3));
     let root = over.push_node(alloc, node)?;
-    let listing = over.listing(alloc, root)?;
-    // what is added over the graph, and what it names in the graph
+    over.listing(alloc, root)
+}
+
+// What is added over the graph is listed, and what it names in the graph.
+fn check_over(rt: &impl Abort, alloc: Global, base: &Graph) -> Result<(), OutOfMemory> {
+    let listing = listed_over(rt, alloc, base)?;
     let nodes = [
         START,
         START,
@@ -244,6 +262,14 @@ fn nodes_over_a_graph(rt: HostRuntime) -> Result<(), Fail> {
     ];
     assert_eq!(rt; listing.side, Side::Post);
     assert_eq!(rt; listing.nodes.as_slice(), nodes.as_slice());
+    Ok(())
+}
+
+#[test]
+fn nodes_over_a_graph(rt: HostRuntime) -> Result<(), Fail> {
+    let alloc = rt.alloc();
+    let base = graph_of(alloc, &[START, lower(None, Some(7), Some(0), None)])?;
+    check_over(&rt, alloc, &base)?;
     assert_eq!(rt; base.len(), 2);
     Ok(())
 }

@@ -7,6 +7,7 @@ use short_listings::{
     shorter_stays_tight,
 };
 use std::alloc::Global;
+use std::process::Abort;
 use std::test::Fail;
 use witness_graph::{Graph, Listing, Node, Overlay, Side};
 use wpds_base::OutOfMemory;
@@ -62,50 +63,84 @@ fn short(alloc: Global, side: Side, old: &[Node], others: &[Node]) -> Result<Lis
     shorter(alloc, sum.graph(), sum.added(), last)
 }
 
+// Lists the last node of such a sum, and makes the listing shorter.
+fn check_short(
+    rt: &impl Abort,
+    alloc: Global,
+    side: Side,
+    (old, others): (&[Node], &[Node]),
+    want: &[Node],
+) -> Result<(), OutOfMemory> {
+    let made = short(alloc, side, old, others)?;
+    assert_eq!(rt; made.nodes.as_slice(), want);
+    Ok(())
+}
+
 #[test]
 fn listings(rt: HostRuntime) -> Result<(), Fail> {
-    let alloc = rt.alloc();
-    // backwards, a call that returns: a pair's own empty run comes first, and the graph's stays
-    let old = [
+    // backwards, a call that returns
+    let back = [
         lower(None, Some(1), None, None),
         Node::Start,
         lower(None, Some(0), Some(0), Some(1)),
     ];
-    let added = [
-        lower(None, None, Some(3), Some(2)),
-        lower(None, None, Some(4), None),
-    ];
-    let made = short(alloc, Side::Pre, &old, &added)?;
-    assert_eq!(rt; made.nodes.as_slice(), old.as_slice());
-    // forwards: the transition's node stands first, and the graph's node of one part and its empty run stay
-    let old = [
+    let forth = [
         Node::Start,
         lower(None, None, Some(0), None),
         lower(None, Some(0), Some(1), None),
     ];
-    let added = [
-        lower(None, None, Some(2), Some(3)),
-        lower(None, None, Some(4), None),
+    // a side, a graph's nodes and others, and what the listing has
+    let rows: [(Side, (&[Node], &[Node]), &[Node]); 4] = [
+        // backwards: a pair's own empty run comes first, and the graph's stays
+        (
+            Side::Pre,
+            (
+                &back,
+                &[
+                    lower(None, None, Some(3), Some(2)),
+                    lower(None, None, Some(4), None),
+                ],
+            ),
+            &back,
+        ),
+        // forwards: the transition's node stands first, and the graph's node of one part and its empty run stay
+        (
+            Side::Post,
+            (
+                &forth,
+                &[
+                    lower(None, None, Some(2), Some(3)),
+                    lower(None, None, Some(4), None),
+                ],
+            ),
+            &forth,
+        ),
+        // the empty run alone, which the answer names
+        (
+            Side::Pre,
+            (&[], &[lower(None, None, Some(0), None)]),
+            &[Node::Start],
+        ),
+        // a set that has more runs than the one before it is kept
+        (
+            Side::Pre,
+            (
+                &[lower(None, Some(7), None, None)],
+                &[
+                    lower(None, None, Some(1), Some(0)),
+                    lower(Some(2), None, Some(1), None),
+                ],
+            ),
+            &[
+                lower(None, Some(7), None, None),
+                Node::Start,
+                lower(Some(0), None, Some(1), None),
+            ],
+        ),
     ];
-    let made = short(alloc, Side::Post, &old, &added)?;
-    assert_eq!(rt; made.nodes.as_slice(), old.as_slice());
-    // the empty run alone, which the answer names
-    let added = [lower(None, None, Some(0), None)];
-    let made = short(alloc, Side::Pre, &[], &added)?;
-    assert_eq!(rt; made.nodes.as_slice(), [Node::Start].as_slice());
-    // a set that has more runs than the one before it is kept
-    let old = [lower(None, Some(7), None, None)];
-    let added = [
-        lower(None, None, Some(1), Some(0)),
-        lower(Some(2), None, Some(1), None),
-    ];
-    let made = short(alloc, Side::Pre, &old, &added)?;
-    let nodes = [
-        lower(None, Some(7), None, None),
-        Node::Start,
-        lower(Some(0), None, Some(1), None),
-    ];
-    assert_eq!(rt; made.nodes.as_slice(), nodes.as_slice());
+    for (side, nodes, want) in rows {
+        check_short(&rt, rt.alloc(), side, nodes, want)?;
+    }
     nodes_of_the_graph_stay();
     shorter_has_no_more_nodes();
     shorter_has_the_same_runs();

@@ -1,2 +1,3 @@
 mod FitLemmas
 mod RowLemmas
+pub mod CallerLemmas

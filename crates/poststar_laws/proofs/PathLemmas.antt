@@ -22,7 +22,7 @@ use Rattle.poststar_laws.specs.Reading.{IsMiddle, Comes, Leaves, IsEdge, PostRun
 use Rattle.poststar_laws.proofs.FrameLemmas.{middle_once, middle_high}
 use Rattle.poststar_laws.proofs.Weights.{HasItemEdges}
 
-nonempty : (word : List ℕ) (g : ℕ) → word ++ g ∷ [] ≡ [] → ⊥
+pub nonempty : (word : List ℕ) (g : ℕ) → word ++ g ∷ [] ≡ [] → ⊥
 nonempty [] g e = cc
 nonempty (h ∷ word) g e = cc
 
@@ -57,7 +57,7 @@ module _ {S W Map : Type 0} {operations : S → Operations W Map} {p : Pushdown 
   Longer control word x a b = Come control (word ++ symbols_of x.label) x.to (b ++ a) × (value (b ++ a) ≡ s.extend (value b) (value a))
 
   -- runs come to items and middle states
-  comes_high : (control : ℕ) (word : List ℕ) (q : ℕ) (a : List ℕ) → Come control word q a → p.controls ≤ q
+  pub comes_high : (control : ℕ) (word : List ℕ) (q : ℕ) (a : List ℕ) → Come control word q a → p.controls ≤ q
   comes_high control word q a (inl is) = is.item
   comes_high control word q a (inr call) = let h = middle_high p base q call.number call.push in omega (arith, h, high)
 

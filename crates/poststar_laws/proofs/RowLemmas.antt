@@ -46,13 +46,13 @@ module _ {S W Map : Type 0} {operations : S → Operations W Map} {p : Pushdown 
     alone = (at_stack r.to (r.right ++ []), fires p k r there [], ap (at_stack r.to) (append-nil r.right))
 
     -- from a control there is no other way
-    from_head : (q : ℕ) (a : List ℕ) → runs (head_to r q) a → Come r.control (r.symbol ∷ []) q a
+    pub from_head : (q : ℕ) (a : List ℕ) → runs (head_to r q) a → Come r.control (r.symbol ∷ []) q a
     from_head q a (inl is) = is.1
     from_head q a (inr (inl edge)) = let h = edge.item in let g = (rule_at valid k r there).control in absurd (omega (arith, h, g))
     from_head q a (inr (inr leaves)) =
         let h = middle_high p base r.control leaves.number leaves.push in let g = (rule_at valid k r there).control in absurd (omega (arith, h, g, high))
 
-    goes_further : (q : ℕ) (a : List ℕ) → Come r.control (r.symbol ∷ []) q a → Come r.to r.right q (a ++ k ∷ [])
+    pub goes_further : (q : ℕ) (a : List ℕ) → Come r.control (r.symbol ∷ []) q a → Come r.to r.right q (a ++ k ∷ [])
     goes_further q a (inl is) = inl (record {
       item = is.item;
       last = is.last;

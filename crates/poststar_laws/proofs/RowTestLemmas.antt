@@ -16,13 +16,13 @@ use Rattle.poststar_laws.specs.declared.drawn.Drawn.{Drawn}
 use Rattle.poststar_laws.specs.Rows.{same_number, is_drawn, are_glued, glued, head_to, draws, rule_row, head_row, glue_row, post_rows}
 use Rattle.poststar_laws.specs.Jobs.{drawn_job, glue_job}
 
-same_number_is : (a b : Option ℕ) → same_number a b ≡ true → a ≡ b
+pub same_number_is : (a b : Option ℕ) → same_number a b ≡ true → a ≡ b
 same_number_is None None h = refl
 same_number_is None (Some m) h = cc
 same_number_is (Some k) None h = cc
 same_number_is (Some k) (Some m) h = ap Some (eqb-true k m h)
 
-same_number_itself : (a : Option ℕ) → same_number a a ≡ true
+pub same_number_itself : (a : Option ℕ) → same_number a a ≡ true
 same_number_itself None = refl
 same_number_itself (Some k) = eq-eqb k k refl
 

@@ -40,18 +40,18 @@ use Rattle.poststar_laws.proofs.DrawnLemmas.{step_says, return_says, pop_says, e
 use Rattle.poststar_laws.proofs.RowLemmas.{step_run, pop_run, return_run, enter_run, leave_run, glue_run}
 use Rattle.poststar_laws.proofs.RowTestLemmas.{row_says}
 
-weaker : {X : Type 0} (P Q : X → Type 0) → ((x : X) → P x → Q x) → (xs : List X) → AllByRecursion P xs → AllByRecursion Q xs
+pub weaker : {X : Type 0} (P Q : X → Type 0) → ((x : X) → P x → Q x) → (xs : List X) → AllByRecursion P xs → AllByRecursion Q xs
 weaker P Q f [] _ = tt
 weaker P Q f (x ∷ xs) all = (f x all.0, weaker P Q f xs all.1)
 
 -- a label that passes reads nothing
-empty_is : (l : Label) → same_label l Empty ≡ true → l ≡ Empty
+pub empty_is : (l : Label) → same_label l Empty ≡ true → l ≡ Empty
 empty_is (Symbol g) h = cc
 empty_is Empty h = refl
 
 module _ {W Map : Type 0} {s : Operations W Map} (laws : IsSemiring s) (value : List ℕ → W) (fits_value : (run : List ℕ) → Fits s (value run)) where
   -- one rule after each run
-  lasts : (k : ℕ) (G : W → W) → IsLinear s G → (P R : List ℕ → Type 0) → ((a : List ℕ) → P a → R (a ++ k ∷ []) × (value (a ++ k ∷ []) ≡ G (value a)))
+  pub lasts : (k : ℕ) (G : W → W) → IsLinear s G → (P R : List ℕ → Type 0) → ((a : List ℕ) → P a → R (a ++ k ∷ []) × (value (a ++ k ∷ []) ≡ G (value a)))
       → (xs : List (List ℕ)) → AllByRecursion P xs → AllByRecursion R (concatenations xs ((k ∷ []) ∷ [])) × (G (combination s (map value xs)) ≡ combination s (map value (concatenations xs ((k ∷ []) ∷ []))))
   lasts k G lin P R each [] _ = (tt, lin.strict)
   lasts k G lin P R each (x ∷ xs) all =

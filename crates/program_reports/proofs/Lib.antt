@@ -1,4 +1,5 @@
 mod AskedLemmas
+mod GroupLemmas
 mod PartLemmas
 mod PatternLemmas
 mod ServingLemmas

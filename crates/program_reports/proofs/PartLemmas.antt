@@ -1,31 +1,46 @@
 -- Texts of a part for each query.
-use Rattle.std.proofs.Common.{◌≡◌, ℕ, ◌+◌, ◌<◌, ◌≤◌, List, [], ◌∷◌, ◌++◌, length, get_or, take, refl, sym, ap, subst, ◌∙◌, append-nil, append_assoc, arith}
-use Rattle.std.proofs.lemmas.List.{take_more, take_all, length-take-le}
+use Rattle.std.proofs.Common.{◌≡◌, ℕ, ◌+◌, ◌<◌, ◌≤◌, List, [], ◌∷◌, ◌++◌, length, get_or, take, drop, refl, sym, ap, ap₂, subst, ◌∙◌, append-nil, append_assoc, take-append-drop, arith}
+use Rattle.std.proofs.lemmas.List.{take_more, take_all, take-take, drop-take, length-take-le}
 use Rattle.report_text.specs.Reports.{ByQuery}
 
+-- a front, and some more behind it
+pub front_more : {Q : Type 0} (qs : List Q) (place n : ℕ) → take (place + n) qs ≡ take place qs ++ take n (drop place qs)
+front_more qs place n =
+    sym (take-append-drop place (take (place + n) qs))
+    ∙ ap₂ (λ xs ys. xs ++ ys) (take-take place (place + n) qs (omega arith)) (drop-take place n qs)
+
 module _ {Q : Type 0} (P : ℕ → Q → List ℕ → Type 0) where
-  -- one query more
-  one_more : (i : ℕ) (qs : List Q) (text : List ℕ) (q : Q) (part : List ℕ) → ByQuery P i qs text → P (i + length qs) q part → ByQuery P i (qs ++ q ∷ []) (text ++ part)
-  one_more i [] text q part is holds =
+  -- the parts of some queries, and then those of the queries behind them
+  many_more : (i : ℕ) (qs rs : List Q) (text more : List ℕ) → ByQuery P i qs text → ByQuery P (i + length qs) rs more → ByQuery P i (qs ++ rs) (text ++ more)
+  many_more i [] rs text more is then =
       let same : i + 0 ≡ i = omega arith in
-      (part, [], ap (λ t. t ++ part) is ∙ sym (append-nil part), subst (λ k. P k q part) same holds, refl)
-  one_more i (r ∷ qs) text q part is holds =
-      let count : i + length (r ∷ qs) ≡ (i + 1) + length qs = omega arith in (
+      subst (λ t. ByQuery P i rs (t ++ more)) (sym is) (subst (λ k. ByQuery P k rs more) same then)
+  many_more i (q ∷ qs) rs text more is then =
+      let count : i + length (q ∷ qs) ≡ (i + 1) + length qs = omega arith in (
         is.0,
-        is.1 ++ part,
-        ap (λ t. t ++ part) is.2 ∙ append_assoc is.0 is.1 part,
+        is.1 ++ more,
+        ap (λ t. t ++ more) is.2 ∙ append_assoc is.0 is.1 more,
         is.3,
-        one_more (i + 1) qs is.1 q part is.4 (subst (λ k. P k q part) count holds),
+        many_more (i + 1) qs rs is.1 more is.4 (subst (λ k. ByQuery P k rs more) count then),
       )
 
+  -- a group of queries more
+  pub queries_more : (i : ℕ) (qs : List Q) (place n : ℕ) (text more : List ℕ) → place ≤ length qs → ByQuery P i (take place qs) text → ByQuery P (i + place) (take n (drop place qs)) more
+      → ByQuery P i (take (place + n) qs) (text ++ more)
+  queries_more i qs place n text more within is then =
+      let count : i + place ≡ i + length (take place qs) = ap (λ k. i + k) (sym (length-take-le place qs within)) in
+      subst (λ xs. ByQuery P i xs (text ++ more)) (sym (front_more qs place n))
+      (many_more i (take place qs) (take n (drop place qs)) text more is (subst (λ k. ByQuery P k (take n (drop place qs)) more) count then))
+
   -- the query at a place more
-  pub one_query_more : (qs : List Q) (place : ℕ) (d : Q) (text part : List ℕ) → place < length qs → ByQuery P 1 (take place qs) text → P (place + 1) (get_or qs place d) part
-      → ByQuery P 1 (take (place + 1) qs) (text ++ part)
-  one_query_more qs place d text part within is holds =
+  pub one_query_more : (i : ℕ) (qs : List Q) (place number : ℕ) (d : Q) (text part : List ℕ) → number ≡ i + place → place < length qs → ByQuery P i (take place qs) text
+      → P number (get_or qs place d) part → ByQuery P i (take (place + 1) qs) (text ++ part)
+  one_query_more i qs place number d text part at within is holds =
       let q = get_or qs place d in
-      let count : place + 1 ≡ 1 + length (take place qs) = omega (arith, length-take-le place qs (omega (arith, within))) in
-      subst (λ xs. ByQuery P 1 xs (text ++ part)) (sym (take_more qs place d within)) (one_more 1 (take place qs) text q part is (subst (λ k. P k q part) count holds))
+      let count : number ≡ i + length (take place qs) = at ∙ ap (λ k. i + k) (sym (length-take-le place qs (omega (arith, within)))) in
+      subst (λ xs. ByQuery P i xs (text ++ part)) (sym (take_more qs place d within))
+      (many_more i (take place qs) (q ∷ []) text part is (part, [], sym (append-nil part), subst (λ k. P k q part) count holds, refl))
 
   -- all queries
-  pub all_queries : (qs : List Q) (place : ℕ) (text : List ℕ) → length qs ≤ place → ByQuery P 1 (take place qs) text → ByQuery P 1 qs text
-  all_queries qs place text past is = subst (λ xs. ByQuery P 1 xs text) (take_all place qs past) is
+  pub all_queries : (i : ℕ) (qs : List Q) (place : ℕ) (text : List ℕ) → length qs ≤ place → ByQuery P i (take place qs) text → ByQuery P i qs text
+  all_queries i qs place text past is = subst (λ xs. ByQuery P i xs text) (take_all place qs past) is

@@ -1,10 +1,9 @@
 -- The runs of an answer's listing can be traced.
-use Rattle.std.proofs.Common.{◌≡◌, ◌≢◌, ◌⊎◌, inl, inr, ℕ, zero, suc, Bool, true, List, [], ◌∷◌, ◌++◌, map, refl, ap, subst, ◌∙◌}
-use Rattle.std.specs.Prelude.{Option, Some, None, slice_get}
+use Rattle.std.proofs.Common.{◌≡◌, ◌≢◌, ◌⊎◌, inl, inr, ℕ, zero, suc, Bool, true, List, [], ◌∷◌, map, refl, ap, subst, ◌∙◌}
+use Rattle.std.specs.Prelude.{Option, Some, None}
 use Rattle.std.specs.List.{AllByRecursion}
 use Rattle.std.proofs.lemmas.Bool.{cases_Bool}
 use Rattle.semiring_laws.specs.Semiring.{Operations}
-use Rattle.semiring_laws.specs.Combination.{combination}
 use Rattle.semiring_laws.proofs.CallerLemmas.{combination_of_zeros}
 use Rattle.pushdown_rules.specs.Configuration.{Configuration}
 use Rattle.pushdown_rules.specs.Pushdown.{Pushdown, IsSystem}

@@ -99,8 +99,8 @@ impl<'p> Asked<'p> {
         }
     }
 
-    // The stack of main's first line alone.
-    fn entry_pattern(&self, alloc: Global) -> Result<Pattern, OutOfMemory>
+    /// The stack of main's first line alone.
+    pub(crate) fn entry_pattern(&self, alloc: Global) -> Result<Pattern, OutOfMemory>
         requires { IsAsked self.now }
         ensures value { IfOk result (λ x. x ≡ entry_pattern (program_in self.now)) }
         ensures over { let system = self.now.lowering.system in
@@ -110,8 +110,8 @@ impl<'p> Asked<'p> {
         alone(alloc, self.lowering.system.symbols(), symbol)
     }
 
-    // The stacks with a point on top.
-    fn point_pattern(&self, alloc: Global, point: Point) -> Result<Pattern, OutOfMemory>
+    /// The stacks with a point on top.
+    pub(crate) fn point_pattern(&self, alloc: Global, point: Point) -> Result<Pattern, OutOfMemory>
         requires asked { IsAsked self.now }
         requires point { IsPoint (program_in self.now) point }
         ensures value { IfOk result (λ x. x ≡ point_pattern (program_in self.now) point) }

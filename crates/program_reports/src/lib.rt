@@ -7,6 +7,7 @@ mod lines;
 mod patterns;
 mod report;
 mod traces;
+mod values;
 
 pub use laws::answers_tell_points;
 pub use report::report_on_program;

@@ -11,14 +11,13 @@ ghost use Rattle.program_reports.specs.private.Asked.{IsAsked, Serves, program_i
 
 use crate::answers_tell_points;
 use crate::asked::Asked;
-use crate::lines::{point_line, point_lines};
+use crate::lines::point_lines;
 use crate::traces::traced;
+use crate::values::{lines_by_values, value_line};
 use boolean_programs::{Point, Program};
-use pushdown_rules::answers_are_greatest_below;
 use query_answers::{Saturation, answer_over, saturate, value_over};
 use relation_weights::Relations;
 use report_text::Options;
-use semiring_laws::Semiring;
 use std::alloc::Global;
 use std::sync::Wait;
 use std::thread::Threads;
@@ -45,6 +44,7 @@ fn saturation_for<'s, H: Threads + Wait + Sync, G: Gate>(
         alloc,
         &asked.lowering.system,
         asked.options.by,
+        asked.options.lists(),
         asked.options.workers,
         &pattern,
         gate,
@@ -86,12 +86,10 @@ fn lines_over(
         IfOk result (TellsPoint a.options a.program.now a.lowering.system number point) }
 {
     answers_tell_points();
-    answers_are_greatest_below::<Relations>();
     let summed = asked.summed(alloc, point)?;
     if asked.options.is_brief() {
         let value = value_over(alloc, saturation, &summed)?;
-        let reached = !asked.lowering.system.semiring().is_zero(&value);
-        return point_line(alloc, number, reached);
+        return value_line(alloc, asked, number, point, &value);
     }
     let answer = answer_over(alloc, saturation, &summed)?;
     let trace = traced(alloc, asked, &answer.listing)?;
@@ -151,9 +149,10 @@ fn all_lines<H: Threads + Wait + Sync, G: Gate>(
 
 /// The report on a Boolean program: for each query `reachable`, with the listing unless that is
 /// left out, exactly where some state of some run of the program's machine has the query's point on
-/// top, and `unreachable` exactly where none has. Forwards all queries share one saturation;
-/// backwards each has its own. Refused only when out of memory. Two workers or more have a thread
-/// each, and each worker calls the gate between taking a transition and settling it.
+/// top, and `unreachable` exactly where none has. Forwards all queries share one saturation.
+/// Backwards each has its own, or a group of them has one where neither listings nor states are
+/// written. Refused only when out of memory. Two workers or more have a thread each, and each worker
+/// calls the gate between taking a transition and settling it.
 pub fn report_on_program<H: Threads + Wait + Sync, G: Gate>(
     rt: &H,
     alloc: Global,
@@ -166,6 +165,9 @@ pub fn report_on_program<H: Threads + Wait + Sync, G: Gate>(
     ensures { IfOk result (IsProgramReport options program.now) }
 {
     let asked = Asked::of(alloc, program, options)?;
+    if options.is_brief() && options.by == Side::Pre {
+        return lines_by_values(alloc, &asked, gate);
+    }
     let shared = shared_saturation(rt, alloc, &asked, gate)?;
     all_lines(rt, alloc, &asked, &shared, gate)
 }

@@ -1,5 +1,5 @@
 -- The values of queries that share one saturation backwards.
-use Rattle.std.proofs.Common.{◌≡◌, ◌↔◌, ℕ, zero, suc, ◌+◌, ◌<◌, List, [], ◌∷◌, IsTrue, length, map, refl, sym, ap, ap₂, ◌∙◌, subst, arith}
+use Rattle.std.proofs.Common.{◌≡◌, ◌↔◌, true, ℕ, zero, suc, ◌+◌, ◌<◌, List, [], ◌∷◌, IsTrue, length, map, refl, sym, ap, ap₂, ◌∙◌, subst, arith}
 use Rattle.std.specs.Prelude.{All, Bool, false, Some, ◌||◌, not, nat_eq, cond, filter, slice_get}
 use Rattle.std.specs.List.{AllByRecursion}
 use Rattle.std.proofs.lemmas.List.Elements.{All-from_recursion, recursion_from_All}
@@ -110,7 +110,7 @@ module _ {S W Map : Type 0} (operations : S → Operations W Map) (p : Pushdown 
       let c = closes opened (opens p (record {}) o valid (pattern_fits p to)) refl in
       let a = sums c.0 from c.1.book c.1.closed (subst (λ (q : Pushdown S W Map). from.control < q.controls) (sym c.1.base.system) low_from) in (
         a.0,
-        backward_is operations law p c.0 a.0 from Backward workers from to a.1 low_to refl
+        backward_is operations law p c.0 a.0 from Backward true workers from to a.1 low_to refl
             (record { system = c.1.base.system; opening = c.1.base.opening; book = c.1.book; closed = c.1.closed; seats = c.1.seats workers some; alone = λ _. c.1.alone }),
       )
 

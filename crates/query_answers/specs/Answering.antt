@@ -1,5 +1,5 @@
 -- What an answer to a query is, with the saturation that it comes from.
-use Rattle.std.specs.Prelude.{◌≡◌, ◌↔◌, ℕ, List, None, Some, IfSome, length, slice_get}
+use Rattle.std.specs.Prelude.{◌≡◌, ◌↔◌, ℕ, Bool, IsFalse, List, None, Some, IfSome, length, slice_get}
 use Rattle.semiring_laws.specs.Semiring.{Operations}
 use Rattle.pushdown_rules.specs.Pushdown.{Pushdown}
 use Rattle.pushdown_rules.specs.Values.{value_of}
@@ -8,20 +8,24 @@ use Rattle.witness_graph.specs.declared.node.Side.{Side}
 use Rattle.witness_graph.specs.declared.node.Side.TheVariants.{Pre as Backward, Post as Forward}
 use Rattle.witness_graph.specs.Tight.{IsTight}
 use Rattle.config_patterns.specs.Membership.{PatternValue, has_member}
-use Rattle.pattern_openings.specs.PatternOpenings.{opening_of}
+use Rattle.pattern_openings.specs.PatternOpenings.{IsOver, opening_of}
 use Rattle.saturation_laws.specs.Books.{BookValue, IsBook, IsClosed}
 use Rattle.saturation_laws.specs.Ways.{Way}
 use Rattle.prestar_laws.specs.Ways.{pre_way}
 use Rattle.prestar.specs.declared.pre.Pre.{Pre}
 use Rattle.poststar_laws.specs.Ways.{post_way}
 use Rattle.poststar.specs.declared.post.Post.{Post}
+use Rattle.callee_laws.specs.Ways.{callee_way}
+use Rattle.callee_post.specs.Openings.{callee_opening_of}
+use Rattle.callee_post.specs.declared.callee.CalleePost.{CalleePost}
 use Rattle.query_answers.specs.declared.saturation.Saturation.{Saturation}
-use Rattle.query_answers.specs.declared.saturation.Saturation.TheVariants.{Backward as BackwardOf, Forward as ForwardOf}
+use Rattle.query_answers.specs.declared.saturation.Saturation.TheVariants.{Backward as BackwardOf, Forward as ForwardOf, Callees as CalleesOf}
 use Rattle.path_sum.specs.declared.answer.Answer.{Answer}
 use Rattle.path_sum.specs.Answers.{listed_runs, IsGrownAnswer, IsValueOf}
 use Rattle.path_sum.specs.Sums.{ways_of}
 use Rattle.worker_pool.specs.Alone.{IsAlone}
 use Rattle.worker_pool.specs.Errands.{IsWorkedBySeats}
+use Rattle.worker_pool.specs.Workers.{IsWorkerCount}
 
 -- of the patterns where runs begin and where they end, the one that a saturation starts from
 abbrev pub opened_of : Side → PatternValue → PatternValue → PatternValue
@@ -70,22 +74,40 @@ module _ {S W Map D : Type 0} (operations : S → Operations W Map) (way : Way S
 abbrev pub forward_way : {S W Map : Type 0} → (S → Operations W Map) → Way S W Map Post
 forward_way operations = post_way (λ d. d.items) operations
 
+-- forwards through each callee once, by how many items the opening pattern has
+abbrev pub forward_callees : {S W Map : Type 0} → (S → Operations W Map) → Way S W Map CalleePost
+forward_callees operations = callee_way (λ d. d.items) operations
+
 -- the system over which a saturation is
 abbrev pub saturated_system : {S W Map : Type 0} → Saturation S W Map → Pushdown S W Map
 saturated_system (BackwardOf b) = b.system
 saturated_system (ForwardOf b) = b.system
+saturated_system (CalleesOf b) = b.system
 
 -- nothing waits in it, and no hand is out
 abbrev pub IsFinished : {S W Map : Type 0} → Saturation S W Map → Type 0
 IsFinished (BackwardOf b) = IsClosed b
 IsFinished (ForwardOf b) = IsClosed b
+IsFinished (CalleesOf b) = IsClosed b
 
 module _ {S W Map : Type 0} (operations : S → Operations W Map) (p : Pushdown S W Map) where
-  -- it is a finished saturation of the system from a pattern, by the direction of this side and so many workers
-  abbrev pub IsSaturated : Side → ℕ → PatternValue → Saturation S W Map → Type 0
-  IsSaturated Backward workers pattern (BackwardOf b) = IsSaturatedFrom operations (pre_way operations) p workers pattern b
-  IsSaturated Forward workers pattern (ForwardOf b) = IsSaturatedFrom operations (forward_way operations) p workers pattern b
-  IsSaturated _ workers pattern _ = ⊥
+  -- The book went through each callee once, forwards from a pattern. It has no answer's nodes, but the values of all.
+  pub record IsThroughCallees (workers : ℕ) (pattern : PatternValue) (b : BookValue S W Map CalleePost) : Type 0 where
+    pub some : IsWorkerCount workers
+    pub over : IsOver p.controls p.symbols pattern
+    pub system : b.system ≡ p
+    pub items : b.direction.items ≡ length pattern.items
+    pub opening : b.opening ≡ callee_opening_of p pattern
+    pub book : IsBook operations (forward_callees operations) b
+    pub closed : IsClosed b
+
+  -- It is a finished saturation of the system from a pattern, by the direction of this side and so many workers. Where no
+  -- listing is asked for, it may have gone through each callee once.
+  abbrev pub IsSaturated : Side → Bool → ℕ → PatternValue → Saturation S W Map → Type 0
+  IsSaturated Backward listed workers pattern (BackwardOf b) = IsSaturatedFrom operations (pre_way operations) p workers pattern b
+  IsSaturated Forward listed workers pattern (ForwardOf b) = IsSaturatedFrom operations (forward_way operations) p workers pattern b
+  IsSaturated Forward listed workers pattern (CalleesOf b) = IsFalse listed × IsThroughCallees workers pattern b
+  IsSaturated _ _ workers pattern _ = ⊥
 
   -- the answer is grown from a book of the direction of this side
   abbrev pub IsGrownBy : Side → ℕ → PatternValue → PatternValue → Answer S W Map → Type 0

@@ -1,25 +1,33 @@
-ghost use Rattle.std.specs.Prelude.{◌≡◌, ◌<◌, ℕ, IfOk};
+ghost use Rattle.std.specs.Prelude.{◌≡◌, ◌<◌, ℕ, Bool, true, IfOk};
 ghost use Rattle.config_patterns.specs.Membership.{PatternValue};
+ghost use Rattle.callee_post.specs.declared.callee.CalleePost.{CalleePost as CalleePostValue};
 ghost use Rattle.path_sum.specs.Answers.{IsValueOf};
+ghost use Rattle.path_sum.specs.Results.{IsSumOf};
 ghost use Rattle.pattern_openings.specs.PatternOpenings.{IsOver};
 ghost use Rattle.pushdown_rules.specs.Pushdown.{Pushdown};
+ghost use Rattle.saturation_laws.specs.Books.{BookValue, IsClosed};
 ghost use Rattle.witness_graph.specs.declared.node.Side.{Side as SideValue};
+ghost use Rattle.witness_graph.specs.declared.node.Side.TheVariants.{Post as Forward};
 ghost use Rattle.worker_pool.specs.Workers.{IsWorkerCount};
-ghost use Rattle.query_answers.specs.Answering.{opened_of, summed_of, saturated_system, IsFinished, IsSaturated, IsAnswer};
+ghost use Rattle.query_answers.specs.Answering.{opened_of, summed_of, saturated_system, forward_callees};
+ghost use Rattle.query_answers.specs.Answering.{IsFinished, IsSaturated, IsThroughCallees, IsAnswer};
 
 use crate::Saturation;
+use crate::reach::shares_callees;
+use callee_post::{CalleePost, callee_opening, callee_openings_read_alike};
 use config_patterns::Pattern;
-use path_sum::{Answer, sum, sum_value};
+use path_sum::{Answer, sum, sum_value, sums_have_answers};
 use pattern_openings::openings_read_members;
-use poststar::post_opening;
+use poststar::{Post, post_opening};
 use prestar::pre_opening;
-use pushdown_rules::System;
+use pushdown_rules::{System, answers_agree};
+use saturation_core::Book;
 use semiring_laws::Semiring;
 use std::alloc::Global;
 use std::sync::Wait;
 use std::thread::Threads;
 use witness_graph::Side;
-use worker_pool::saturate as saturate_book;
+use worker_pool::{one_worker_closes, saturate as saturate_book, saturate_alone};
 use wpds_base::OutOfMemory;
 use wpds_port::Gate;
 
@@ -35,9 +43,27 @@ fn by_side<'p>(side: Side, from: &'p Pattern, to: &'p Pattern) -> (&'p Pattern, 
     }
 }
 
+// The finished saturation forwards from a pattern that goes through each callee once. One worker makes it.
+fn through_callees<'s, S: Semiring, G: Gate>(
+    alloc: Global,
+    system: &'s System<S>,
+    opened: &Pattern,
+    gate: &G,
+) -> Result<Book<'s, S, CalleePost>, OutOfMemory>
+    requires { IsOver system.now.controls system.now.symbols opened.now }
+    ensures through { (workers : ℕ) → IsWorkerCount workers →
+        IfOk result (IsThroughCallees S.operations system.now workers opened.now) }
+    ensures finished { IfOk result IsClosed }
+    ensures system { IfOk result (λ b. b.system ≡ system.now) }
+{
+    let book = callee_opening(alloc, system, opened)?;
+    saturate_alone(alloc, book, gate)
+}
+
 /// The finished saturation from a pattern, by so many workers: backwards from where runs end, or forwards from where they
-/// begin. Refused only when out of memory. Two workers or more have a thread each, and each worker calls the gate between
-/// taking a transition and settling it.
+/// begin. Where no listing is asked for, one worker may have gone through each callee once, forwards. Refused only when out
+/// of memory. Two workers or more have a thread each, and each worker calls the gate between taking a transition and
+/// settling it.
 pub fn saturate<
     's,
     H: Threads + Wait + Sync,
@@ -48,13 +74,15 @@ pub fn saturate<
     alloc: Global,
     system: &'s System<S>,
     side: Side,
+    listed: bool,
     workers: u32,
     opened: &Pattern,
     gate: &G,
 ) -> Result<Saturation<'s, S>, OutOfMemory>
     requires opened { IsOver system.now.controls system.now.symbols opened.now }
     requires workers { IsWorkerCount workers }
-    ensures saturated { IfOk result (IsSaturated S.operations system.now side workers opened.now) }
+    ensures saturated { let is = IsSaturated S.operations system.now side listed workers in
+        IfOk result (is opened.now) }
     ensures finished { IfOk result IsFinished }
     ensures system { IfOk result (λ s. saturated_system s ≡ system.now) }
 {
@@ -64,6 +92,10 @@ pub fn saturate<
             Ok(Saturation::Backward(saturate_book(rt, alloc, book, workers, gate)?))
         }
         Side::Post => {
+            if !listed && shares_callees(alloc, system, opened)? {
+                let book = through_callees(alloc, system, opened, gate)?;
+                return Ok(Saturation::Callees(book));
+            }
             let book = post_opening(alloc, system, opened)?;
             Ok(Saturation::Forward(saturate_book(rt, alloc, book, workers, gate)?))
         }
@@ -81,14 +113,32 @@ pub fn answer_over<S: Semiring>(
     requires control { summed.now.control < (saturated_system saturation.now).controls }
     ensures { (p : Pushdown S S.W S.Ret) (side : SideValue) (workers : ℕ) (from to : PatternValue)
         → (opened_of side from to).control < p.controls → summed_of side from to ≡ summed.now
-        → IsSaturated S.operations p side workers (opened_of side from to) saturation.now
+        → IsSaturated S.operations p side true workers (opened_of side from to) saturation.now
         → IfOk result (IsAnswer S.operations p side workers from to) }
 {
     openings_read_members();
     match saturation {
         Saturation::Backward(book) => sum(alloc, book, summed),
         Saturation::Forward(book) => sum(alloc, book, summed),
+        Saturation::Callees(book) => sum(alloc, book, summed),
     }
+}
+
+// What a sum over a book that went through each callee once gives is the value of an answer: values are unique, and each
+// query has an answer.
+fn callees_have_values<S: Semiring>()
+    ensures { (p : Pushdown S S.W S.Ret) (workers : ℕ) (from to : PatternValue)
+        (b : BookValue S S.W S.Ret CalleePostValue) (v : S.W) →
+        from.control < p.controls → to.control < p.controls →
+        IsThroughCallees S.operations p workers from b →
+        IsValueOf (IsSumOf S.operations (forward_callees S.operations) b to) v →
+        IsValueOf (IsAnswer S.operations p Forward workers from to) v }
+{
+    openings_read_members();
+    callee_openings_read_alike::<S>();
+    answers_agree::<S>();
+    sums_have_answers::<S, Post>();
+    one_worker_closes::<S, Post>();
 }
 
 /// The value of the answer that [`answer_over`] gives, without making a listing. Refused only when out of memory.
@@ -99,15 +149,18 @@ pub fn value_over<S: Semiring>(
 ) -> Result<S::W, OutOfMemory>
     requires finished { IsFinished saturation.now }
     requires control { summed.now.control < (saturated_system saturation.now).controls }
-    ensures { (p : Pushdown S S.W S.Ret) (side : SideValue) (workers : ℕ) (from to : PatternValue)
+    ensures { (p : Pushdown S S.W S.Ret) (side : SideValue) (listed : Bool) (workers : ℕ)
+        (from to : PatternValue)
         → (opened_of side from to).control < p.controls → summed_of side from to ≡ summed.now
-        → IsSaturated S.operations p side workers (opened_of side from to) saturation.now
+        → IsSaturated S.operations p side listed workers (opened_of side from to) saturation.now
         → IfOk result (IsValueOf (IsAnswer S.operations p side workers from to)) }
 {
     openings_read_members();
+    callees_have_values::<S>();
     match saturation {
         Saturation::Backward(book) => sum_value(alloc, book, summed),
         Saturation::Forward(book) => sum_value(alloc, book, summed),
+        Saturation::Callees(book) => sum_value(alloc, book, summed),
     }
 }
 
@@ -135,7 +188,7 @@ pub fn answer<
     ensures { IfOk result (IsAnswer S.operations system.now side workers from.now to.now) }
 {
     let (opened, summed) = by_side(side, from, to);
-    let saturation = saturate(rt, alloc, system, side, workers, opened, gate)?;
+    let saturation = saturate(rt, alloc, system, side, true, workers, opened, gate)?;
     answer_over(alloc, &saturation, summed)
 }
 
@@ -162,6 +215,6 @@ pub fn value<
         IfOk result (IsValueOf asked) }
 {
     let (opened, summed) = by_side(side, from, to);
-    let saturation = saturate(rt, alloc, system, side, workers, opened, gate)?;
+    let saturation = saturate(rt, alloc, system, side, false, workers, opened, gate)?;
     value_over(alloc, &saturation, summed)
 }

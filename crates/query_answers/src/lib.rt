@@ -2,6 +2,7 @@
 #![tactic(auto)]
 
 mod answering;
+mod reach;
 mod saturation;
 mod values;
 

@@ -1,6 +1,7 @@
 ghost use Rattle.std.specs.Prelude.{◌≡◌};
 ghost use Rattle.query_answers.specs.Answering.{saturated_system};
 
+use callee_post::CalleePost;
 use poststar::Post;
 use prestar::Pre;
 use pushdown_rules::System;
@@ -14,6 +15,8 @@ pub enum Saturation<'s, S: Semiring> {
     Backward(Book<'s, S, Pre>),
     /// Forwards, from where they begin.
     Forward(Book<'s, S, Post>),
+    /// Forwards, through each callee once: for values alone.
+    Callees(Book<'s, S, CalleePost>),
 }
 
 impl<'s, S: Semiring> Saturation<'s, S> {
@@ -24,6 +27,7 @@ impl<'s, S: Semiring> Saturation<'s, S> {
         match self {
             Saturation::Backward(book) => book.system(),
             Saturation::Forward(book) => book.system(),
+            Saturation::Callees(book) => book.system(),
         }
     }
 }

@@ -22,9 +22,7 @@ use prestar::{Pre, pre_openings};
 use pushdown_rules::{System, answers_agree};
 use semiring_laws::Semiring;
 use std::alloc::Global;
-use std::sync::Wait;
-use std::thread::Threads;
-use worker_pool::{one_worker_closes, saturate as saturate_book};
+use worker_pool::{one_worker_closes, saturate_alone};
 use wpds_base::OutOfMemory;
 use wpds_port::Gate;
 
@@ -66,17 +64,11 @@ fn narrow_all(
 
 /// The values of the answers to queries that begin at one pattern, backwards: one for each pattern where runs end, in order.
 /// One saturation serves them all: it begins with the edges of all patterns, each narrowed to what can stand below the top,
-/// and the values are read off one walk from the first pattern. Refused only when out of memory. Two workers or more have a
-/// thread each, and each worker calls the gate between taking a transition and settling it.
-pub fn values_from<
-    H: Threads + Wait + Sync,
-    S: Semiring<W: Send + Sync, Ret: Send + Sync> + Send + Sync,
-    G: Gate,
->(
-    rt: &H,
+/// and the values are read off one walk from the first pattern. One worker makes it, whatever their count, since several take
+/// longer, and calls the gate before each turn. Refused only when out of memory.
+pub fn values_from<S: Semiring, G: Gate>(
     alloc: Global,
     system: &System<S>,
-    workers: u32,
     from: &Pattern,
     tos: &[Pattern],
     gate: &G,
@@ -84,14 +76,13 @@ pub fn values_from<
     requires from { from.now.control < system.now.controls }
     requires tos { All (IsOver system.now.controls system.now.symbols) tos.now }
     requires few { length tos.now ≤ most_queries }
-    requires workers { IsWorkerCount workers }
-    ensures { IfOk result (λ values.
+    ensures { (workers : ℕ) → IsWorkerCount workers → IfOk result (λ values.
         AreValues S.operations system.now workers from.now tos.now values.items) }
 {
     walks_give_values::<S>();
     let narrowing = Narrowing::new(alloc, system, from)?;
     let narrow = narrow_all(alloc, &narrowing, tos)?;
     let (opened, finals) = pre_openings(alloc, system, &narrow)?;
-    let book = saturate_book(rt, alloc, opened, workers, gate)?;
+    let book = saturate_alone(alloc, opened, gate)?;
     sum_values(alloc, &book, from, &finals)
 }

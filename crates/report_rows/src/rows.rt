@@ -28,23 +28,12 @@ pub(crate) fn written_by(
     by: &str,
     workers: &str,
 ) -> Result<Vec<u8>, OutOfMemory> {
-    written_at(rt, document, by, workers, &OpenGate)
-}
-
-/// The same, where the workers call this gate.
-pub(crate) fn written_at<G: Gate>(
-    rt: &(impl Threads + Wait + Sync + AllocGlobal),
-    document: &[u8],
-    by: &str,
-    workers: &str,
-    gate: &G,
-) -> Result<Vec<u8>, OutOfMemory> {
     let words = ["check", "--brief", "--by", by, "--workers", workers];
-    written_on(rt, &words, document, gate)
+    written_on(rt, &words, document, &OpenGate)
 }
 
-// What a run on these words writes on a document.
-fn written_on<G: Gate>(
+/// What a run on these words writes on a document, where its workers call this gate.
+pub(crate) fn written_on<G: Gate>(
     rt: &(impl Threads + Wait + Sync + AllocGlobal),
     line: &[&str],
     document: &[u8],

@@ -1,6 +1,6 @@
 //! Reports by several workers.
 
-use crate::rows::{written_at, written_by};
+use crate::rows::{written_by, written_on};
 use row_systems::MeetingGate;
 use std::sync::Wait;
 use std::thread::Threads;
@@ -106,13 +106,19 @@ rule p a -> p : 0
 query p: a => p: {a}*
 ";
 
-// Two workers have hands out at once. Without the workers, or with all their work on one thread, the gate would hold the first
-// of them in vain.
+const GROWTH_REPORT: &str = "query 1: 0
+  set 0 = empty
+  answer set 0
+";
+
+// Two workers have hands out at once, where a listing is asked for. Without the workers, or with all their work on one thread, the gate
+// would hold the first of them in vain.
 #[test]
 fn two_workers_meet(rt: HostRuntime) -> Result<(), OutOfMemory> {
     let gate = MeetingGate::new();
-    let text = written_at(&rt, GROWTH.as_bytes(), "pre", "2", &gate)?;
-    assert_eq!(rt; text.as_slice(), "query 1: 0\n".as_bytes());
+    let words = ["check", "--by", "pre", "--workers", "2"];
+    let text = written_on(&rt, &words, GROWTH.as_bytes(), &gate)?;
+    assert_eq!(rt; text.as_slice(), GROWTH_REPORT.as_bytes());
     assert!(rt; gate.have_met());
     Ok(())
 }

@@ -10,7 +10,7 @@ ghost use Rattle.document_systems.specs.Systems.{system_of, side_of, AreTaken};
 ghost use Rattle.worker_pool.specs.Workers.{IsWorkerCount};
 ghost use Rattle.query_answers.specs.Answering.{IsFinished, IsSaturated, saturated_system};
 ghost use Rattle.report_text.specs.Listings.{query_line as line_of_query};
-ghost use Rattle.report_text.specs.Reports.{query_text as text_of_query};
+ghost use Rattle.report_text.specs.Reports.{lists, query_text as text_of_query};
 ghost use Rattle.wpds_app.specs.Reports.{TellsQuery, IsReported, IsReport};
 ghost use Rattle.wpds_app.specs.private.Kept.{AreKept, TellsAt, opened_text, summed_text};
 
@@ -101,7 +101,8 @@ fn query_lines<S: DocumentWeights>(
     requires finished { IsFinished saturation.now }
     requires saturated { let opened = side_of document.now (opened_text options.by query.now) in
         let p = saturated_system saturation.now in
-        IsSaturated S.operations p options.by options.workers opened saturation.now }
+        IsSaturated S.operations p options.by (lists options) options.workers opened
+        saturation.now }
     ensures { let semiring = (saturated_system saturation.now).semiring in
         IfOk result (TellsQuery S.kind options semiring document.now number query.now) }
 {
@@ -146,7 +147,8 @@ fn keep_alike<S: DocumentWeights>(
     requires finished { IsFinished saturation.now }
     requires saturated { let pattern = side_of document.now opened.now in
         let p = saturated_system saturation.now in
-        IsSaturated S.operations p options.by options.workers pattern saturation.now }
+        IsSaturated S.operations p options.by (lists options) options.workers pattern
+        saturation.now }
     requires room { length kept.old ≡ length document.now.queries }
     requires kept { let semiring = (saturated_system saturation.now).semiring in
         AreKept S.kind options semiring document.now kept.old }
@@ -202,6 +204,7 @@ fn lines_by_saturation<
         alloc,
         system,
         options.by,
+        options.lists(),
         options.workers,
         &pattern,
         crew.gate,

@@ -29,12 +29,13 @@ use wpds_port::{Gate, Text};
 
 // How many queries a group has at most, how many edges their patterns have together, how many transitions over a symbol the
 // states of their items may come to have, one for each control, and how many pairs of a state of the pattern where runs
-// begin and one of the saturation a walk may come to.
+// begin and one of the saturation a walk may come to. More transitions than these do not stay in a processor's caches: a
+// further group is faster then, though it finds anew what leads from control to control.
 const MOST_QUERIES: usize = 1000;
 
 const MOST_EDGES: u64 = 1_000_000;
 
-const MOST_TRANSITIONS: u64 = 4_000_000;
+const MOST_TRANSITIONS: u64 = 200_000;
 
 const MOST_PAIRS: u64 = 4_000_000;
 
@@ -208,15 +209,7 @@ pub(crate) fn lines_by_values<
     let group = gather(alloc, system, document, place, kept)?;
     let from = pattern_from(alloc, system, &document.queries.as_slice()[place].from)?;
     let ends = group.ends.as_slice();
-    let values = values_from(
-        crew.rt,
-        alloc,
-        system,
-        options.workers,
-        &from,
-        ends,
-        crew.gate,
-    )?;
+    let values = values_from(alloc, system, &from, ends, crew.gate)?;
     let (semiring, names) = (system.semiring(), &document.items);
     for j in 1..values.len() {
         let later = group.places[j];

@@ -14,8 +14,10 @@ use Rattle.program_laws.specs.ReadPrograms.{IsProgram}
 use Rattle.lowering_laws.specs.Lowering.{symbol_points}
 use Rattle.lowering_laws.specs.Queries.{entry_pattern, point_pattern}
 use Rattle.lowering_laws.specs.Weights.{IsDiagramLowering}
+use Rattle.path_sum.specs.Answers.{IsValueOf}
 use Rattle.query_answers.specs.declared.saturation.Saturation.{Saturation}
-use Rattle.query_answers.specs.Answering.{opened_of, summed_of, saturated_system, IsFinished, IsSaturated}
+use Rattle.report_text.specs.Reports.{lists}
+use Rattle.query_answers.specs.Answering.{opened_of, summed_of, saturated_system, IsAnswer, IsFinished, IsSaturated}
 use Rattle.program_reports.specs.declared.asked.Asked.{Asked}
 
 abbrev pub program_in : Asked → Program
@@ -36,11 +38,15 @@ opened a point = opened_of a.options.by (entry_pattern (program_in a)) (point_pa
 abbrev pub summed : Asked → Point → PatternValue
 summed a point = summed_of a.options.by (entry_pattern (program_in a)) (point_pattern (program_in a) point)
 
+-- it is the value of an answer for a point
+abbrev pub IsValueFor : Asked → Point → Parts → Type 0
+IsValueFor a point value = IsValueOf (IsAnswer relation_operations a.lowering.system a.options.by a.options.workers (entry_pattern (program_in a)) (point_pattern (program_in a) point)) value
+
 -- a finished saturation over the lowering, for a point
 pub record Serves (a : Asked) (point : Point) (s : Saturation ℕ Parts RelMap) : Type 0 where
   pub finished : IsFinished s
   pub system : saturated_system s ≡ a.lowering.system
-  pub saturated : IsSaturated relation_operations a.lowering.system a.options.by a.options.workers (opened a point) s
+  pub saturated : IsSaturated relation_operations a.lowering.system a.options.by (lists a.options) a.options.workers (opened a point) s
 
 -- each listed run fires from main's first line, and one of them is feasible
 abbrev pub CanTrace : Program → Pushdown ℕ Parts RelMap → Option Listing → Type 0

@@ -1,7 +1,7 @@
 use Rattle.std.proofs.Common.{sym, ◌∙◌, subst}
 use Rattle.witness_graph.specs.declared.node.Side.{Side}
 use Rattle.query_answers.specs.Answering.{IsSaturated}
-use Rattle.query_answers.specs.declared.saturation.Saturation.TheVariants.{Backward, Forward}
+use Rattle.query_answers.specs.declared.saturation.Saturation.TheVariants.{Backward, Forward, Callees}
 use Rattle.query_answers.proofs.answering.saturate.Goals as goal
 
 pub returns-in_ok-saturate-in-Pre-clause-saturated : goal.returns-in_ok-saturate-in-Pre-clause-saturated
@@ -9,13 +9,20 @@ returns-in_ok-saturate-in-Pre-clause-saturated g c =
     let b = c.in_ok-saturate-in-Pre.field-0 in
     let kept = c.in_ok-saturate-in-Pre.ensures in
     let begun = c.in_ok-book-in-Pre.ensures in
-    subst (λ (side : Side). IsSaturated g.S.Semiring.operations c.args.system.now side c.args.workers c.args.opened.now (Backward b)) (sym c.in-Pre.is)
+    subst (λ (side : Side). IsSaturated g.S.Semiring.operations c.args.system.now side c.args.listed c.args.workers c.args.opened.now (Backward b)) (sym c.in-Pre.is)
     (record { system = kept.base.system ∙ begun.system; opening = kept.base.opening ∙ begun.opening; book = kept.book; closed = kept.closed; seats = kept.seats; alone = kept.alone })
 
 pub returns-in_ok-saturate-in-Post-clause-saturated : goal.returns-in_ok-saturate-in-Post-clause-saturated
 returns-in_ok-saturate-in-Post-clause-saturated g c =
     let b = c.in_ok-saturate-in-Post.field-0 in
     let kept = c.in_ok-saturate-in-Post.ensures in
-    let begun = c.in_ok-book-in-Post.ensures in
-    subst (λ (side : Side). IsSaturated g.S.Semiring.operations c.args.system.now side c.args.workers c.args.opened.now (Forward b)) (sym c.in-Post.is)
+    let begun = c.in_ok-book-in-Post-2.ensures in
+    subst (λ (side : Side). IsSaturated g.S.Semiring.operations c.args.system.now side c.args.listed c.args.workers c.args.opened.now (Forward b)) (sym c.in-Post.is)
     (record { system = kept.base.system ∙ begun.system; opening = kept.base.opening ∙ begun.opening; book = kept.book; closed = kept.closed; seats = kept.seats; alone = kept.alone })
+
+pub returns-then-branch-clause-saturated : goal.returns-then-branch-clause-saturated
+returns-then-branch-clause-saturated g c =
+    let b = c.in_ok-book-in-Post.book in
+    let through = c.in_ok-book-in-Post.ensures.through c.args.workers c.requires.workers in
+    subst (λ (side : Side). IsSaturated g.S.Semiring.operations c.args.system.now side c.args.listed c.args.workers c.args.opened.now (Callees b)) (sym c.in-Post.is)
+    (c.if-not-listed.true, through)

@@ -1,4 +1,4 @@
-use Rattle.std.proofs.Common.{◌≡◌, List, ap, ◌∙◌, subst}
+use Rattle.std.proofs.Common.{◌≡◌, ap, ◌∙◌, subst}
 use Rattle.std.specs.Prelude.{slice_index_or}
 use Rattle.std.proofs.lemmas.Result.{IfOk-weaker}
 use Rattle.narrow_patterns.specs.Narrowed.{is_marked, may_stand_below}
@@ -15,7 +15,7 @@ sum_values-requires-clause-each g c = λ k d within.
     saturated_to g.S.Semiring.operations g.S.Semiring.laws c.in_ok-book.book c.in_ok-book.ensures.book c.in_ok-book.ensures.closed (slice_index_or c.deref-2.result.now k d)
 
 pub returns : goal.returns
-returns g c =
+returns g c = λ workers some.
     let operations = g.S.Semiring.operations in
     let p = c.args.system.now in
     let from = c.args.from.now in
@@ -32,5 +32,5 @@ returns g c =
     let finals = c.deref-2.ensures.value ∙ begun.finals ∙ ap (joint_finals p.controls) narrow in
     let valid = subst (IsSystem operations) system c.in_ok-book.ensures.book.system in
     IfOk-weaker c.sum_values.result _ _ (λ vs are.
-    c.walks_give_values.ensures p c.args.workers from tos b vs.items valid c.requires.workers c.requires.from c.requires.tos shared
+    c.walks_give_values.ensures p workers from tos b vs.items valid some c.requires.from c.requires.tos shared
     (subst (λ sets. AreValuesTo operations (pre_way operations) b from sets vs.items) finals are)) c.sum_values.ensures

@@ -7,6 +7,8 @@ use Rattle.pushdown_rules.specs.Pushdown.{Pushdown}
 use Rattle.document_systems.specs.Systems.{pattern_of, side_of}
 use Rattle.path_sum.specs.Answers.{IsValueOf}
 use Rattle.query_answers.specs.Answering.{opened_of, summed_of, saturated_system, IsAnswer, IsSaturated}
+use Rattle.report_text.specs.Reports.{lists}
+use Rattle.report_text.proofs.CallerLemmas.{lists_otherwise}
 use Rattle.wpds_app.specs.Reports.{IsQueryText}
 use Rattle.wpds_app.specs.private.Kept.{summed_text}
 use Rattle.wpds_app.proofs.ReportingLemmas.{opened_side, summed_side, opened_below, summed_lawful, lines_told, line_told}
@@ -49,10 +51,10 @@ returns-then-is_brief g c =
     let v = c.in_ok-value.value in
     let value = c.system-system.ensures in
     let below = opened_below kind by p d q c.requires.system c.requires.query in
-    let saturated = subst (λ x. IsSaturated operations p by workers x c.args.saturation.now) (sym (opened_side by d q)) c.requires.saturated in
+    let saturated = subst (λ x. IsSaturated operations p by (lists c.args.options) workers x c.args.saturation.now) (sym (opened_side by d q)) c.requires.saturated in
     let symbols = ap (λ (s : Pushdown _ _ _). s.symbols) value ∙ ap (λ (s : Pushdown _ _ _). s.symbols) c.requires.system in
     let summed = c.in_ok-summed.ensures ∙ ap₂ pattern_of symbols c.summed_text.ensures in
-    let is = c.in_ok-value.ensures p by workers from to below (summed_side by d q ∙ sym summed) saturated in
+    let is = c.in_ok-value.ensures p by (lists c.args.options) workers from to below (summed_side by d q ∙ sym summed) saturated in
     let over_kind = subst (λ o. IsValueOf (IsAnswer o p by workers from to) v) (sym g.met.S.DocumentWeights.computes) is in
     let semiring = c.semiring.ensures.value ∙ ap (λ (s : Pushdown _ _ _). s.semiring) value in
     let brief = c.is_brief.ensures.0 c.if-is_brief.true in
@@ -73,7 +75,9 @@ returns g c =
     let to = side_of d q.to in
     let value = c.system-system.ensures in
     let below = opened_below kind by p d q c.requires.system c.requires.query in
-    let saturated = subst (λ x. IsSaturated operations p by workers x c.args.saturation.now) (sym (opened_side by d q)) c.requires.saturated in
+    let listed = lists_otherwise c.args.options c.is_brief.result c.is_brief.ensures c.if-is_brief.false in
+    let saturated = subst (λ b. IsSaturated operations p by b workers (opened_of by from to) c.args.saturation.now) listed
+    (subst (λ x. IsSaturated operations p by (lists c.args.options) workers x c.args.saturation.now) (sym (opened_side by d q)) c.requires.saturated) in
     let symbols = ap (λ (s : Pushdown _ _ _). s.symbols) value ∙ ap (λ (s : Pushdown _ _ _). s.symbols) c.requires.system in
     let summed = c.in_ok-summed.ensures ∙ ap₂ pattern_of symbols c.summed_text.ensures in
     let is = c.in_ok-answer.ensures p by workers from to below (summed_side by d q ∙ sym summed) saturated in

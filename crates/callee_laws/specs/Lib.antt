@@ -1,0 +1,6 @@
+pub mod Callees
+pub mod Rows
+pub mod Jobs
+pub mod Reading
+pub mod Fitting
+pub mod Ways

@@ -1,0 +1,4 @@
+mod StateLemmas
+mod RowLemmas
+mod FitLemmas
+mod ReadLemmas
