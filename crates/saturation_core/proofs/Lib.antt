@@ -13,6 +13,7 @@ mod GoalLemmas
 mod PlanEqualsApply
 mod SettleBook
 mod TurnBook
+mod SearchTurns
 mod AllPush
 mod Examples
 pub mod CallerLemmas

@@ -47,7 +47,7 @@ module _ {S W Map : Type 0} where
   all_changes s d m (j ∷ js) fit = (fit.0, all_changes s d m js fit.1)
 
   -- a seat without a hand that gets one and gives it away
-  set_back : (hs : List (Option (Holding S W Map))) (k : ℕ) (o : Option (Holding S W Map)) → hand_at k hs ≡ None → set (set hs k o) k None ≡ hs
+  pub set_back : (hs : List (Option (Holding S W Map))) (k : ℕ) (o : Option (Holding S W Map)) → hand_at k hs ≡ None → set (set hs k o) k None ≡ hs
   set_back [] k o e = refl
   set_back (g ∷ hs) zero o e = ap (λ z. z ∷ hs) (sym e)
   set_back (g ∷ hs) (suc k) o e = ap (λ zs. g ∷ zs) (set_back hs k o e)

@@ -3,6 +3,7 @@ pub mod Calls
 pub mod QueuedList
 pub mod JournalEvents
 pub mod BookView
+pub mod SearchView
 pub mod DoneValue
 pub mod Settled
 pub mod private

@@ -150,7 +150,7 @@ module _ {S W Map : Type 0} {s : Operations W Map} (laws : IsSemiring s) {p : Pu
       counted = jobs_count laws (value_of s p) fits_value runs d places h.jobs st (state_of inv)
           (λ j in'. job_sound laws fits_value runs direction opening fits_opening st.nodes h.place j ((inv.hands seat h out).jobs j in')) (λ j in'. within.hands seat h out j in')
 
-      settle_counts : (hands_stay : (apply_jobs s d h.jobs st).hands ≡ st.hands)
+      pub settle_counts : (hands_stay : (apply_jobs s d h.jobs st).hands ≡ st.hands)
           → WithinRankBound s places st (Settle seat ∷ []) (settle s d seat h st) × IsWithin places o.edges (settle s d seat h st)
       settle_counts hands_stay = (
         record { taken = omega (arith, counted.queue); lowered = counted.nodes },
@@ -168,7 +168,7 @@ module _ {S W Map : Type 0} {s : Operations W Map} (laws : IsSemiring s) {p : Pu
         record { transitions = within.transitions; hands = λ k g at j in'. within.hands k g (after_free st.hands seat k g at) j in' },
       )
 
-    take_counts : (x : Place) (q : List Place) → st.queue ≡ x ∷ q → (t : Entry S W Map) → entry_at x st.transitions ≡ Some t → seat < length st.hands
+    pub take_counts : (x : Place) (q : List Place) → st.queue ≡ x ∷ q → (t : Entry S W Map) → entry_at x st.transitions ≡ Some t → seat < length st.hands
         → WithinRankBound s places st (Take seat x ∷ []) (take s d seat x st) × IsWithin places o.edges (take s d seat x st)
     take_counts x q front t here there =
         let Q : List Place → Type 0 = λ r. 1 + length (without_front s d r) + length st.nodes ≤ length r + length st.nodes + 0 in
@@ -236,7 +236,7 @@ module _ {S W Map : Type 0} {s : Operations W Map} (laws : IsSemiring s) {p : Pu
       let more = takes_more e es in
       (record { taken = omega (arith, first.0.taken, later.0.taken, more.0, more.1); lowered = omega (arith, first.0.lowered, later.0.lowered) }, later.1))
 
-  fallen_le : (ts : List (Entry S W Map)) (xs : List Place) → fallen s ts xs ≤ length xs * s.top_rank
+  pub fallen_le : (ts : List (Entry S W Map)) (xs : List Place) → fallen s ts xs ≤ length xs * s.top_rank
   fallen_le ts [] = omega arith
   fallen_le ts (x ∷ xs) = omega (arith, fallen_le ts xs)
 

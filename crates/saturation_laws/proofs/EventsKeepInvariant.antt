@@ -53,7 +53,7 @@ module _ {S W Map : Type 0} where
   ]
 
   -- each input has one thing, or some input has the other
-  each_or_some : (j : Job S W Map) (P Q : Entry S W Map → Type 0) → ((t : Entry S W Map) → HasInput j t → P t ⊎ Q t)
+  pub each_or_some : (j : Job S W Map) (P Q : Entry S W Map → Type 0) → ((t : Entry S W Map) → HasInput j t → P t ⊎ Q t)
       → ((t : Entry S W Map) → HasInput j t → P t) ⊎ ((t : Entry S W Map) × HasInput j t × Q t)
   each_or_some j P Q all = elim (one_or_some P Q j.first (λ t e. all t (inl e))) [
     | inr found ↦ inr (found.0, inl found.1, found.2)

@@ -14,5 +14,6 @@ mod ListMembers
 mod ReplayLemmas
 mod BookFields
 mod BookInvariant
+mod SearchLemmas
 mod Examples
 pub mod CallerLemmas

@@ -1,5 +1,5 @@
 -- What holds of the state that a saturation begins with.
-use Rattle.std.proofs.Common.{◌≡◌, ◌⊎◌, inl, inr, ℕ, suc, zero, ◌+◌, List, [], ◌∷◌, map, replicate, refl, sym, ap, ◌∙◌, subst, arith}
+use Rattle.std.proofs.Common.{◌≡◌, ◌⊎◌, inl, inr, ℕ, suc, zero, ◌+◌, ◌<◌, List, [], ◌∷◌, length, map, replicate, refl, sym, ap, ◌∙◌, subst, arith}
 use Rattle.std.specs.Prelude.{Option, None, Some, IsSome, slice_get}
 use Rattle.std.proofs.lemmas.Option.{same_Some}
 use Rattle.semiring_laws.specs.Semiring.{Operations, IsSemiring, Fits, Below}
@@ -44,6 +44,7 @@ pub record IsOpening {S W Map : Type 0} (s : Operations W Map) (value : List ℕ
   pub sound : IsSoundState s value runs side st
   pub waits : (x : Place) → IsSome (entry_at x st.transitions) → IsIn x st.queue
   pub hands : st.hands ≡ replicate 64 None
+  pub start : (0 < length st.nodes) × (runs_of side st.nodes 0 ≡ [] ∷ [])
   pub within : (x : Place) → IsSome (entry_at x st.transitions) → IsIn x places ⊎ IsIn x edges
 
 start_only : (k : ℕ) (n : Node) → slice_get (Start ∷ []) k ≡ Some n → Start ≡ n
@@ -54,6 +55,10 @@ module _ {S W Map : Type 0} {s : Operations W Map} (laws : IsSemiring s) {p : Pu
     {o : Opening} {d : Tables S W Map} {places : List Place} (runs : Place → List ℕ → Type 0) (direction : IsDirection s p o d places runs) where
   abbrev Opened : CoreState S W Map → Type 0
   Opened = IsOpening s (value_of s p) runs d.side places o.edges
+
+  start_runs : runs_of d.side (Start ∷ []) 0 ≡ [] ∷ []
+  unfolding runs_of
+  start_runs = refl
 
   bare_opened : Opened (bare s)
   bare_opened = record {
@@ -71,12 +76,9 @@ module _ {S W Map : Type 0} {s : Operations W Map} (laws : IsSemiring s) {p : Pu
     };
     waits = λ x there. cc;
     hands = refl;
+    start = (omega arith, start_runs);
     within = λ x there. cc;
   }
-
-  start_runs : runs_of d.side (Start ∷ []) 0 ≡ [] ∷ []
-  unfolding runs_of
-  start_runs = refl
 
   module _ (st : CoreState S W Map) (before : Opened st) (only : st.nodes ≡ Start ∷ []) (x : Place) (edge : IsIn x o.edges) where
     abbrev after : CoreState S W Map
@@ -135,6 +137,7 @@ module _ {S W Map : Type 0} {s : Operations W Map} (laws : IsSemiring s) {p : Pu
         | inr other ↦ let P : Option (Entry S W Map) → Type 0 = IsSome in queued_keeps x y st.queue (before.waits y (subst P (elsewhere y other) there))
       ];
       hands = before.hands;
+      start = before.start;
       within = λ y there. elim (cases_place x y) [
         | inl e ↦ let P : Place → Type 0 = λ z. IsIn z o.edges in inr (subst P e edge)
         | inr other ↦ let P : Option (Entry S W Map) → Type 0 = IsSome in before.within y (subst P (elsewhere y other) there)
@@ -159,6 +162,7 @@ module _ {S W Map : Type 0} {s : Operations W Map} (laws : IsSemiring s) {p : Pu
         sound = kept.sound;
         waits = λ x there. elim (kept.grows.entries x) [ inr h ↦ h | inl e ↦ kept.grows.queue x (before.waits x (subst P e there)) ];
         hands = kept.grows.hands ∙ before.hands;
+        start = (omega (arith, kept.grows.more, before.start.0), kept.grows.runs 0 before.start.0 ∙ before.start.1);
         within = λ x there. elim (counts.within x there) [ inr h ↦ inl h | inl was ↦ before.within x was ];
       }) (λ e h. all e (inr h))
 

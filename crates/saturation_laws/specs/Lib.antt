@@ -9,3 +9,4 @@ pub mod Openings
 pub mod Paths
 pub mod Ways
 pub mod Books
+pub mod Searches
