@@ -1,17 +1,16 @@
 -- What a finished walk comes to, for any final states over the same edges.
-use Rattle.std.proofs.Common.{◌≡◌, inl, inr, Bool, IsTrue, ℕ, suc, ◌+◌, ◌<◌, true, false, List, [], ◌∷◌, ◌++◌, cond, length, map, refl, sym, ap, ap₂, ◌∙◌, subst, arith}
-use Rattle.std.specs.Prelude.{All, Option, None, Some, ◌&&◌, option_and_then, option_map}
+use Rattle.std.proofs.Common.{◌≡◌, inl, inr, IsTrue, ℕ, suc, ◌<◌, true, false, List, [], ◌∷◌, ◌++◌, cond, length, map, refl, sym, ap, ap₂, ◌∙◌, subst}
+use Rattle.std.specs.Prelude.{All, None, Some, ◌&&◌, option_and_then, option_map}
 use Rattle.std.specs.List.{AllByRecursion, range_with_len}
 use Rattle.std.proofs.lemmas.Bool.{cond_both, cond-true, and_from}
 use Rattle.std.proofs.lemmas.List.Elements.{All-from_recursion}
-use Rattle.std.proofs.lemmas.Option.{same_Some}
 use Rattle.semiring_laws.specs.Semiring.{Operations, IsSemiring, Fits, Below}
 use Rattle.semiring_laws.specs.Combination.{combination}
-use Rattle.semiring_laws.proofs.CallerLemmas.{fits, below_itself, below_trans, combine_zero, combine_below_left, combine_below_right}
+use Rattle.semiring_laws.proofs.CallerLemmas.{fits, below_trans, combine_zero, combine_below_left, combine_below_right}
 use Rattle.weighted_automata.specs.declared.place.Place.{Place}
 use Rattle.weighted_automata.specs.declared.place.Label.TheVariants.{Symbol, Empty}
 use Rattle.weighted_automata.specs.declared.transitions.Entry.{Entry}
-use Rattle.weighted_automata.specs.Entries.{entry_at, Present}
+use Rattle.weighted_automata.specs.Entries.{entry_at}
 use Rattle.weighted_automata.proofs.CallerLemmas.{entry_at-place, entry_at-lowered_same, entry_at-lowered_other}
 use Rattle.witness_graph.specs.declared.node.Node.{Node}
 use Rattle.witness_graph.specs.declared.node.Side.{Side}
@@ -26,23 +25,21 @@ use Rattle.pushdown_rules.specs.Answers.{Answers}
 use Rattle.saturation_laws.specs.Paths.{in_order}
 use Rattle.saturation_laws.specs.declared.opening.Opening.{Opening}
 use Rattle.saturation_laws.specs.States.{CoreState, weight_of, weight_at, lower_state, apply}
-use Rattle.saturation_laws.specs.Books.{BookValue, IsBook, IsClosed}
 use Rattle.saturation_laws.specs.Openings.{AreKept}
-use Rattle.saturation_laws.specs.Ways.{Way, IsLawful, HasPathSums}
+use Rattle.saturation_laws.specs.Ways.{Way, HasPathSums}
 use Rattle.saturation_laws.proofs.CallerLemmas.{in_map, in_left, from_filter, weights_fit, all_append}
 use Rattle.wpds_base.specs.Lists.{IsIn}
-use Rattle.path_sum.specs.Answers.{AnswersOpening, first_of, last_of}
+use Rattle.path_sum.specs.Answers.{first_of, last_of}
 use Rattle.path_sum.specs.Saturated.{IsSaturatedAutomaton}
-use Rattle.path_sum.specs.Sums.{Ways, ways_of, pair_place, answer_place, can_move, has_state, Move, Along, End, Done, end_change, move, grow, bare_sum, IsGrown}
+use Rattle.path_sum.specs.Sums.{Ways, ways_of, pair_place, answer_place, has_state, Move, Along, End, Done, end_change, move, grow, bare_sum, IsGrown}
 use Rattle.path_sum.specs.private.Ends.{pairs_with, pairs_to, weights_at, total_to}
 use Rattle.path_sum.specs.private.Inputs.{SumInputValue}
 use Rattle.path_sum.specs.private.Paths.{SumRun, IsSummable, IsQuery, answer_runs}
 use Rattle.path_sum.specs.private.Work.{IsSummed}
 use Rattle.path_sum.specs.Values.{with_finals, IsSaturatedTo, IsValueTo, AreValuesTo}
-use Rattle.path_sum.proofs.BookLemmas.{book_saturated, finished_answers}
+use Rattle.path_sum.proofs.BookLemmas.{finished_answers}
 use Rattle.path_sum.proofs.EntryLemmas.{in_right, present_here}
-use Rattle.path_sum.proofs.FinishedLemmas.{input, summable, kept_at}
-use Rattle.path_sum.proofs.GrowingLemmas.{IsSum}
+use Rattle.path_sum.proofs.FinishedLemmas.{summable}
 use Rattle.path_sum.proofs.MemberLemmas.{members_way}
 use Rattle.path_sum.proofs.MoveLemmas.{has_state_from, grown_on}
 use Rattle.path_sum.specs.private.Rounds.{IsWalked, input_of}
@@ -231,40 +228,32 @@ module _ {S W Map : Type 0} {s : Operations W Map} (laws : IsSemiring s) (value 
 
 -- ---- what a walk answers
 
-module _ {S W Map D : Type 0} (operations : S → Operations W Map) (laws : (x : S) → IsSemiring (operations x)) (way : Way S W Map D) (b : BookValue S W Map D)
-    (valid : IsSystem operations b.system) (pattern : PatternValue) (control : pattern.control < b.system.controls)
-    (bare : IsSaturatedTo operations way b []) (bare_sums : HasPathSums operations way b.direction b.system (with_finals b.opening []))
-    (finals : List ℕ) (is : IsSaturatedTo operations way b finals) (path_sums : HasPathSums operations way b.direction b.system (with_finals b.opening finals))
-    (st : CoreState S W Map) (walked : IsWalked operations way b.system b.direction (with_finals b.opening []) b.state.transitions b.state.nodes pattern st) where
-  abbrev p : Pushdown S W Map
-  p = b.system
-
+module _ {S W Map D : Type 0} (operations : S → Operations W Map) (laws : (x : S) → IsSemiring (operations x)) (way : Way S W Map D)
+    (p : Pushdown S W Map) (valid : IsSystem operations p) (d : D) (plain : Opening) (ts : List (Entry S W Map)) (nodes : List Node)
+    (pattern : PatternValue) (control : pattern.control < p.controls)
+    (bare : IsSaturatedTo operations way p d plain ts nodes []) (bare_sums : HasPathSums operations way d p (with_finals plain []))
+    (finals : List ℕ) (is : IsSaturatedTo operations way p d plain ts nodes finals) (path_sums : HasPathSums operations way d p (with_finals plain finals))
+    (st : CoreState S W Map) (walked : IsWalked operations way p d (with_finals plain []) ts nodes pattern st) where
   abbrev o : Opening
-  o = with_finals b.opening finals
+  o = with_finals plain finals
 
   abbrev s : Operations W Map
   s = operations p.semiring
 
   abbrev side : Side
-  side = (way.tables b.direction p).side
-
-  abbrev ts : List (Entry S W Map)
-  ts = b.state.transitions
-
-  abbrev nodes : List Node
-  nodes = b.state.nodes
+  side = (way.tables d p).side
 
   abbrev bare_input : SumInputValue S W Map
-  bare_input = input_of operations way p b.direction (with_finals b.opening []) ts nodes pattern
+  bare_input = input_of operations way p d (with_finals plain []) ts nodes pattern
 
   abbrev over : SumInputValue S W Map
-  over = input_of operations way p b.direction o ts nodes pattern
+  over = input_of operations way p d o ts nodes pattern
 
   abbrev bare_runs : Place → List ℕ → Type 0
-  bare_runs = way.runs b.direction p (with_finals b.opening [])
+  bare_runs = way.runs d p (with_finals plain [])
 
   abbrev runs : Place → List ℕ → Type 0
-  runs = way.runs b.direction p o
+  runs = way.runs d p o
 
   abbrev totalled : List Place
   totalled = pairs_to (finals_of_items pattern.items) finals
@@ -276,7 +265,7 @@ module _ {S W Map D : Type 0} (operations : S → Operations W Map) (laws : (x :
   at = summable laws valid is path_sums pattern control
 
   grown : IsGrown s side o ts nodes (ways_of pattern) st
-  grown = grown_same s side (with_finals b.opening []) o ts (ways_of pattern) refl nodes st walked.under_way.grown
+  grown = grown_same s side (with_finals plain []) o ts (ways_of pattern) refl nodes st walked.under_way.grown
 
   abbrev AreEnds : List Place → Type 0
   AreEnds xs = AllByRecursion (IsEnd (laws p.semiring) (value_of s p) p runs over nodes at) xs
@@ -323,12 +312,12 @@ module _ {S W Map D : Type 0} (operations : S → Operations W Map) (laws : (x :
       }
 
   -- so the total answers, between the pattern and what the edges read to the final states
-  pub total_answers : IsValueTo operations way b pattern finals (total_to s st.transitions (finals_of_items pattern.items) finals)
+  pub total_answers : IsValueTo operations way p d plain pattern finals (total_to s st.transitions (finals_of_items pattern.items) finals)
   total_answers = (
     answer_runs side added.new,
     λ far far_is.
         let query : IsQuery p o (ways_of pattern) (has_member pattern) far = record { near_is = members_way pattern; far_is = far_is } in
-        let found = finished_answers operations laws way p valid b.direction o ts nodes is path_sums (ways_of pattern) control (has_member pattern) far query added.new added.grown summed in
+        let found = finished_answers operations laws way p valid d o ts nodes is path_sums (ways_of pattern) control (has_member pattern) far query added.new added.grown summed in
         subst (λ v. Answers s p (first_of side (has_member pattern) far) (last_of side (has_member pattern) far) v (answer_runs side added.new)) total_is found,
   )
 
@@ -348,32 +337,25 @@ weights_kept {s = s} laws ts n kept xs ws is = let P : List _ → Type 0 = All (
     each [] = tt
     each (y ∷ ys) = (at y, each ys)
 
-module _ {S W Map D : Type 0} (operations : S → Operations W Map) (laws : (x : S) → IsSemiring (operations x)) (way : Way S W Map D) (direction : IsLawful operations way)
-    (path_sums : (d : D) (p : Pushdown S W Map) (o : Opening) → IsSystem operations p → IsTrue (way.fits_opening d p o) → HasPathSums operations way d p o)
-    (b : BookValue S W Map D) (is : IsBook operations way b) (closed : IsClosed b) (pattern : PatternValue) (control : pattern.control < b.system.controls) (st : CoreState S W Map)
-    (walked : IsWalked operations way b.system b.direction b.opening b.state.transitions b.state.nodes pattern st) where
-  book_is : IsSaturatedAutomaton operations way b.system b.direction b.opening b.state.transitions b.state.nodes
-  book_is = book_saturated operations laws way direction b is closed
+module _ {S W Map D : Type 0} (operations : S → Operations W Map) (laws : (x : S) → IsSemiring (operations x)) (way : Way S W Map D)
+    (p : Pushdown S W Map) (valid : IsSystem operations p) (d : D) (sums : (u : Opening) → IsTrue (way.fits_opening d p u) → HasPathSums operations way d p u)
+    (o : Opening) (ts : List (Entry S W Map)) (nodes : List Node) (is : IsSaturatedAutomaton operations way p d o ts nodes) (none : o.finals ≡ [])
+    (pattern : PatternValue) (control : pattern.control < p.controls) (st : CoreState S W Map) (walked : IsWalked operations way p d o ts nodes pattern st) where
+  bare : o ≡ with_finals o []
+  bare = ap (with_finals o) none
 
-  pub walk_kept : AreKept (operations b.system.semiring) st.transitions (length st.nodes)
-  walk_kept = kept_at laws is.system book_is (path_sums b.direction b.system b.opening is.system is.fits) pattern control st walked.under_way
+  bare_is : IsSaturatedTo operations way p d o ts nodes []
+  bare_is = subst (λ u. IsSaturatedAutomaton operations way p d u ts nodes) bare is
 
-  module _ (none : b.opening.finals ≡ []) where
-    bare : b.opening ≡ with_finals b.opening []
-    bare = ap (with_finals b.opening) none
+  bare_walked : IsWalked operations way p d (with_finals o []) ts nodes pattern st
+  bare_walked = subst (λ u. IsWalked operations way p d u ts nodes pattern st) bare walked
 
-    bare_is : IsSaturatedTo operations way b []
-    bare_is = subst (λ o. IsSaturatedAutomaton operations way b.system b.direction o b.state.transitions b.state.nodes) bare book_is
-
-    bare_walked : IsWalked operations way b.system b.direction (with_finals b.opening []) b.state.transitions b.state.nodes pattern st
-    bare_walked = subst (λ o. IsWalked operations way b.system b.direction o b.state.transitions b.state.nodes pattern st) bare walked
-
-    -- the totals of a walk are values
-    pub all_values : (sets : List (List ℕ)) → AllByRecursion (IsSaturatedTo operations way b) sets
-        → AreValuesTo operations way b pattern sets (map (total_to (operations b.system.semiring) st.transitions (finals_of_items pattern.items)) sets)
-    all_values [] each = tt
-    all_values (finals ∷ sets) each = (
-      total_answers operations laws way b is.system pattern control bare_is (path_sums b.direction b.system (with_finals b.opening []) is.system bare_is.fits) finals
-          each.0 (path_sums b.direction b.system (with_finals b.opening finals) is.system each.0.fits) st bare_walked,
-      all_values sets each.1,
-    )
+  -- the totals of a walk are values
+  pub all_values : (sets : List (List ℕ)) → AllByRecursion (IsSaturatedTo operations way p d o ts nodes) sets
+      → AreValuesTo operations way p d o pattern sets (map (total_to (operations p.semiring) st.transitions (finals_of_items pattern.items)) sets)
+  all_values [] each = tt
+  all_values (finals ∷ sets) each = (
+    total_answers operations laws way p valid d o ts nodes pattern control bare_is (sums (with_finals o []) bare_is.fits) finals
+        each.0 (sums (with_finals o finals) each.0.fits) st bare_walked,
+    all_values sets each.1,
+  )

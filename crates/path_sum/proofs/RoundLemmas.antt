@@ -19,7 +19,7 @@ use Rattle.saturation_laws.specs.States.{CoreState}
 use Rattle.saturation_laws.specs.Invariants.{HasShape}
 use Rattle.saturation_laws.proofs.CallerLemmas.{entry_fits}
 use Rattle.path_sum.specs.Sums.{Ways, ways_of, pair_place, Move, Done, move, grow, bare_sum, IsGrown}
-use Rattle.path_sum.specs.private.Work.{moves_of, IsSummed, IsAwaited, IsAmong, sum_places}
+use Rattle.path_sum.specs.private.Work.{moves_of, IsSummed, sum_places}
 use Rattle.path_sum.specs.private.Growing.{IsReady}
 use Rattle.path_sum.specs.private.Paths.{SumRun, IsSummable}
 use Rattle.path_sum.specs.private.Inputs.{SumInputValue}

@@ -1,18 +1,20 @@
 //! The values of sums to several sets of final states, by one walk.
 ghost use Rattle.std.specs.Prelude.{◌≡◌, ◌<◌, ◌++◌, ℕ, [], All, IfOk, OnOk, map};
-ghost use Rattle.saturation_laws.specs.Books.{IsClosed};
 ghost use Rattle.saturation_laws.specs.Openings.{AreKept};
+ghost use Rattle.path_sum.specs.Saturated.{IsSaturatedAutomaton};
 ghost use Rattle.path_sum.specs.Values.{IsSaturatedTo, AreValuesTo};
 ghost use Rattle.path_sum.specs.private.Ends.{pairs_with, pairs_to, weights_at, total_to};
 
 use crate::summing::walk;
 use config_patterns::Pattern;
 use pattern_openings::final_states;
-use saturation_core::{Book, weight_now};
-use saturation_laws::{Direction, StateList};
+use pushdown_rules::System;
+use saturation_core::weight_now;
+use saturation_laws::{Direction, Opening, StateList};
 use semiring_laws::{Semiring, combine_all};
 use std::alloc::Global;
 use weighted_automata::{Label, Place, Transitions};
+use witness_graph::Graph;
 use wpds_base::OutOfMemory;
 
 // Adds the pair of each of these states of a pattern and a state of the automaton.
@@ -94,33 +96,36 @@ fn totals_to<S: Semiring>(
     Ok(totals)
 }
 
-/// The weights of all runs between a pattern and what the edges of a book's opening read to each of several sets of final
-/// states, in order. All are read off one walk from the pattern, which takes what one sum takes; each then takes a look-up for
-/// each pair of a final state of the pattern and one of its set. Refused only when out of memory.
+/// The weights of all runs between a pattern and what the edges of an opening read to each of several sets of final states,
+/// in order. The transitions are those of a finished saturation from the opening, and the nodes theirs. All are read off one
+/// walk from the pattern, which takes what one sum takes; each then takes a look-up for each pair of a final state of the
+/// pattern and one of its set. Refused only when out of memory.
 pub fn sum_values<S: Semiring, D: Direction<S>>(
     alloc: Global,
-    book: &Book<'_, S, D>,
+    system: &System<S>,
+    direction: &D,
+    opening: &Opening,
+    transitions: &Transitions<S>,
+    graph: &Graph,
     pattern: &Pattern,
     finals: &[StateList],
 ) -> Result<Vec<S::W>, OutOfMemory>
-    requires closed { IsClosed book.now }
-    requires bare { book.now.opening.finals ≡ [] }
-    requires pattern { pattern.now.control < book.now.system.controls }
-    requires each { All (IsSaturatedTo S.operations D.way book.now) finals.now }
-    ensures { IfOk result (λ vs.
-        AreValuesTo S.operations D.way book.now pattern.now finals.now vs.items) }
+    requires automaton { IsSaturatedAutomaton S.operations D.way system.now direction.now
+        opening.now transitions.now.transitions graph.now.nodes }
+    requires bare { opening.now.finals ≡ [] }
+    requires pattern { pattern.now.control < system.now.controls }
+    requires each { All (IsSaturatedTo S.operations D.way system.now direction.now opening.now
+        transitions.now.transitions graph.now.nodes) finals.now }
+    ensures { IfOk result (λ vs. AreValuesTo S.operations D.way system.now direction.now
+        opening.now pattern.now finals.now vs.items) }
 {
-    let system = book.system();
-    let direction = book.direction();
-    let opening = book.opening();
-    let transitions = book.transitions();
     let sum = walk(
         alloc,
         system,
-        &direction,
+        direction,
         opening,
         transitions,
-        book.graph(),
+        graph,
         pattern,
     )?;
     let ends = final_states(alloc, pattern)?;

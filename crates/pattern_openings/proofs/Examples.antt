@@ -4,7 +4,7 @@ use Rattle.weighted_automata.specs.declared.place.Place.{Place}
 use Rattle.weighted_automata.specs.declared.place.Label.TheVariants.{Symbol}
 use Rattle.config_patterns.specs.Membership.{PatternValue}
 use Rattle.pattern_openings.specs.PatternOpenings.{state_of, finals_of_items, opening_of}
-use Rattle.pattern_openings.specs.JointOpenings.{most_states, joint_edges, joint_finals}
+use Rattle.pattern_openings.specs.JointOpenings.{joint_edges, joint_finals, items_of}
 
 pub the_control : state_of 3 1 0 ≡ 1
 the_control = refl
@@ -49,5 +49,5 @@ the_same_twice = refl
 pub no_patterns : joint_finals 3 [] ≡ []
 no_patterns = refl
 
-pub all_states : most_states ≡ 1001000
-all_states = refl
+pub both_items : items_of (seven_and_eights ∷ one_or_two ∷ []) ≡ 3
+both_items = refl

@@ -6,6 +6,7 @@ use Rattle.std.proofs.lemmas.List.Elements.{recursion_from_All}
 use Rattle.std.proofs.lemmas.Option.{same_Some}
 use Rattle.std.proofs.lemmas.List.{at_drop_more}
 use Rattle.weighted_automata.specs.declared.place.Place.{Place}
+use Rattle.weighted_automata.specs.declared.place.Label.TheVariants.{Symbol}
 use Rattle.pushdown_rules.specs.Configuration.{Configuration}
 use Rattle.config_patterns.specs.Membership.{PatternValue, has_member}
 use Rattle.config_patterns.specs.Edges.{is_final_of}
@@ -13,7 +14,7 @@ use Rattle.wpds_base.specs.Lists.{IsIn}
 use Rattle.saturation_laws.specs.Paths.{Reads, IsOpened}
 use Rattle.saturation_laws.proofs.CallerLemmas.{in_append, in_left, in_right, from_map, from_filter, from_range}
 use Rattle.pattern_openings.specs.PatternOpenings.{state_of, finals_of_items, opening_of}
-use Rattle.pattern_openings.specs.JointOpenings.{joint_edges, joint_finals, LeadsToItem}
+use Rattle.pattern_openings.specs.JointOpenings.{joint_edges, joint_finals, items_of, LeadsToItem, AreBefore}
 use Rattle.pattern_openings.proofs.EdgeLemmas.{opening_edge}
 use Rattle.pattern_openings.proofs.ReadLemmas.{opening_reads}
 
@@ -125,7 +126,27 @@ reads_among : (edges more : List Place) → ((x : Place) → IsIn x edges → Is
 reads_among edges more each from [] to reads = reads
 reads_among edges more each from (g ∷ word) to reads = (reads.0, each _ reads.1, reads_among edges more each reads.0 word to reads.2)
 
-module _ (controls : ℕ) (edges : List Place) (pattern : PatternValue) (finals : List ℕ) (in_all : IsAmong controls controls edges pattern finals) where
+-- with edges from before these, a pattern's own stand among all
+among_later : (controls first : ℕ) (edges more : List Place) (pattern : PatternValue) (finals : List ℕ) → AreBefore controls first edges → IsAmong controls first more pattern finals
+    → IsAmong controls first (edges ++ more) pattern finals
+among_later controls first edges more pattern finals before is =
+    let behind = is.behind in record {
+      control = is.control;
+      base = is.base;
+      behind = behind;
+      finals_are = is.finals_are;
+      own = λ x there. in_right x edges more (is.own x there);
+      only = λ x there. elim (in_append x edges more there) [
+        | inl old ↦
+            let at = before x old in
+            let from = at.from in
+            let to = at.to_last in
+            inr (record { from = inl (omega (arith, from, behind)); to = inl (omega (arith, to, behind)); to_item = at.to_item })
+        | inr later ↦ is.only x later
+      ];
+    }
+
+module _ (controls first : ℕ) (above : controls ≤ first) (edges : List Place) (pattern : PatternValue) (finals : List ℕ) (in_all : IsAmong controls first edges pattern finals) where
   low : pattern.control < controls
   low = in_all.control
 
@@ -188,7 +209,7 @@ module _ (controls : ℕ) (edges : List Place) (pattern : PatternValue) (finals 
   reads_members : (d : Configuration) → d.control < controls → IsOpened (record { edges = edges; finals = finals }) d ↔ IsTrue (has_member pattern d)
   reads_members d less =
       let behind = in_all.behind in
-      let is = opening_reads pattern in_all.base (omega (arith, low, behind)) d (omega (arith, less, behind)) in (
+      let is = opening_reads pattern in_all.base (omega (arith, low, above, behind)) d (omega (arith, less, above, behind)) in (
         λ opened.
             let final : IsIn opened.0 (opening_of in_all.base pattern).finals = let P : List ℕ → Type 0 = λ qs. IsIn opened.0 qs in subst P (sym in_all.finals_are) opened.2 in
             is.0 (opened.0, ends_own d.control d.stack opened.0 opened.1 final, final),
@@ -198,13 +219,14 @@ module _ (controls : ℕ) (edges : List Place) (pattern : PatternValue) (finals 
             (opened.0, reads_among own edges in_all.own d.control d.stack opened.0 opened.1, subst P in_all.finals_are opened.2),
       )
 
--- all edges together read the members of each pattern to its final states
-pub joint_reads : (patterns : List PatternValue) (controls : ℕ) → All (λ (d : PatternValue). d.control < controls) patterns
-    → (k : ℕ) (pattern : PatternValue) (finals : List ℕ) → slice_get patterns k ≡ Some pattern → slice_get (joint_finals controls patterns) k ≡ Some finals
-    → (d : Configuration) → d.control < controls → IsOpened (record { edges = joint_edges controls patterns; finals = finals }) d ↔ IsTrue (has_member pattern d)
-joint_reads patterns controls low k pattern finals is ends d less =
+-- all edges together read the members of each pattern to its final states, beside edges from before theirs
+pub later_reads : (edges : List Place) (patterns : List PatternValue) (controls first : ℕ) → controls ≤ first → AreBefore controls first edges → All (λ (d : PatternValue). d.control < controls) patterns
+    → (k : ℕ) (pattern : PatternValue) (finals : List ℕ) → slice_get patterns k ≡ Some pattern → slice_get (joint_finals first patterns) k ≡ Some finals
+    → (d : Configuration) → d.control < controls → IsOpened (record { edges = edges ++ joint_edges first patterns; finals = finals }) d ↔ IsTrue (has_member pattern d)
+later_reads edges patterns controls first above before low k pattern finals is ends d less =
     let each = recursion_from_All (IsLow controls) patterns low in
-    reads_members controls (joint_edges controls patterns) pattern finals (among controls controls (omega arith) patterns each k pattern finals is ends) d less
+    let own = among controls first above patterns each k pattern finals is ends in
+    reads_members controls first above (edges ++ joint_edges first patterns) pattern finals (among_later controls first edges (joint_edges first patterns) pattern finals before own) d less
 
 -- each leads over a symbol to a state from the base on
 joint_edge_from : (controls base : ℕ) → controls ≤ base → (patterns : List PatternValue) (x : Place) → IsIn x (joint_edges base patterns) → LeadsToItem controls x
@@ -216,6 +238,46 @@ joint_edge_from controls base above (d ∷ ds) x there = elim (in_append x (open
 
 pub joint_edge : (patterns : List PatternValue) (controls : ℕ) (x : Place) → IsIn x (joint_edges controls patterns) → LeadsToItem controls x
 joint_edge patterns controls x there = joint_edge_from controls controls (omega arith) patterns x there
+
+-- An edge of patterns whose items, so many, are numbered from a first number on: over a symbol, from a control or an item's state to an item's state.
+pub record IsLaterEdge (controls first count : ℕ) (x : Place) : Type 0 where
+  pub from : (x.from < controls) ⊎ (first ≤ x.from)
+  pub from_last : x.from < first + count
+  pub reads : (g : ℕ) × (x.label ≡ Symbol g)
+  pub to_item : first ≤ x.to
+  pub to_last : x.to < first + count
+
+each_later : (controls first : ℕ) → controls ≤ first → (patterns : List PatternValue) → AllByRecursion (IsLow controls) patterns → (x : Place) → IsIn x (joint_edges first patterns)
+    → IsLaterEdge controls first (items_of patterns) x
+each_later controls first above [] low x there = elim there [ ]
+each_later controls first above (d ∷ ds) low x there = elim (in_append x (opening_of first d).edges (joint_edges (first + length d.items) ds) there) [
+  | inl here ↦
+      let is = opening_edge d first x here in
+      let control = low.0 in
+      let last = is.to_last in record {
+        from = elim is.from [ inl at ↦ inl (omega (arith, at, control)) | inr item ↦ inr item.0 ];
+        from_last = elim is.from [ inl at ↦ omega (arith, at, control, above) | inr item ↦ let to = item.1 in omega (arith, to) ];
+        reads = is.reads;
+        to_item = is.to_item;
+        to_last = omega (arith, last);
+      }
+  | inr later ↦
+      let is = each_later controls (first + length d.items) (omega (arith, above)) ds low.1 x later in
+      let from = is.from_last in
+      let to = is.to_item in
+      let last = is.to_last in record {
+        from = elim is.from [ inl at ↦ inl at | inr item ↦ inr (let g : first + length d.items ≤ x.from = item in omega (arith, g)) ];
+        from_last = omega (arith, from);
+        reads = is.reads;
+        to_item = omega (arith, to);
+        to_last = omega (arith, last);
+      }
+]
+
+-- each edge of several patterns is one
+pub later_edge : (controls first : ℕ) → controls ≤ first → (patterns : List PatternValue) → All (λ (d : PatternValue). d.control < controls) patterns → (x : Place) → IsIn x (joint_edges first patterns)
+    → IsLaterEdge controls first (items_of patterns) x
+later_edge controls first above patterns low x there = each_later controls first above patterns (recursion_from_All (IsLow controls) patterns low) x there
 
 -- what was gathered so far and what is left to gather, one pattern further
 module _ {X : Type 0} (gathered : ℕ → List PatternValue → List X) (own : ℕ → PatternValue → List X)
@@ -235,3 +297,11 @@ edges_next = gathered_next joint_edges (λ n d. (opening_of n d).edges) (λ n d 
 pub finals_next : (states next i : ℕ) (patterns : List PatternValue) (d : PatternValue) (before after all : List (List ℕ)) → i < length patterns → d ≡ get_or patterns i d → next ≡ length d.items
     → before ++ joint_finals states (drop i patterns) ≡ all → after ≡ before ++ (opening_of states d).finals ∷ [] → after ++ joint_finals (states + next) (drop (i + 1) patterns) ≡ all
 finals_next = gathered_next joint_finals (λ n d. (opening_of n d).finals ∷ []) (λ n d ds. refl)
+
+-- the numbers so far and the items that are left, one pattern further
+pub items_next : (states next i : ℕ) (patterns : List PatternValue) (d : PatternValue) (all : ℕ) → i < length patterns → d ≡ get_or patterns i d → next ≡ length d.items
+    → states + items_of (drop i patterns) ≡ all → (states + next) + items_of (drop (i + 1) patterns) ≡ all
+items_next states next i patterns d all less is many was =
+    let left : items_of (drop i patterns) ≡ length d.items + items_of (drop (i + 1) patterns) =
+    at_drop_more items_of patterns i d less ∙ ap (λ e. items_of (e ∷ drop (i + 1) patterns)) (sym is) in
+    omega (arith, left, many, was)

@@ -1,4 +1,4 @@
-ghost use Rattle.std.specs.Prelude.{◌↔◌, ◌≡◌, ◌+◌, ◌<◌, ℕ, All, IsTrue, List, Some, length, slice_get};
+ghost use Rattle.std.specs.Prelude.{◌↔◌, ◌≡◌, ◌+◌, ◌++◌, ◌<◌, ◌≤◌, ℕ, All, IsTrue, List, Some, length, slice_get};
 ghost use Rattle.weighted_automata.specs.declared.place.Place.{Place as PlaceValue};
 ghost use Rattle.pushdown_rules.specs.Configuration.{Configuration};
 ghost use Rattle.config_patterns.specs.Membership.{PatternValue, has_member};
@@ -6,7 +6,7 @@ ghost use Rattle.wpds_base.specs.Lists.{IsIn};
 ghost use Rattle.saturation_laws.specs.declared.opening.Opening.{Opening as OpeningValue};
 ghost use Rattle.saturation_laws.specs.Paths.{IsOpened};
 ghost use Rattle.pattern_openings.specs.PatternOpenings.{state_of, opening_of, IsEdgeOf};
-ghost use Rattle.pattern_openings.specs.JointOpenings.{joint_edges, joint_finals, LeadsToItem};
+ghost use Rattle.pattern_openings.specs.JointOpenings.{joint_edges, joint_finals, AreBefore, LeadsToItem};
 
 /// The opening of a pattern reads the pattern's members, and no others: for each configuration with one of the controls.
 pub fn openings_read_members()
@@ -28,19 +28,21 @@ pub fn openings_join_states()
         (opening_of controls pattern).finals }
 {}
 
-/// The edges of several patterns together read the members of each of them, and no others, to this one's final states:
-/// for each configuration with one of the controls.
-pub fn joint_openings_read_members()
-    ensures { (patterns : List PatternValue) (controls : ℕ) →
+/// The edges of several patterns together, beside edges between states before theirs, read the members of each of them, and
+/// no others, to this one's final states: for each configuration with one of the controls.
+pub fn later_openings_read_members()
+    ensures { (edges : List PlaceValue) (patterns : List PatternValue) (controls first : ℕ) →
+        controls ≤ first →
+        AreBefore controls first edges →
         All (λ (d : PatternValue). d.control < controls) patterns →
         (k : ℕ) (pattern : PatternValue) (finals : List ℕ) →
         slice_get patterns k ≡ Some pattern →
-        slice_get (joint_finals controls patterns) k ≡ Some finals →
+        slice_get (joint_finals first patterns) k ≡ Some finals →
         (d : Configuration) → d.control < controls →
-        let joint : OpeningValue = record {
-          edges = joint_edges controls patterns;
+        let all : OpeningValue = record {
+          edges = edges ++ joint_edges first patterns;
           finals = finals;
-        } in IsOpened joint d ↔ IsTrue (has_member pattern d) }
+        } in IsOpened all d ↔ IsTrue (has_member pattern d) }
 {}
 
 /// The edges of several patterns together go over a symbol to a state that is no control.

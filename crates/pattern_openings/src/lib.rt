@@ -10,7 +10,7 @@ mod over;
 
 pub use joint::{JointOpening, joint_opening};
 pub use laws::{
-    joint_edges_lead_to_items, joint_openings_read_members, openings_join_states,
+    joint_edges_lead_to_items, later_openings_read_members, openings_join_states,
     openings_read_members,
 };
 pub use opening::{final_states, opening_of};

@@ -1,9 +1,8 @@
-ghost use Rattle.std.specs.Prelude.{◌≡◌, ◌≤◌, ◌++◌, ◌∷◌, [], IfOk, OnOk, All, map, filter};
+ghost use Rattle.std.specs.Prelude.{◌≡◌, ◌+◌, ◌^◌, ◌<◌, ◌≤◌, ◌++◌, ◌∷◌, [], IfOk, OnOk, All, map, filter};
 ghost use Rattle.config_patterns.specs.declared.edge.Edge.{Edge as EdgeValue};
 ghost use Rattle.config_patterns.specs.Edges.{is_final_of};
 ghost use Rattle.wpds_base.specs.Limits.{most_items};
 ghost use Rattle.pattern_openings.specs.PatternOpenings.{state_of, place_of_edge, finals_of_items, opening_of};
-ghost use Rattle.pattern_openings.specs.JointOpenings.{most_states};
 
 use config_patterns::{Edge, Pattern};
 use saturation_laws::{Opening, PlaceList, StateList};
@@ -13,7 +12,7 @@ use wpds_base::OutOfMemory;
 
 // The state of a saturation for a state of a pattern.
 fn state_of(controls: u32, control: u32, state: u32) -> u32
-    requires controls { controls ≤ most_states }
+    requires room { controls + most_items < 2 ^ 32 }
     requires state { state ≤ most_items }
     ensures { result ≡ state_of controls control state }
 {
@@ -25,7 +24,7 @@ fn state_of(controls: u32, control: u32, state: u32) -> u32
 }
 
 fn place_of_edge(controls: u32, control: u32, edge: Edge) -> Place
-    requires controls { controls ≤ most_states }
+    requires room { controls + most_items < 2 ^ 32 }
     requires from { edge.from ≤ most_items }
     requires to { edge.to ≤ most_items }
     ensures { result ≡ place_of_edge controls control edge }
@@ -43,7 +42,7 @@ fn places_of_edges(
     control: u32,
     edges: &[Edge],
 ) -> Result<Vec<Place>, OutOfMemory>
-    requires controls { controls ≤ most_states }
+    requires room { controls + most_items < 2 ^ 32 }
     requires states { All
         (λ (e : EdgeValue). (e.from ≤ most_items) × (e.to ≤ most_items)) edges.now }
     ensures { IfOk result (λ places.
@@ -86,7 +85,7 @@ fn states_of(
     control: u32,
     states: &[u32],
 ) -> Result<Vec<u32>, OutOfMemory>
-    requires controls { controls ≤ most_states }
+    requires room { controls + most_items < 2 ^ 32 }
     requires states { All (λ q. q ≤ most_items) states.now }
     ensures { IfOk result (λ numbers.
         numbers.items ≡ map (state_of controls control) states.now) }
@@ -102,7 +101,7 @@ fn states_of(
 /// state `i` stands for `controls + i - 1`. Items of other patterns may stand between, and are counted with the controls.
 /// Refused only when out of memory.
 pub fn opening_of(alloc: Global, controls: u32, pattern: &Pattern) -> Result<Opening, OutOfMemory>
-    requires { controls ≤ most_states }
+    requires { controls + most_items < 2 ^ 32 }
     ensures { IfOk result (λ o. o ≡ opening_of controls pattern.now) }
 {
     let edges = pattern.edges(alloc)?;

@@ -1,3 +1,4 @@
 mod FitLemmas
+mod StageLemmas
 mod RowLemmas
 pub mod CallerLemmas

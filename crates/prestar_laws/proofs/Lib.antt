@@ -9,5 +9,9 @@ mod JobLemmas
 mod PlaceLemmas
 mod LawLemmas
 mod OnceLemmas
+mod EdgeLemmas
+mod OpeningBounds
+mod GrowLemmas
+mod LaterEdgeLemmas
 mod Examples
 pub mod CallerLemmas

@@ -1,5 +1,5 @@
 -- A sum between two rounds, and at its end.
-use Rattle.std.specs.Prelude.{◌≡◌, ℕ, ◌+◌, ◌≤◌, List, [], length}
+use Rattle.std.specs.Prelude.{◌≡◌, ◌+◌, ◌≤◌, List, [], length}
 use Rattle.config_patterns.specs.Membership.{PatternValue}
 use Rattle.pushdown_rules.specs.Pushdown.{Pushdown}
 use Rattle.saturation_laws.specs.Bound.{fallen}

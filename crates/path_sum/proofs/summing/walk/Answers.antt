@@ -1,4 +1,4 @@
-use Rattle.std.proofs.Common.{length, refl, sym, ap, ap₂, ◌∙◌, subst}
+use Rattle.std.proofs.Common.{sym, ap, ap₂, ◌∙◌, subst}
 use Rattle.saturation_laws.specs.Openings.{found_so_far}
 use Rattle.path_sum.specs.private.Growing.{state_of}
 use Rattle.path_sum.specs.private.Rounds.{IsUnderWay, input_of}

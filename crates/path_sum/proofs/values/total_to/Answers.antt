@@ -1,4 +1,4 @@
-use Rattle.std.proofs.Common.{sym, ◌∙◌}
+use Rattle.std.proofs.Common.{◌∙◌}
 use Rattle.path_sum.proofs.EndsLemmas.{weights_kept}
 use Rattle.path_sum.proofs.values.total_to.Goals as goal
 
