@@ -8,6 +8,7 @@ ghost use Rattle.pattern_openings.specs.PatternOpenings.{IsOver};
 ghost use Rattle.program_laws.specs.ReadPrograms.{IsPoint};
 ghost use Rattle.lowering_laws.specs.Queries.{point_pattern};
 ghost use Rattle.worker_pool.specs.Workers.{IsWorkerCount};
+ghost use Rattle.query_answers.specs.Shared.{shared_system};
 ghost use Rattle.report_text.specs.Reports.{ByQuery, IsBrief};
 ghost use Rattle.program_reports.specs.ProgramReports.{TellsPoint};
 ghost use Rattle.program_reports.specs.private.Asked.{IsAsked, IsValueFor, program_in};
@@ -18,7 +19,7 @@ use crate::lines::point_line;
 use boolean_programs::Point;
 use config_patterns::Pattern;
 use pushdown_rules::answers_are_greatest_below;
-use query_answers::values_from;
+use query_answers::SharedSearch;
 use relation_weights::{Relation, Relations};
 use semiring_laws::Semiring;
 use std::alloc::Global;
@@ -26,7 +27,7 @@ use wpds_base::OutOfMemory;
 use wpds_port::{Gate, Text};
 
 // How many queries are answered together at most, and how many edges their patterns may have.
-const MOST_QUERIES: u64 = 1000;
+const MOST_QUERIES: u64 = 100;
 
 const MOST_EDGES: u64 = 1_000_000;
 
@@ -76,34 +77,37 @@ fn ends_of(alloc: Global, asked: &Asked<'_>, points: &[Point]) -> Result<Vec<Pat
     Ok(ends)
 }
 
-// The lines of the queries for points, numbered from here on. One saturation gives the values of all.
-fn group_lines<G: Gate>(
+// The lines of the queries for points, numbered from here on, and the search that gives the values of all.
+fn group_lines<'s, G: Gate>(
     alloc: Global,
     asked: &Asked<'_>,
+    shared: SharedSearch<'s, Relations>,
     number: u64,
     points: &[Point],
     gate: &G,
-) -> Result<Text, OutOfMemory>
+) -> Result<(SharedSearch<'s, Relations>, Text), OutOfMemory>
     requires asked { IsAsked asked.now }
+    requires system { shared_system shared ≡ asked.now.lowering.system }
     requires workers { IsWorkerCount asked.now.options.workers }
     requires brief { IsBrief asked.now.options }
     requires backward { asked.now.options.by ≡ Backward }
     requires points { All (IsPoint (program_in asked.now)) points.now }
     requires few { length points.now ≤ most_queries }
     requires numbers { number + length points.now < 2 ^ 64 }
-    ensures { let a = asked.now in
+    ensures system { IfOk result (λ r. shared_system r.0 ≡ asked.now.lowering.system) }
+    ensures lines { let a = asked.now in
         let tells = TellsPoint a.options a.program.now a.lowering.system in
-        IfOk result (ByQuery tells number points.now) }
+        IfOk result (λ r. ByQuery tells number points.now r.1) }
 {
     let ends = ends_of(alloc, asked, points)?;
     let from = asked.entry_pattern(alloc)?;
-    let values = values_from(alloc, &asked.lowering.system, &from, &ends, gate)?;
+    let (shared, values) = shared.values_from(alloc, &from, &ends, gate)?;
     let mut text = Vec::new(alloc);
     for (place, point) in points.iter().enumerate() {
         let line = value_line(alloc, asked, number + place as u64, *point, &values[place])?;
         text.extend_from_slice(line.as_bytes())?;
     }
-    Ok(Text::from_vec(text))
+    Ok((shared, Text::from_vec(text)))
 }
 
 /// The lines of all queries, in order, where values alone are told and runs are followed backwards:
@@ -123,13 +127,16 @@ pub(crate) fn lines_by_values<G: Gate>(
 {
     let queries = asked.program.queries.as_slice();
     let most = group_size(asked.lowering.system.symbols());
+    let mut shared = SharedSearch::open(alloc, &asked.lowering.system, gate)?;
     let mut text = Vec::new(alloc);
     let mut place = 0;
     while place < queries.len() {
         let end = place + most.min(queries.len() - place);
         let points = &queries[place..end];
-        let lines = group_lines(alloc, asked, place as u64 + 1, points, gate)?;
+        let number = place as u64 + 1;
+        let (kept, lines) = group_lines(alloc, asked, shared, number, points, gate)?;
         text.extend_from_slice(lines.as_bytes())?;
+        shared = kept;
         place = end;
     }
     Ok(Text::from_vec(text))

@@ -1,5 +1,5 @@
--- The values of queries that share one saturation backwards.
-use Rattle.std.proofs.Common.{◌≡◌, ◌↔◌, true, ℕ, zero, suc, ◌+◌, ◌<◌, List, [], ◌∷◌, IsTrue, length, map, refl, sym, ap, ap₂, ◌∙◌, subst, arith}
+-- The values of queries that share one search backwards.
+use Rattle.std.proofs.Common.{◌≡◌, ◌↔◌, true, ℕ, zero, suc, ◌+◌, ◌<◌, ◌≤◌, List, [], ◌∷◌, ◌++◌, IsTrue, length, map, refl, sym, ap, ap₂, ◌∙◌, subst, arith}
 use Rattle.std.specs.Prelude.{All, Bool, false, Some, ◌||◌, not, nat_eq, cond, filter, slice_get}
 use Rattle.std.specs.List.{AllByRecursion}
 use Rattle.std.proofs.lemmas.List.Elements.{All-from_recursion, recursion_from_All}
@@ -13,27 +13,33 @@ use Rattle.pushdown_rules.specs.Pushdown.{Pushdown, IsSystem}
 use Rattle.config_patterns.specs.Membership.{PatternValue, has_member, items_match}
 use Rattle.narrow_patterns.specs.Narrowed.{may_stand_below, narrowed, narrowed_items}
 use Rattle.config_patterns.specs.declared.item.Item.{Item}
-use Rattle.pattern_openings.specs.JointOpenings.{joint_edges, joint_finals}
+use Rattle.pattern_openings.specs.JointOpenings.{joint_edges, joint_finals, edges_alone, AreBefore}
 use Rattle.pattern_openings.specs.PatternOpenings.{IsOver, opening_of}
 use Rattle.path_sum.specs.Answers.{AnswersOpening, IsValueOf, listed_runs}
 use Rattle.path_sum.specs.Results.{IsSumOf}
+use Rattle.path_sum.specs.Saturated.{IsSaturatedAutomaton}
 use Rattle.path_sum.specs.Values.{with_finals, IsSaturatedTo, IsValueTo, AreValuesTo}
 use Rattle.path_sum.specs.declared.answer.Answer.{Answer}
 use Rattle.prestar.proofs.CallerLemmas.{pattern_fits}
+use Rattle.prestar.specs.Stages.{HasStates}
 use Rattle.prestar.specs.declared.pre.Pre.{Pre}
+use Rattle.weighted_automata.specs.declared.transitions.Entry.{Entry}
+use Rattle.witness_graph.specs.declared.node.Node.{Node}
 use Rattle.prestar_laws.specs.Fitting.{fits_pre}
 use Rattle.prestar_laws.specs.Ways.{pre_way}
 use Rattle.saturation_laws.specs.Books.{BookValue, IsBook, IsClosed}
 use Rattle.saturation_laws.specs.declared.opening.Opening.{Opening}
 use Rattle.saturation_laws.specs.Paths.{IsOpened}
 use Rattle.saturation_laws.specs.Ways.{Way, IsLawful}
-use Rattle.saturation_laws.proofs.CallerLemmas.{closed_applies}
+use Rattle.saturation_laws.specs.Searches.{SearchValue, IsSearch, IsDone, HasSameOpening}
+use Rattle.saturation_laws.proofs.CallerLemmas.{search_applies}
+use Rattle.weighted_automata.specs.declared.place.Place.{Place}
 use Rattle.prestar_laws.proofs.CallerLemmas.{pre_laws}
 use Rattle.witness_graph.specs.declared.node.Side.TheVariants.{Pre as Backward}
 use Rattle.worker_pool.specs.Closing.{IsClosedAlone, just_opened}
 use Rattle.worker_pool.specs.Workers.{IsWorkerCount}
 use Rattle.query_answers.specs.Answering.{IsAnswer, AreValues}
-use Rattle.query_answers.specs.private.Shared.{IsSharedBy, narrowed_for}
+use Rattle.query_answers.specs.private.Shared.{narrowed_for}
 use Rattle.query_answers.proofs.AnswerLemmas.{OpeningsReadMembers, backward_is}
 
 -- a pattern's members are what an opening reads, where it reads them at each control
@@ -95,10 +101,11 @@ module _ {S W Map : Type 0} (operations : S → Operations W Map) where
   Narrow = (p : Pushdown S W Map) (from to : PatternValue) (v : W) (runs : List (List ℕ))
       → AnswersIn operations p (has_member from) (has_member (narrowed (may_stand_below p.rules from) to)) v runs ↔ AnswersIn operations p (has_member from) (has_member to) v runs
 
-abbrev pub JointOpeningsRead : Type 0
-JointOpeningsRead = (patterns : List PatternValue) (controls : ℕ) → All (λ (d : PatternValue). d.control < controls) patterns
-    → (k : ℕ) (d : PatternValue) (finals : List ℕ) → slice_get patterns k ≡ Some d → slice_get (joint_finals controls patterns) k ≡ Some finals
-    → (c : Configuration) → c.control < controls → IsOpened (record { edges = joint_edges controls patterns; finals = finals }) c ↔ IsTrue (has_member d c)
+abbrev pub LaterOpeningsRead : Type 0
+LaterOpeningsRead = (edges : List Place) (patterns : List PatternValue) (controls first : ℕ) → controls ≤ first → AreBefore controls first edges
+    → All (λ (d : PatternValue). d.control < controls) patterns
+    → (k : ℕ) (d : PatternValue) (finals : List ℕ) → slice_get patterns k ≡ Some d → slice_get (joint_finals first patterns) k ≡ Some finals
+    → (c : Configuration) → c.control < controls → IsOpened (record { edges = edges ++ joint_edges first patterns; finals = finals }) c ↔ IsTrue (has_member d c)
 
 module _ {S W Map : Type 0} (operations : S → Operations W Map) (p : Pushdown S W Map) (valid : IsSystem operations p) (workers : ℕ) (some : IsWorkerCount workers) where
   -- there is an answer to each query
@@ -121,35 +128,55 @@ module _ {S W Map : Type 0} (operations : S → Operations W Map) (p : Pushdown 
       let a = answer_exists closes opens sums law from to low_from low_to in
       (a.0, a.1, agree p (has_member from) (has_member to) v a.0.value runs (listed_runs a.0.listing) valid answers a.1.shows.answers)
 
--- ---- the book that they share
+-- ---- the search that they share
 
-module _ {S W Map : Type 0} (operations : S → Operations W Map) (laws : (x : S) → IsSemiring (operations x)) (b : BookValue S W Map Pre)
-    (is : IsBook operations (pre_way operations) b) (closed : IsClosed b) where
+module _ {S W Map : Type 0} (operations : S → Operations W Map) (laws : (x : S) → IsSemiring (operations x)) (v : SearchValue S W Map Pre)
+    (is : IsSearch operations (pre_way operations) v) (done : IsDone v) where
   lawful : IsLawful operations (pre_way {D = Pre} operations)
   lawful d p o valid fits = pre_laws valid (laws p.semiring) o fits
 
-  -- a closed book is a finished saturation whatever the final states
-  pub saturated_to : (finals : List ℕ) → IsSaturatedTo operations (pre_way operations) b finals
+  -- a search that is done is a finished saturation whatever the final states
+  pub saturated_to : (finals : List ℕ) → IsSaturatedTo operations (pre_way operations) v.system v.direction v.opening v.state.transitions v.state.nodes finals
   saturated_to finals =
       let shape = is.lock.shape in
       record {
         fits = is.fits;
         sound = is.lock.sound;
         opened = is.lock.opened;
-        applied = closed_applies operations laws (pre_way operations) lawful b is closed;
+        applied = search_applies operations laws (pre_way operations) lawful v is done;
         shape = record { places = shape.places; seats = refl; queue = tt; present = λ x h. absurd h; nodes = shape.nodes; tight = shape.tight };
       }
 
-module _ {S W Map D : Type 0} (operations : S → Operations W Map) (way : Way S W Map D) (b : BookValue S W Map D) (pattern : PatternValue) where
-  value_at : (sets : List (List ℕ)) (vs : List W) → AreValuesTo operations way b pattern sets vs → (k : ℕ) (v : W) → slice_get vs k ≡ Some v
-      → (finals : List ℕ) × (slice_get sets k ≡ Some finals) × IsValueTo operations way b pattern finals v
+  -- and so where there are none
+  pub saturated : v.opening.finals ≡ [] → IsSaturatedAutomaton operations (pre_way operations) v.system v.direction v.opening v.state.transitions v.state.nodes
+  saturated none =
+      subst (λ o. IsSaturatedAutomaton operations (pre_way operations) v.system v.direction o v.state.transitions v.state.nodes) (ap (with_finals v.opening) (sym none)) (saturated_to [])
+
+-- what holds of the parts of an automaton holds of equal parts
+pub moved : {S W Map : Type 0} (P : Pushdown S W Map → Pre → Opening → List (Entry S W Map) → List Node → Type 0) {p q : Pushdown S W Map} {d e : Pre} {o u : Opening}
+    {ts us : List (Entry S W Map)} {ns ms : List Node} → p ≡ q → d ≡ e → o ≡ u → ts ≡ us → ns ≡ ms → P p d o ts ns → P q e u us ms
+moved P {p} {q} {d} {e} {o} {u} {ts} {us} {ns} {ms} ps ds os tss nss at =
+    subst (λ x. P x e u us ms) ps (subst (λ x. P p x u us ms) ds (subst (λ x. P p d x us ms) os (subst (λ x. P p d o x ms) tss (subst (P p d o ts) nss at))))
+
+-- a search with the same opening has as many states
+pub states_stay : {S W Map : Type 0} (a b : SearchValue S W Map Pre) (n : ℕ) → HasSameOpening a b → HasStates n a → HasStates n b
+states_stay a b n same has = record {
+  bare = ap (λ (o : Opening). o.finals) same.opening ∙ has.bare;
+  controls = subst (λ (p : Pushdown _ _ _). p.controls ≤ n) (sym same.system) has.controls;
+  edges = subst (λ (p : Pushdown _ _ _). AreBefore p.controls n b.opening.edges) (sym same.system)
+      (subst (λ (o : Opening). AreBefore a.system.controls n o.edges) (sym same.opening) has.edges);
+}
+
+module _ {S W Map D : Type 0} (operations : S → Operations W Map) (way : Way S W Map D) (p : Pushdown S W Map) (d : D) (o : Opening) (pattern : PatternValue) where
+  value_at : (sets : List (List ℕ)) (vs : List W) → AreValuesTo operations way p d o pattern sets vs → (k : ℕ) (v : W) → slice_get vs k ≡ Some v
+      → (finals : List ℕ) × (slice_get sets k ≡ Some finals) × IsValueTo operations way p d o pattern finals v
   value_at [] [] are k v e = cc
   value_at [] (w ∷ vs) are k v e = absurd are
   value_at (f ∷ sets) [] are k v e = absurd are
-  value_at (f ∷ sets) (w ∷ vs) are zero v e = (f, refl, subst (IsValueTo operations way b pattern f) (same_Some w v e) are.0)
+  value_at (f ∷ sets) (w ∷ vs) are zero v e = (f, refl, subst (IsValueTo operations way p d o pattern f) (same_Some w v e) are.0)
   value_at (f ∷ sets) (w ∷ vs) are (suc k) v e = value_at sets vs are.1 k v e
 
-  as_many : (sets : List (List ℕ)) (vs : List W) → AreValuesTo operations way b pattern sets vs → length vs ≡ length sets
+  as_many : (sets : List (List ℕ)) (vs : List W) → AreValuesTo operations way p d o pattern sets vs → length vs ≡ length sets
   as_many [] [] are = refl
   as_many [] (w ∷ vs) are = absurd are
   as_many (f ∷ sets) [] are = absurd are
@@ -173,42 +200,48 @@ low_at controls symbols [] over k to e = cc
 low_at controls symbols (d ∷ tos) over zero to e = subst (λ (x : PatternValue). x.control < controls) (same_Some d to e) over.0.control
 low_at controls symbols (d ∷ tos) over (suc k) to e = low_at controls symbols tos over.1 k to e
 
+-- and so are those of the patterns that come to a search
+pub ends_low : {S W Map : Type 0} (p : Pushdown S W Map) (from : PatternValue) (tos : List PatternValue) → All (IsOver p.controls p.symbols) tos
+    → All (λ (d : PatternValue). d.control < p.controls) (narrowed_for p from tos)
+ends_low p from tos over =
+    All-from_recursion (λ (d : PatternValue). d.control < p.controls) (narrowed_for p from tos)
+    (all_low p.controls p.symbols (may_stand_below p.rules from) tos (recursion_from_All (IsOver p.controls p.symbols) tos over))
+
 module _ {S W Map : Type 0} (operations : S → Operations W Map)
-    (closes : Closes operations) (opens : Opens operations) (sums : HasSums operations) (law : OpeningsReadMembers) (agree : Agree operations) (narrow : Narrow operations) (joint : JointOpeningsRead)
-    (p : Pushdown S W Map) (workers : ℕ) (from : PatternValue) (tos : List PatternValue) (b : BookValue S W Map Pre) (vs : List W)
+    (closes : Closes operations) (opens : Opens operations) (sums : HasSums operations) (law : OpeningsReadMembers) (agree : Agree operations) (narrow : Narrow operations) (later : LaterOpeningsRead)
+    (p : Pushdown S W Map) (workers : ℕ) (from : PatternValue) (tos : List PatternValue) (edges : List Place) (states : ℕ) (d : Pre) (vs : List W)
     (valid : IsSystem operations p) (some : IsWorkerCount workers) (low_from : from.control < p.controls) (over : All (IsOver p.controls p.symbols) tos)
-    (shared : IsSharedBy p (narrowed_for p from tos) b) (are : AreValuesTo operations (pre_way operations) b from (joint_finals p.controls (narrowed_for p from tos)) vs) where
+    (least : p.controls ≤ states) (before : AreBefore p.controls states edges)
+    (are : AreValuesTo operations (pre_way operations) p d (edges_alone (edges ++ joint_edges states (narrowed_for p from tos))) from (joint_finals states (narrowed_for p from tos)) vs) where
   abbrev keep : ℕ → Bool
   keep = may_stand_below p.rules from
 
   abbrev ns : List PatternValue
   ns = narrowed_for p from tos
 
+  abbrev all : Opening
+  all = edges_alone (edges ++ joint_edges states ns)
+
   each_over : AllByRecursion (IsOver p.controls p.symbols) tos
   each_over = recursion_from_All (IsOver p.controls p.symbols) tos over
-
-  low : All (λ (d : PatternValue). d.control < p.controls) ns
-  low = All-from_recursion (λ (d : PatternValue). d.control < p.controls) ns (all_low p.controls p.symbols keep tos each_over)
 
   at_one : (k : ℕ) (to : PatternValue) (v : W) → slice_get tos k ≡ Some to → slice_get vs k ≡ Some v → IsValueOf (IsAnswer operations p Backward workers from to) v
   at_one k to v there value =
       let low_to = low_at p.controls p.symbols tos each_over k to there in
       let n = narrowed keep to in
-      let one = value_at operations (pre_way operations) b from (joint_finals p.controls ns) vs are k v value in
+      let one = value_at operations (pre_way operations) p d all from (joint_finals states ns) vs are k v value in
       let finals = one.0 in
-      let o : Opening = record { edges = joint_edges p.controls ns; finals = finals } in
+      let o : Opening = record { edges = edges ++ joint_edges states ns; finals = finals } in
       let s = operations p.semiring in
-      let opens_at : AnswersOpening (operations b.system.semiring) Backward b.system (with_finals b.opening finals) (has_member from) v one.2.0 = one.2.1 in
-      let here : AnswersOpening s Backward p o (has_member from) v one.2.0 =
-      subst (λ u. AnswersOpening s Backward p (with_finals u finals) (has_member from) v one.2.0) shared.opening
-      (subst (λ (q : Pushdown S W Map). AnswersOpening (operations q.semiring) Backward q (with_finals b.opening finals) (has_member from) v one.2.0) shared.system opens_at) in
-      let reads = members_are_read n o p.controls low_to (joint ns p.controls low k n finals (mapped_at (narrowed keep) tos k to there) one.1) in
+      let here : AnswersOpening s Backward p o (has_member from) v one.2.0 = one.2.1 in
+      let reads = members_are_read n o p.controls low_to
+      (later edges ns p.controls states least before (ends_low p from tos over) k n finals (mapped_at (narrowed keep) tos k to there) one.1) in
       let answers : Answers s p (has_member from) (has_member n) v one.2.0 = here (has_member n) reads in
       value_of_answer operations p valid workers some closes opens sums law agree from to low_from low_to v one.2.0 ((narrow p from to v one.2.0).0 answers)
 
   -- each of the values is that of an answer
   pub shared_values : AreValues operations p workers from tos vs
   shared_values = record {
-    count = as_many operations (pre_way operations) b from (joint_finals p.controls ns) vs are ∙ finals_count p.controls ns ∙ map_count (narrowed keep) tos;
+    count = as_many operations (pre_way operations) p d all from (joint_finals states ns) vs are ∙ finals_count states ns ∙ map_count (narrowed keep) tos;
     each = λ k to v there value. at_one k to v there value;
   }

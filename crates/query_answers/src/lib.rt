@@ -8,4 +8,4 @@ mod values;
 
 pub use answering::{answer, answer_over, saturate, value, value_over};
 pub use saturation::Saturation;
-pub use values::values_from;
+pub use values::SharedSearch;

@@ -1,6 +1,6 @@
 -- An input is accepted or refused, and not both.
 use Rattle.std.proofs.Common.{◌≡◌, inl, inr, ℕ, Bool, true, false, List, [], ◌∷◌, refl, sym, ◌∙◌}
-use Rattle.std.specs.Prelude.{Result, Ok, Err, Option, None, Some, option_map, option_and_then, unwrap_or}
+use Rattle.std.specs.Prelude.{Ok, Err, Option, None, Some, option_map, option_and_then, unwrap_or}
 use Rattle.wpds_port.specs.declared.Word.{Word}
 use Rattle.wpds_port.specs.declared.refusal.Refusal.{Refusal}
 use Rattle.wpds_port.specs.declared.refusal.Kind.TheVariants.{Header}

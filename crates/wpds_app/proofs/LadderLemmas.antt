@@ -1,5 +1,5 @@
 -- Answers to ladders.
-use Rattle.std.proofs.Common.{◌≡◌, ℕ, zero, suc, ◌<◌, List, [], ◌∷◌, length, refl, sym, ap, ◌∙◌, subst, arith, Option}
+use Rattle.std.proofs.Common.{◌≡◌, ℕ, zero, suc, ◌<◌, List, [], ◌∷◌, length, sym, ap, ◌∙◌, subst, arith, Option}
 use Rattle.std.specs.Prelude.{All, Result, Ok, Err, IfOk, false}
 use Rattle.std.proofs.lemmas.List.Elements.{All-nil, All-cons}
 use Rattle.semiring_laws.specs.declared.reach.NoMap.{NoMap}

@@ -3,7 +3,6 @@ use Rattle.std.proofs.Common.{◌≡◌, ◌<◌, ℕ, Bool, true, false, cond, 
 use Rattle.std.specs.Prelude.{Result, Ok, Err, IfOk, Option, ◌↔◌, [], ◌++◌, if◌then◌else◌, codes, nat_le, unwrap_or}
 use Rattle.witness_graph.specs.declared.listing.Listing.{Listing}
 use Rattle.genkill_weights.specs.Widths.{width_for}
-use Rattle.semiring_laws.specs.Semiring.{Operations}
 use Rattle.config_patterns.specs.Membership.{PatternValue}
 use Rattle.pushdown_rules.specs.Pushdown.{Pushdown}
 use Rattle.document_forms.specs.Documents.{Document}

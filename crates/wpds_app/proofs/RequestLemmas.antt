@@ -1,5 +1,5 @@
 -- What comes of what the words ask for.
-use Rattle.std.proofs.Common.{◌≡◌, ◌≢◌, ◌↔◌, ◌⊎◌, ℕ, take, inl, inr, List, Option, Some, None, refl, sym, ap, ◌∙◌, subst}
+use Rattle.std.proofs.Common.{◌≡◌, ◌≢◌, ◌↔◌, ◌⊎◌, ℕ, take, inl, inr, List, Option, Some, None, refl, sym, ◌∙◌, subst}
 use Rattle.wpds_port.specs.Writing.{AppendsPart}
 use Rattle.std.specs.Io.KnownBytes.{Appends}
 use Rattle.command_words.specs.Commands.{request_of}
@@ -7,7 +7,7 @@ use Rattle.report_text.specs.declared.options.Options.{Options}
 use Rattle.command_words.specs.declared.options.Request.{Request}
 use Rattle.command_words.specs.declared.options.Request.TheVariants.{Help, Version, Check, Generate}
 use Rattle.wpds_app.specs.declared.status.Status.{Status}
-use Rattle.wpds_app.specs.declared.status.Status.TheVariants.{Answered, WordsRefused, ReadFault, WriteFault, DocumentRefused, OutOfMemory}
+use Rattle.wpds_app.specs.declared.status.Status.TheVariants.{WordsRefused, WriteFault, OutOfMemory}
 use Rattle.wpds_app.specs.Commands.{IsCommand, IsCheck}
 use Rattle.wpds_app.specs.Running.{HasReply, IsOutcome, IsDecided, IsDecidedBy, Replies, IsCutShort}
 use Rattle.wpds_app.proofs.InputLemmas.{NeverBoth}

@@ -1,5 +1,5 @@
 -- The report on a document.
-use Rattle.std.specs.Prelude.{◌≡◌, ◌≢◌, ◌⊎◌, ◌↔◌, ℕ, ◌+◌, ◌<◌, ◌≤◌, Bool, List, [], ◌∷◌, ◌++◌, length, Option, None, Some, IfSome, codes, decimal, slice_get}
+use Rattle.std.specs.Prelude.{◌≡◌, ◌≢◌, ◌⊎◌, ◌↔◌, ℕ, ◌<◌, ◌≤◌, Bool, List, ◌++◌, length, Option, Some, IfSome, codes, decimal, slice_get}
 use Rattle.std.specs.List.{AllByRecursion}
 use Rattle.semiring_laws.specs.declared.reach.NoMap.{NoMap}
 use Rattle.semiring_laws.specs.declared.reach.Reach.{Reach as ReachValue}

@@ -1,4 +1,4 @@
-ghost use Rattle.std.specs.Prelude.{◌≡◌, ◌<◌, ◌≤◌, All, IfOk, OnOk, None, Some, length, slice_set};
+ghost use Rattle.std.specs.Prelude.{◌≡◌, ◌<◌, ◌≤◌, All, IfOk, IfSome, OnOk, None, Some, length, slice_set};
 ghost use Rattle.wpds_base.specs.Limits.{most_copied, most_cost, most_related};
 ghost use Rattle.document_forms.specs.Lawful.{IsDocument, IsQueryOf};
 ghost use Rattle.document_forms.specs.declared.weight.WeightsLine.TheVariants.{Relation};
@@ -9,6 +9,7 @@ ghost use Rattle.document_systems.specs.RelationWeights.{relation_kind};
 ghost use Rattle.document_systems.specs.Systems.{system_of, side_of, AreTaken};
 ghost use Rattle.worker_pool.specs.Workers.{IsWorkerCount};
 ghost use Rattle.query_answers.specs.Answering.{IsFinished, IsSaturated, saturated_system};
+ghost use Rattle.query_answers.specs.Shared.{shared_system};
 ghost use Rattle.report_text.specs.Listings.{query_line as line_of_query};
 ghost use Rattle.report_text.specs.Reports.{lists, query_text as text_of_query};
 ghost use Rattle.wpds_app.specs.Reports.{TellsQuery, IsReported, IsReport};
@@ -24,7 +25,7 @@ use document_systems::{DocumentWeights, Names, pattern_from, system_from};
 use genkill_weights::with_width;
 use path_sum::Answer;
 use pushdown_rules::System;
-use query_answers::{Saturation, answer_over, saturate, value_over};
+use query_answers::{Saturation, SharedSearch, answer_over, saturate, value_over};
 use relation_weights::Relations;
 use report_text::{Options, query_line, query_text};
 use semiring_laws::Reach;
@@ -223,37 +224,41 @@ fn lines_by_saturation<
     Ok(lines)
 }
 
-// The lines of the query at a place. Lines of later queries that are found with them are kept.
+// The lines of the query at a place. Lines of later queries that are found with them are kept, and so is a search that those to come share.
 fn lines_at<
+    's,
     H: Threads + Wait + Sync,
     S: DocumentWeights<W: Send + Sync, Ret: Send + Sync> + Send + Sync,
     G: Gate,
 >(
     crew: &Crew<'_, H, G>,
     alloc: Global,
-    system: &System<S>,
+    system: &'s System<S>,
     document: &Document<Names>,
     options: Options,
     place: usize,
     kept: &mut [Option<Text>],
+    shared: &mut Option<SharedSearch<'s, S>>,
 ) -> Result<Text, OutOfMemory>
     requires document { IsDocument document.now }
     requires system { system.now ≡ system_of S.kind system.now.semiring document.now }
     requires place { place < length document.now.queries }
     requires room { length kept.old ≡ length document.now.queries }
     requires kept { AreKept S.kind options system.now.semiring document.now kept.old }
+    requires shared { IfSome shared.old (λ q. shared_system q ≡ system.now) }
     requires workers { IsWorkerCount options.workers }
     ensures lines { let semiring = system.now.semiring in
         IfOk result (TellsAt S.kind options semiring document.now place) }
     ensures kept { let semiring = system.now.semiring in
         OnOk result (AreKept S.kind options semiring document.now kept.new) }
     ensures room { length kept.new ≡ length kept.old }
+    ensures shared { OnOk result (IfSome shared.new (λ q. shared_system q ≡ system.now)) }
 {
     if let Some(lines) = kept[place].take() {
         return Ok(lines);
     }
     if options.is_brief() && options.by == Side::Pre {
-        lines_by_values(crew, alloc, system, document, options, place, kept)
+        lines_by_values(crew, alloc, system, document, options, place, kept, shared)
     } else {
         lines_by_saturation(crew, alloc, system, document, options, place, kept)
     }
@@ -269,6 +274,44 @@ fn nothing_kept(alloc: Global, count: usize) -> Result<Vec<Option<Text>>, OutOfM
         kept.push(None)?;
     }
     Ok(kept)
+}
+
+// The lines of all queries of a document, in order, over its system.
+fn lines_over<
+    's,
+    H: Threads + Wait + Sync,
+    S: DocumentWeights<W: Send + Sync, Ret: Send + Sync> + Send + Sync,
+    G: Gate,
+>(
+    crew: &Crew<'_, H, G>,
+    alloc: Global,
+    system: &'s System<S>,
+    document: &Document<Names>,
+    options: Options,
+) -> Result<Text, OutOfMemory>
+    requires document { IsDocument document.now }
+    requires system { system.now ≡ system_of S.kind system.now.semiring document.now }
+    requires workers { IsWorkerCount options.workers }
+    ensures { IfOk result (IsReported S.kind options system.now.semiring document.now) }
+{
+    let count = document.queries.len();
+    let mut kept = nothing_kept(alloc, count)?;
+    let mut shared: Option<SharedSearch<'s, S>> = None;
+    let mut text = Vec::new(alloc);
+    for place in 0..count {
+        let lines = lines_at(
+            crew,
+            alloc,
+            system,
+            document,
+            options,
+            place,
+            &mut kept,
+            &mut shared,
+        )?;
+        text.extend_from_slice(lines.as_bytes())?;
+    }
+    Ok(Text::from_vec(text))
 }
 
 // The report on a document over a semiring that takes its rules.
@@ -289,14 +332,7 @@ fn report_over<
     ensures { IfOk result (IsReported S.kind options semiring document.now) }
 {
     let system = system_from(alloc, semiring, document)?;
-    let count = document.queries.len();
-    let mut kept = nothing_kept(alloc, count)?;
-    let mut text = Vec::new(alloc);
-    for place in 0..count {
-        let lines = lines_at(crew, alloc, &system, document, options, place, &mut kept)?;
-        text.extend_from_slice(lines.as_bytes())?;
-    }
-    Ok(Text::from_vec(text))
+    lines_over(crew, alloc, &system, document, options)
 }
 
 /// The costs up to a cap that a document names.

@@ -1,12 +1,13 @@
 //! Queries that begin at one pattern are answered together where values alone are asked for, backwards.
 
-ghost use Rattle.std.specs.Prelude.{◌≡◌, ◌<◌, [], ◌∷◌, ◌++◌, IfOk, IsTrue, OnOk, length};
+ghost use Rattle.std.specs.Prelude.{◌≡◌, ◌<◌, [], ◌∷◌, ◌++◌, IfOk, IfSome, IsTrue, OnOk, length};
 ghost use Rattle.wpds_base.specs.Limits.{most_queries};
 ghost use Rattle.pattern_openings.specs.PatternOpenings.{IsOver};
 ghost use Rattle.document_forms.specs.Lawful.{IsDocument, IsQueryOf};
 ghost use Rattle.document_systems.specs.Systems.{system_of, side_of};
 ghost use Rattle.witness_graph.specs.declared.node.Side.TheVariants.{Pre as Backward};
 ghost use Rattle.worker_pool.specs.Workers.{IsWorkerCount};
+ghost use Rattle.query_answers.specs.Shared.{shared_system};
 ghost use Rattle.report_text.specs.Reports.{IsBrief};
 ghost use Rattle.wpds_app.specs.private.Groups.{IsGroup};
 ghost use Rattle.wpds_app.specs.private.Kept.{AreKept, TellsAt};
@@ -18,7 +19,7 @@ use config_patterns::Pattern;
 use document_forms::{Document, QueryLine};
 use document_systems::{DocumentWeights, Names, pattern_from};
 use pushdown_rules::System;
-use query_answers::values_from;
+use query_answers::SharedSearch;
 use report_text::Options;
 use semiring_laws::Semiring;
 use std::alloc::Global;
@@ -176,26 +177,45 @@ fn kind_computes<S: DocumentWeights>()
     ensures { S.kind.operations ≡ S.operations }
 {}
 
+// The search that is kept from earlier queries, or one that is begun.
+fn search_from<'s, S: Semiring, G: Gate>(
+    alloc: Global,
+    system: &'s System<S>,
+    kept: &mut Option<SharedSearch<'s, S>>,
+    gate: &G,
+) -> Result<SharedSearch<'s, S>, OutOfMemory>
+    requires { IfSome kept.old (λ q. shared_system q ≡ system.now) }
+    ensures { IfOk result (λ q. shared_system q ≡ system.now) }
+{
+    match kept.take() {
+        Some(search) => Ok(search),
+        None => SharedSearch::open(alloc, system, gate),
+    }
+}
+
 /// The line of the query at a place, where values alone are written and runs are followed backwards. Those of later
-/// queries that begin at the same pattern are kept: the values of a group of them are found together.
+/// queries that begin at the same pattern are kept: the values of a group of them are found together. All groups share a search.
 pub(crate) fn lines_by_values<
+    's,
     H: Threads + Wait + Sync,
     S: DocumentWeights<W: Send + Sync, Ret: Send + Sync> + Send + Sync,
     G: Gate,
 >(
     crew: &Crew<'_, H, G>,
     alloc: Global,
-    system: &System<S>,
+    system: &'s System<S>,
     document: &Document<Names>,
     options: Options,
     place: usize,
     kept: &mut [Option<Text>],
+    shared: &mut Option<SharedSearch<'s, S>>,
 ) -> Result<Text, OutOfMemory>
     requires document { IsDocument document.now }
     requires system { system.now ≡ system_of S.kind system.now.semiring document.now }
     requires place { place < length document.now.queries }
     requires room { length kept.old ≡ length document.now.queries }
     requires kept { AreKept S.kind options system.now.semiring document.now kept.old }
+    requires shared { IfSome shared.old (λ q. shared_system q ≡ system.now) }
     requires workers { IsWorkerCount options.workers }
     requires brief { IsBrief options }
     requires backward { options.by ≡ Backward }
@@ -204,12 +224,15 @@ pub(crate) fn lines_by_values<
     ensures kept { let semiring = system.now.semiring in
         OnOk result (AreKept S.kind options semiring document.now kept.new) }
     ensures room { length kept.new ≡ length kept.old }
+    ensures shared { OnOk result (IfSome shared.new (λ q. shared_system q ≡ system.now)) }
 {
     kind_computes::<S>();
     let group = gather(alloc, system, document, place, kept)?;
     let from = pattern_from(alloc, system, &document.queries.as_slice()[place].from)?;
     let ends = group.ends.as_slice();
-    let values = values_from(alloc, system, &from, ends, crew.gate)?;
+    let search = search_from(alloc, system, shared, crew.gate)?;
+    let (searched, values) = search.values_from(alloc, &from, ends, crew.gate)?;
+    *shared = Some(searched);
     let (semiring, names) = (system.semiring(), &document.items);
     for j in 1..values.len() {
         let later = group.places[j];

@@ -1,4 +1,5 @@
-use Rattle.std.proofs.Common.{◌≤◌, ◌-◌, length, take}
+use Rattle.std.proofs.Common.{◌≡◌, ◌≤◌, ◌-◌, length, take}
+use Rattle.query_answers.specs.Shared.{shared_system}
 use Rattle.report_text.specs.Reports.{ByQuery}
 use Rattle.program_reports.specs.ProgramReports.{TellsPoint}
 use Rattle.program_reports.proofs.values.lines_by_values.Given as goal
@@ -10,3 +11,4 @@ abbrev pub invariant-loop-place : goal.invariant-loop-place
 invariant-loop-place g l =
     let a = l.asked in
     (l.place ≤ length a.program.now.queries) × ByQuery (TellsPoint a.options a.program.now a.lowering.system) 1 (take l.place a.program.now.queries) l.text.items
+    × (shared_system l.shared ≡ a.lowering.system)

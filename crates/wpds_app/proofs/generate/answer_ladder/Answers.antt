@@ -4,7 +4,7 @@ use Rattle.pushdown_rules.specs.Pushdown.{Pushdown}
 use Rattle.document_forms.specs.Documents.{Document}
 use Rattle.document_forms.specs.declared.document.QueryLine.{QueryLine}
 use Rattle.document_systems.specs.Weights.{cost_kind}
-use Rattle.document_systems.specs.Systems.{system_of, pattern_of, side_of}
+use Rattle.document_systems.specs.Systems.{system_of, pattern_of}
 use Rattle.ladder.specs.Ladders.{ladder_document, ladder_cap, question}
 use Rattle.wpds_app.proofs.LadderLemmas.{opened_over, summed_within, told}
 use Rattle.wpds_app.proofs.generate.answer_ladder.Goals as goal

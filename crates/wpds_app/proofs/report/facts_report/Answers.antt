@@ -1,7 +1,6 @@
 use Rattle.std.proofs.Common.{ℕ, List, length, sym, subst, arith}
 use Rattle.std.specs.Prelude.{Result, IfOk}
 use Rattle.wpds_base.specs.declared.out_of_memory.OutOfMemory.{OutOfMemory}
-use Rattle.genkill_weights.specs.Widths.{width_for}
 use Rattle.genkill_weights.proofs.CallerLemmas.{width_1, width_2, width_4, width_8, width_16}
 use Rattle.document_forms.specs.Documents.{Document}
 use Rattle.document_systems.specs.FactWeights.{genkill_kind}

@@ -1,4 +1,4 @@
-use Rattle.std.proofs.Common.{◌≡◌, ◌<◌, length, sym, ap, ap₂, ◌∙◌, subst, arith}
+use Rattle.std.proofs.Common.{sym, ap, ap₂, ◌∙◌, subst, arith}
 use Rattle.std.specs.Prelude.{IfOk}
 use Rattle.config_patterns.specs.Membership.{PatternValue}
 use Rattle.document_forms.specs.Lawful.{IsPatternText}
@@ -6,7 +6,7 @@ use Rattle.document_forms.specs.declared.pattern.PatternText.{PatternText}
 use Rattle.pushdown_rules.specs.Pushdown.{Pushdown}
 use Rattle.document_systems.specs.Systems.{pattern_of, side_of}
 use Rattle.path_sum.specs.Answers.{IsValueOf}
-use Rattle.query_answers.specs.Answering.{opened_of, summed_of, saturated_system, IsAnswer, IsSaturated}
+use Rattle.query_answers.specs.Answering.{opened_of, saturated_system, IsAnswer, IsSaturated}
 use Rattle.report_text.specs.Reports.{lists}
 use Rattle.report_text.proofs.CallerLemmas.{lists_otherwise}
 use Rattle.wpds_app.specs.Reports.{IsQueryText}

@@ -1,44 +1,10 @@
-use Rattle.std.proofs.Common.{◌≡◌, ◌+◌, ◌<◌, ◌++◌, List, length, take, drop, sym, ap, subst, ◌∙◌, arith}
-use Rattle.std.specs.Prelude.{ℕ, Option}
-use Rattle.std.proofs.Math.Seq.{take-append_seam}
+use Rattle.std.proofs.Common.{ap, subst}
+use Rattle.std.specs.Prelude.{IfOk}
 use Rattle.pushdown_rules.specs.Pushdown.{Pushdown}
-use Rattle.report_text.specs.Reports.{ByQuery}
-use Rattle.wpds_app.specs.Reports.{TellsQuery}
-use Rattle.wpds_app.specs.private.Kept.{TellsAt, AreKept}
-use Rattle.wpds_app.proofs.KeptLemmas.{nothing_kept, one_query_more}
+use Rattle.wpds_app.specs.Reports.{IsReported}
 use Rattle.wpds_app.proofs.report.report_over.Goals as goal
 
-pub lines_at-requires-clause-kept : goal.lines_at-requires-clause-kept
-lines_at-requires-clause-kept g c κs within =
-    let d = c.args.document.now in
-    let kind = g.S.DocumentWeights.kind in
-    let here = subst (λ (p : Pushdown _ _ _). AreKept kind c.args.options p.semiring d c.loop-place.kept.items) (sym c.in_ok-system.ensures) c.loop-place.invariant.1 in
-    subst (AreKept kind c.args.options c.in_ok-system.system.semiring d) (sym c.deref_mut.ensures.value) here
-
-pub loop-place-init : goal.loop-place-init
-loop-place-init g c = (
-  c.in_ok-kept.ensures.room ∙ c.len-count.ensures,
-  nothing_kept g.S.DocumentWeights.kind c.args.options c.args.semiring c.args.document.now c.in_ok-kept.kept.items c.in_ok-kept.ensures.empty,
-  c.new-text.ensures.items,
-)
-
-pub loop-place-preserved : goal.loop-place-preserved
-loop-place-preserved g c =
-    let d = c.args.document.now in
-    let kind = g.S.DocumentWeights.kind in
-    let semiring = c.args.semiring in
-    let place = c.loop-place.place in
-    let new = c.lines_at.new.kept in
-    let rest = drop (length new) c.loop-place.kept.items in
-    let same = ap length c.deref_mut.ensures.value in
-    let room : length new ≡ length d.queries = c.lines_at.ensures.room ∙ same ∙ c.loop-place.invariant.0 in
-    let len : c.loop-place.kept.len ≡ length new = omega (arith, c.lines_at.ensures.room, c.deref_mut.ensures.len) in
-    let whole : take c.loop-place.kept.len (new ++ rest) ≡ new = ap (λ n. take n (new ++ rest)) len ∙ take-append_seam new rest in
-    let are = subst (λ (p : Pushdown _ _ _). AreKept kind c.args.options p.semiring d new) c.in_ok-system.ensures c.in_ok-lines.ensures.kept in
-    let tells = subst (λ (p : Pushdown _ _ _). TellsAt kind c.args.options p.semiring d place c.in_ok-lines.lines) c.in_ok-system.ensures c.in_ok-lines.ensures.lines in
-    let within : place < length d.queries = omega (arith, c.loop-place-test.true, c.len-count.ensures) in
-    let grown = one_query_more kind c.args.options semiring d place c.loop-place.text.items c.in_ok-lines.lines within c.loop-place.invariant.2 tells in
-    let joined = c.in_ok-extend_from_slice.ensures.items ∙ ap (λ t. c.loop-place.text.items ++ t) c.as_bytes.ensures in
-    let K : List (Option (List ℕ)) → Type 0 = λ ks. (length ks ≡ length d.queries) × AreKept kind c.args.options semiring d ks in
-    let kept : K (take c.loop-place.kept.len (new ++ rest)) = subst K (sym whole) (room, are) in
-    (kept.0, kept.1, subst (ByQuery (TellsQuery kind c.args.options semiring d) 1 (take (place + 1) d.queries)) (sym joined) grown)
+pub returns : goal.returns
+returns g c =
+    subst (λ z. IfOk c.lines_over.result (IsReported g.S.DocumentWeights.kind c.args.options z c.args.document.now))
+    (ap (λ (p : Pushdown _ _ _). p.semiring) c.in_ok-system.ensures) c.lines_over.ensures

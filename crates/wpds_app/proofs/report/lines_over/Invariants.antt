@@ -1,13 +1,16 @@
 use Rattle.std.proofs.Common.{◌≡◌, length, take}
+use Rattle.std.specs.Prelude.{IfSome}
+use Rattle.query_answers.specs.Shared.{shared_system}
 use Rattle.report_text.specs.Reports.{ByQuery}
 use Rattle.wpds_app.specs.Reports.{TellsQuery}
 use Rattle.wpds_app.specs.private.Kept.{AreKept}
-use Rattle.wpds_app.proofs.report.report_over.Given as goal
+use Rattle.wpds_app.proofs.report.lines_over.Given as goal
 
 abbrev pub invariant-loop-place : goal.invariant-loop-place
 invariant-loop-place g l =
     let kind = g.S.DocumentWeights.kind in
     let d = l.document in
     (length l.kept.items ≡ length d.queries)
-    × AreKept kind l.options l.fn.semiring d l.kept.items
-    × ByQuery (TellsQuery kind l.options l.fn.semiring d) 1 (take l.place d.queries) l.text.items
+    × AreKept kind l.options l.system.semiring d l.kept.items
+    × ByQuery (TellsQuery kind l.options l.system.semiring d) 1 (take l.place d.queries) l.text.items
+    × IfSome l.shared (λ q. shared_system q ≡ l.system)
