@@ -150,9 +150,9 @@ fn all_lines<H: Threads + Wait + Sync, G: Gate>(
 /// The report on a Boolean program: for each query `reachable`, with the listing unless that is
 /// left out, exactly where some state of some run of the program's machine has the query's point on
 /// top, and `unreachable` exactly where none has. Forwards all queries share one saturation.
-/// Backwards each has its own, or a group of them has one where neither listings nor states are
-/// written. Refused only when out of memory. Two workers or more have a thread each, and each worker
-/// calls the gate between taking a transition and settling it.
+/// Backwards each has its own, or all have one search, by one worker, where neither listings nor
+/// states are written. Refused only when out of memory. Where saturations are by two workers or more
+/// they have a thread each; each worker calls the gate between taking a transition and settling it.
 pub fn report_on_program<H: Threads + Wait + Sync, G: Gate>(
     rt: &H,
     alloc: Global,
