@@ -4,9 +4,9 @@ use Rattle.std.specs.Prelude.{Option, Result, OnOk, Ok, None, Some, cond, IsSome
 use Rattle.std.specs.declared.cmp.Ordering.{Ordering}
 use Rattle.std.specs.Ordering.{eq_by_cmp}
 use Rattle.std.specs.Cmp.{IsTotalOrder, eq_by_cmp_equiv}
-use Rattle.key_rows.specs.declared.cells.Row.{Row}
+use Rattle.key_rows.specs.declared.rows.Row.{Row}
 use Rattle.key_rows.specs.Cells.{get, cell, ContainsKey}
-use Rattle.key_rows.specs.declared.cells.Ends.{Ends}
+use Rattle.key_rows.specs.declared.rows.Ends.{Ends}
 use Rattle.key_rows.specs.Rows.{index_where, last_where, has_key, gap_to, gaps_of, ends_of, AreLinked}
 use Rattle.key_rows.proofs.RowLemmas.{first_of, gaps_push, ends_push, gap_to_ends, length-gaps, gaps-none, ends-none, first_is, last_is}
 

@@ -1,14 +1,12 @@
 -- A walk along a chain, the last cell first.
-use Rattle.std.proofs.Common.{zero, suc, ◌≡◌, ℕ, set, ◌%◌, ◌<◌, Bool, true, false, List, [], ◌∷◌, ◌++◌, length, map, take, get_or, replicate, refl, sym, ap, ◌∙◌, subst, inl, inr, arith}
+use Rattle.std.proofs.Common.{zero, suc, ◌≡◌, ℕ, set, ◌*◌, ◌/◌, ◌^◌, ◌<◌, Bool, true, false, List, [], ◌∷◌, ◌++◌, length, map, take, replicate, refl, sym, ap, ◌∙◌, subst, inl, inr, arith}
 use Rattle.std.specs.Prelude.{Option, None, Some, cond, slice_get, nat_eq, ◌⊎◌}
 use Rattle.std.proofs.lemmas.Bool.{cond-true, cond-false, cases_Bool, eqb-true, eqb-false, eq-eqb}
 use Rattle.std.proofs.lemmas.List.{take_all, length-take, length-set, take-append-le, take_at}
 use Rattle.std.proofs.lemmas.Option.{same_Some, slice_get_within}
 use Rattle.key_rows.specs.Positions.{last_where}
-use Rattle.key_rows.specs.declared.cells.Cell.{Cell}
-use Rattle.key_rows.specs.declared.cells.Ends.{Ends}
-use Rattle.key_rows.specs.Cells.{with_ends}
-use Rattle.key_rows.specs.private.Chains.{row_in, chain_of, is_in, AreChained}
+use Rattle.key_rows.specs.declared.keyed.Cell.{Cell}
+use Rattle.key_rows.specs.private.Chains.{member_in, chain_of, is_in, AreChained}
 use Rattle.key_rows.proofs.RowLemmas.{last_within, last_where-push}
 
 pub last_where-map : {X Y : Type 0} (p : Y → Bool) (f : X → Y) (xs : List X) → last_where p (map f xs) ≡ last_where (λ x. p (f x)) xs
@@ -76,7 +74,7 @@ module _ {X : Type 0} (p : X → Bool) where
   ] refl e
 
 -- where a walk along a chain has come to: what is left stands before one place, and the key's cell stands there if anywhere
-pub record IsWalked {K : Type 0} (test mine : Cell K → Bool) (cells : List (Cell K)) (at : Option ℕ) : Type 0 where
+pub record IsWalked {T : Type 0} (test mine : Cell T → Bool) (cells : List (Cell T)) (at : Option ℕ) : Type 0 where
   pub below : ℕ
   pub left : at ≡ last_where test (take below cells)
   pub found : last_where mine cells ≡ last_where mine (take below cells)
@@ -85,25 +83,25 @@ pub record IsWalked {K : Type 0} (test mine : Cell K → Bool) (cells : List (Ce
 abbrev pub to_go : Option ℕ → ℕ
 to_go o = elim o [ None ↦ 0 | Some k ↦ suc k ]
 
-module _ {K : Type 0} where
+module _ {K T : Type 0} (key_of : T → K) where
   -- it has the key
-  abbrev pub mine : (K → K → Bool) → K → Cell K → Bool
-  mine same key c = same key c.row.key
+  abbrev pub mine : (K → K → Bool) → K → Cell T → Bool
+  mine same key c = same key (key_of c.member)
 
   -- it is in the key's chain
-  abbrev pub test : (ℕ → K → ℕ) → ℕ → K → List (Option ℕ) → Cell K → Bool
-  test spread round key heads = is_in spread round (length heads) (chain_of spread round (length heads) key)
+  abbrev pub test : (ℕ → K → ℕ) → ℕ → K → List (Option ℕ) → Cell T → Bool
+  test spread round key heads = is_in key_of spread round (length heads) (chain_of spread round (length heads) key)
 
-module _ {K : Type 0} (same : K → K → Bool) (spread : ℕ → K → ℕ) (round : ℕ) (alike : (a b : K) → same a b ≡ true → spread round a ≡ spread round b)
-    (key : K) (cells : List (Cell K)) (heads : List (Option ℕ)) (chained : AreChained spread round cells heads) where
-  abbrev p : Cell K → Bool
-  p = test spread round key heads
+module _ {K T : Type 0} (key_of : T → K) (same : K → K → Bool) (spread : ℕ → K → ℕ) (round : ℕ) (alike : (a b : K) → same a b ≡ true → spread round a ≡ spread round b)
+    (key : K) (cells : List (Cell T)) (heads : List (Option ℕ)) (chained : AreChained key_of spread round cells heads) where
+  abbrev p : Cell T → Bool
+  p = test key_of spread round key heads
 
-  abbrev q : Cell K → Bool
-  q = mine same key
+  abbrev q : Cell T → Bool
+  q = mine key_of same key
 
-  narrower : (c : Cell K) → q c ≡ true → p c ≡ true
-  narrower c e = eq-eqb (spread round c.row.key % length heads) (spread round key % length heads) (ap (λ n. n % length heads) (sym (alike key c.row.key e)))
+  narrower : (c : Cell T) → q c ≡ true → p c ≡ true
+  narrower c e = eq-eqb (chain_of spread round (length heads) (key_of c.member)) (chain_of spread round (length heads) key) (ap (λ n. n * length heads / 2 ^ 64) (sym (alike key (key_of c.member) e)))
 
   pub walk_starts : (at : Option ℕ) → at ≡ last_where p cells → IsWalked p q cells at
   walk_starts at e =
@@ -114,7 +112,7 @@ module _ {K : Type 0} (same : K → K → Bool) (spread : ℕ → K → ℕ) (ro
     pub walk_inside : k < length cells
     walk_inside = last_inside p cells walked.below k (sym walked.left)
 
-    module _ (c : Cell K) (there : slice_get cells k ≡ Some c) where
+    module _ (c : Cell T) (there : slice_get cells k ≡ Some c) where
       cut : last_where q cells ≡ cond (q c) (Some k) (last_where q (take k cells))
       cut = walked.found ∙ last_cut p q narrower cells walked.below k c (sym walked.left) there
 
@@ -127,7 +125,7 @@ module _ {K : Type 0} (same : K → K → Bool) (spread : ℕ → K → ℕ) (ro
 
       before : c.before ≡ last_where p (take k cells)
       before = chained.goes_on k c there
-          ∙ ap (λ n. last_where (is_in spread round (length heads) n) (take k cells)) (eqb-true (spread round c.row.key % length heads) (spread round key % length heads) in_chain)
+          ∙ ap (λ n. last_where (is_in key_of spread round (length heads) n) (take k cells)) (eqb-true (chain_of spread round (length heads) (key_of c.member)) (chain_of spread round (length heads) key) in_chain)
 
       pub walk_goes_on : q c ≡ false → IsWalked p q cells c.before
       walk_goes_on e = record { below = k; left = before; found = cut ∙ cond-false (q c) (Some k) (last_where q (take k cells)) e }
@@ -163,81 +161,87 @@ module _ {X : Type 0} (y : X) where
     | inr last ↦ inr (ap suc last.0, last.1)
   ]
 
-module _ {K : Type 0} (spread : ℕ → K → ℕ) (round : ℕ) (cells : List (Cell K)) (heads : List (Option ℕ)) (chained : AreChained spread round cells heads) (c : Cell K) where
+module _ {K T : Type 0} (key_of : T → K) (spread : ℕ → K → ℕ) (round : ℕ) (cells : List (Cell T)) (heads : List (Option ℕ)) (chained : AreChained key_of spread round cells heads) (c : Cell T) where
   abbrev at : ℕ
-  at = chain_of spread round (length heads) c.row.key
+  at = chain_of spread round (length heads) (key_of c.member)
 
-  module _ (before : c.before ≡ last_where (is_in spread round (length heads) (chain_of spread round (length heads) c.row.key)) cells)
-      (within : chain_of spread round (length heads) c.row.key < length heads) where
-    begins : (chain : ℕ) → chain < length heads → slice_get (set heads at (Some (length cells))) chain ≡ Some (last_where (is_in spread round (length heads) chain) (cells ++ c ∷ []))
+  module _ (before : c.before ≡ last_where (is_in key_of spread round (length heads) (chain_of spread round (length heads) (key_of c.member))) cells)
+      (within : chain_of spread round (length heads) (key_of c.member) < length heads) where
+    begins : (chain : ℕ) → chain < length heads → slice_get (set heads at (Some (length cells))) chain ≡ Some (last_where (is_in key_of spread round (length heads) chain) (cells ++ c ∷ []))
     begins chain below = elim (cases_Bool (nat_eq at chain)) [
       | inl here ↦
           ap (λ n. slice_get (set heads at (Some (length cells))) n) (sym (eqb-true at chain here))
           ∙ get_set_same (Some (length cells)) heads at within
-          ∙ ap Some (sym (last_where-push (is_in spread round (length heads) chain) c cells ∙ cond-true (nat_eq at chain) (Some (length cells)) (last_where (is_in spread round (length heads) chain) cells) here))
+          ∙ ap Some (sym (last_where-push (is_in key_of spread round (length heads) chain) c cells ∙ cond-true (nat_eq at chain) (Some (length cells)) (last_where (is_in key_of spread round (length heads) chain) cells) here))
       | inr other ↦
           get_set_other (Some (length cells)) heads at chain (eqb-false at chain other)
           ∙ chained.begins chain below
-          ∙ ap Some (sym (last_where-push (is_in spread round (length heads) chain) c cells ∙ cond-false (nat_eq at chain) (Some (length cells)) (last_where (is_in spread round (length heads) chain) cells) other))
+          ∙ ap Some (sym (last_where-push (is_in key_of spread round (length heads) chain) c cells ∙ cond-false (nat_eq at chain) (Some (length cells)) (last_where (is_in key_of spread round (length heads) chain) cells) other))
     ]
 
-    goes_on : (i : ℕ) (x : Cell K) → slice_get (cells ++ c ∷ []) i ≡ Some x
-        → x.before ≡ last_where (is_in spread round (length heads) (chain_of spread round (length heads) x.row.key)) (take i (cells ++ c ∷ []))
+    goes_on : (i : ℕ) (x : Cell T) → slice_get (cells ++ c ∷ []) i ≡ Some x
+        → x.before ≡ last_where (is_in key_of spread round (length heads) (chain_of spread round (length heads) (key_of x.member))) (take i (cells ++ c ∷ []))
     goes_on i x there = elim (get_push c cells i x there) [
       | inl old ↦
           let inside : i < length cells = slice_get_within cells i x old in
           chained.goes_on i x old
-          ∙ ap (last_where (is_in spread round (length heads) (chain_of spread round (length heads) x.row.key))) (sym (take-append-le i cells (c ∷ []) (omega arith)))
+          ∙ ap (last_where (is_in key_of spread round (length heads) (chain_of spread round (length heads) (key_of x.member)))) (sym (take-append-le i cells (c ∷ []) (omega arith)))
       | inr new ↦
-          ap (λ (z : Cell K). z.before) (sym new.1) ∙ before
-          ∙ ap (λ (z : Cell K). last_where (is_in spread round (length heads) (chain_of spread round (length heads) z.row.key)) cells) new.1
-          ∙ ap (last_where (is_in spread round (length heads) (chain_of spread round (length heads) x.row.key))) (sym (take_at cells (c ∷ []) i (sym new.0)))
+          ap (λ (z : Cell T). z.before) (sym new.1) ∙ before
+          ∙ ap (λ (z : Cell T). last_where (is_in key_of spread round (length heads) (chain_of spread round (length heads) (key_of z.member))) cells) new.1
+          ∙ ap (last_where (is_in key_of spread round (length heads) (chain_of spread round (length heads) (key_of x.member)))) (sym (take_at cells (c ∷ []) i (sym new.0)))
     ]
 
     same_count : length (set heads at (Some (length cells))) ≡ length heads
     same_count = length-set heads at (Some (length cells))
 
     -- chains once a cell goes last: its chain ends with it, and the others as they did
-    pub chained_push : AreChained spread round (cells ++ c ∷ []) (set heads at (Some (length cells)))
+    pub chained_push : AreChained key_of spread round (cells ++ c ∷ []) (set heads at (Some (length cells)))
     chained_push = record {
       some = λ none. absurd (omega (arith, within, same_count));
-      begins = subst (λ n. (chain : ℕ) → chain < n → slice_get (set heads at (Some (length cells))) chain ≡ Some (last_where (is_in spread round n chain) (cells ++ c ∷ []))) (sym same_count) begins;
-      goes_on = subst (λ n. (i : ℕ) (x : Cell K) → slice_get (cells ++ c ∷ []) i ≡ Some x
-          → x.before ≡ last_where (is_in spread round n (chain_of spread round n x.row.key)) (take i (cells ++ c ∷ []))) (sym same_count) goes_on;
+      begins = subst (λ n. (chain : ℕ) → chain < n → slice_get (set heads at (Some (length cells))) chain ≡ Some (last_where (is_in key_of spread round n chain) (cells ++ c ∷ []))) (sym same_count) begins;
+      goes_on = subst (λ n. (i : ℕ) (x : Cell T) → slice_get (cells ++ c ∷ []) i ≡ Some x
+          → x.before ≡ last_where (is_in key_of spread round n (chain_of spread round n (key_of x.member))) (take i (cells ++ c ∷ []))) (sym same_count) goes_on;
     }
 
-module _ {K : Type 0} (spread : ℕ → K → ℕ) (round : ℕ) (cells : List (Cell K)) (heads : List (Option ℕ)) (chained : AreChained spread round cells heads) where
+module _ {K T : Type 0} (key_of : T → K) (spread : ℕ → K → ℕ) (round : ℕ) (cells : List (Cell T)) (heads : List (Option ℕ)) (chained : AreChained key_of spread round cells heads) where
   -- what a key's chain ends with
   pub end_of : (k : K) (chain : ℕ) (o : Option ℕ) → chain ≡ chain_of spread round (length heads) k → chain < length heads → slice_get heads chain ≡ Some o
-      → o ≡ last_where (is_in spread round (length heads) (chain_of spread round (length heads) k)) cells
-  end_of k chain o is within there = same_Some o (last_where (is_in spread round (length heads) (chain_of spread round (length heads) k)) cells)
-      (sym there ∙ chained.begins chain within ∙ ap (λ n. Some (last_where (is_in spread round (length heads) n) cells)) is)
+      → o ≡ last_where (is_in key_of spread round (length heads) (chain_of spread round (length heads) k)) cells
+  end_of k chain o is within there = same_Some o (last_where (is_in key_of spread round (length heads) (chain_of spread round (length heads) k)) cells)
+      (sym there ∙ chained.begins chain within ∙ ap (λ n. Some (last_where (is_in key_of spread round (length heads) n) cells)) is)
 
   -- chains once a row goes last
-  pub chained_row : (c : Cell K) (chain n : ℕ) (new_cells : List (Cell K)) (new_heads : List (Option ℕ))
-      → chain ≡ chain_of spread round (length heads) c.row.key → chain < length heads → slice_get heads chain ≡ Some c.before → n ≡ length cells
-      → new_heads ≡ set heads chain (Some n) → new_cells ≡ cells ++ c ∷ [] → AreChained spread round new_cells new_heads
+  pub chained_row : (c : Cell T) (chain n : ℕ) (new_cells : List (Cell T)) (new_heads : List (Option ℕ))
+      → chain ≡ chain_of spread round (length heads) (key_of c.member) → chain < length heads → slice_get heads chain ≡ Some c.before → n ≡ length cells
+      → new_heads ≡ set heads chain (Some n) → new_cells ≡ cells ++ c ∷ [] → AreChained key_of spread round new_cells new_heads
   chained_row c chain n new_cells new_heads is within there count heads_are cells_are =
-      let at : chain_of spread round (length heads) c.row.key < length heads = subst (λ m. m < length heads) is within in
-      let made : AreChained spread round (cells ++ c ∷ []) (set heads (chain_of spread round (length heads) c.row.key) (Some (length cells))) =
-      chained_push spread round cells heads chained c (end_of c.row.key chain c.before is within there) at in
-      subst (λ hs. AreChained spread round new_cells hs) (sym (heads_are ∙ ap (λ m. set heads m (Some n)) is ∙ ap (λ m. set heads (chain_of spread round (length heads) c.row.key) (Some m)) count))
-      (subst (λ cs. AreChained spread round cs (set heads (chain_of spread round (length heads) c.row.key) (Some (length cells)))) (sym cells_are) made)
+      let at : chain_of spread round (length heads) (key_of c.member) < length heads = subst (λ m. m < length heads) is within in
+      let made : AreChained key_of spread round (cells ++ c ∷ []) (set heads (chain_of spread round (length heads) (key_of c.member)) (Some (length cells))) =
+      chained_push key_of spread round cells heads chained c (end_of (key_of c.member) chain c.before is within there) at in
+      subst (λ hs. AreChained key_of spread round new_cells hs) (sym (heads_are ∙ ap (λ m. set heads m (Some n)) is ∙ ap (λ m. set heads (chain_of spread round (length heads) (key_of c.member)) (Some m)) count))
+      (subst (λ cs. AreChained key_of spread round cs (set heads (chain_of spread round (length heads) (key_of c.member)) (Some (length cells)))) (sym cells_are) made)
 
--- where a cell is another with its row, the rows are the same
-pub rows_same : {K : Type 0} (xs : List (Cell K)) (i : ℕ) (x y : Cell K) → i < length xs → x ≡ get_or xs i x → y.row ≡ x.row → map row_in (set xs i y) ≡ map row_in xs
-rows_same [] i x y h e r = refl
-rows_same (z ∷ zs) zero x y h e r = ap (λ w. w ∷ map row_in zs) (r ∙ ap row_in e)
-rows_same (z ∷ zs) (suc i) x y h e r = ap (λ ws. z.row ∷ ws) (rows_same zs i x y (omega arith) e r)
+-- where a cell is another with its member, the members are the same
+pub members_same : {T : Type 0} (xs : List (Cell T)) (i : ℕ) (x y : Cell T) → slice_get xs i ≡ Some x → y.member ≡ x.member → map member_in (set xs i y) ≡ map member_in xs
+members_same [] i x y there e = refl
+members_same (z ∷ zs) zero x y there e = ap (λ m. m ∷ map member_in zs) (e ∙ ap member_in (sym (same_Some z x there)))
+members_same (z ∷ zs) (suc i) x y there e = ap (λ ms. z.member ∷ ms) (members_same zs i x y there e)
 
-module _ {K : Type 0} (spread : ℕ → K → ℕ) (round : ℕ) where
+-- where a cell is another, so are the members
+pub members_set : {T : Type 0} (xs : List (Cell T)) (i : ℕ) (y : Cell T) → map member_in (set xs i y) ≡ set (map member_in xs) i y.member
+members_set [] i y = refl
+members_set (z ∷ zs) zero y = refl
+members_set (z ∷ zs) (suc i) y = ap (λ ms. z.member ∷ ms) (members_set zs i y)
+
+module _ {K T : Type 0} (key_of : T → K) (spread : ℕ → K → ℕ) (round : ℕ) where
   get_none : (n i : ℕ) → i < n → slice_get (replicate {A = Option ℕ} n None) i ≡ Some None
   get_none zero i h = absurd (omega arith)
   get_none (suc n) zero h = refl
   get_none (suc n) (suc i) h = get_none n i (omega arith)
 
   -- no cell is in no chain
-  pub chained_none : (heads : List (Option ℕ)) → heads ≡ replicate (length heads) None → AreChained spread round [] heads
+  pub chained_none : (heads : List (Option ℕ)) → heads ≡ replicate (length heads) None → AreChained key_of spread round [] heads
   chained_none heads e = record {
     some = λ none. refl;
     begins = λ chain below. ap (λ hs. slice_get hs chain) e ∙ get_none (length heads) chain below;
@@ -252,21 +256,21 @@ module _ {X : Type 0} (p : X → Bool) (x y : X) (alike : p y ≡ p x) where
   last_set (z ∷ zs) (suc m) zero e = ap (λ b. next_last b (last_where p (take m zs))) (alike ∙ ap p (sym (same_Some z x e)))
   last_set (z ∷ zs) (suc m) (suc k) e = ap (next_last (p z)) (last_set zs m k e)
 
-module _ {K : Type 0} (spread : ℕ → K → ℕ) (round : ℕ) (cells : List (Cell K)) (heads : List (Option ℕ)) (k : ℕ) (x y : Cell K) (there : slice_get cells k ≡ Some x)
-    (key : y.row.key ≡ x.row.key) (before : y.before ≡ x.before) where
-  last_all : (chain : ℕ) → last_where (is_in spread round (length heads) chain) (set cells k y) ≡ last_where (is_in spread round (length heads) chain) cells
+module _ {K T : Type 0} (key_of : T → K) (spread : ℕ → K → ℕ) (round : ℕ) (cells : List (Cell T)) (heads : List (Option ℕ)) (k : ℕ) (x y : Cell T) (there : slice_get cells k ≡ Some x)
+    (key : key_of y.member ≡ key_of x.member) (before : y.before ≡ x.before) where
+  last_all : (chain : ℕ) → last_where (is_in key_of spread round (length heads) chain) (set cells k y) ≡ last_where (is_in key_of spread round (length heads) chain) cells
   last_all chain =
-      let p = is_in spread round (length heads) chain in
+      let p = is_in key_of spread round (length heads) chain in
       let n = length cells in
       ap (last_where p) (sym (take_all n (set cells k y) (omega (arith, length-set cells k y))))
       ∙ last_set p x y (ap (λ j. nat_eq (chain_of spread round (length heads) j) chain) key) cells n k there
       ∙ ap (last_where p) (take_all n cells (omega arith))
 
-  last_some : (chain i : ℕ) → last_where (is_in spread round (length heads) chain) (take i (set cells k y)) ≡ last_where (is_in spread round (length heads) chain) (take i cells)
-  last_some chain i = last_set (is_in spread round (length heads) chain) x y (ap (λ j. nat_eq (chain_of spread round (length heads) j) chain) key) cells i k there
+  last_some : (chain i : ℕ) → last_where (is_in key_of spread round (length heads) chain) (take i (set cells k y)) ≡ last_where (is_in key_of spread round (length heads) chain) (take i cells)
+  last_some chain i = last_set (is_in key_of spread round (length heads) chain) x y (ap (λ j. nat_eq (chain_of spread round (length heads) j) chain) key) cells i k there
 
   -- chains are the same where a cell is another with its key and the one before it
-  pub chained_same : AreChained spread round cells heads → AreChained spread round (set cells k y) heads
+  pub chained_same : AreChained key_of spread round cells heads → AreChained key_of spread round (set cells k y) heads
   chained_same chained = record {
     some = λ none. absurd (omega (arith, slice_get_within cells k x there, ap length (chained.some none)));
     begins = λ chain below. chained.begins chain below ∙ ap Some (sym (last_all chain));
@@ -274,19 +278,12 @@ module _ {K : Type 0} (spread : ℕ → K → ℕ) (round : ℕ) (cells : List (
       | inl here ↦
           let is : k ≡ i = eqb-true k i here in
           let new : y ≡ c = same_Some y c (sym (get_set_same y cells k (slice_get_within cells k x there)) ∙ ap (slice_get (set cells k y)) is ∙ at) in
-          ap (λ (z : Cell K). z.before) (sym new) ∙ before ∙ chained.goes_on k x there
-          ∙ ap (λ j. last_where (is_in spread round (length heads) (chain_of spread round (length heads) j)) (take k cells)) (sym key ∙ ap (λ (z : Cell K). z.row.key) new)
-          ∙ ap (λ n. last_where (is_in spread round (length heads) (chain_of spread round (length heads) c.row.key)) (take n cells)) is
-          ∙ sym (last_some (chain_of spread round (length heads) c.row.key) i)
+          ap (λ (z : Cell T). z.before) (sym new) ∙ before ∙ chained.goes_on k x there
+          ∙ ap (λ j. last_where (is_in key_of spread round (length heads) (chain_of spread round (length heads) j)) (take k cells)) (sym key ∙ ap (λ (z : Cell T). key_of z.member) new)
+          ∙ ap (λ n. last_where (is_in key_of spread round (length heads) (chain_of spread round (length heads) (key_of c.member))) (take n cells)) is
+          ∙ sym (last_some (chain_of spread round (length heads) (key_of c.member)) i)
       | inr other ↦
           chained.goes_on i c (sym (get_set_other y cells k i (eqb-false k i other)) ∙ at)
-          ∙ sym (last_some (chain_of spread round (length heads) c.row.key) i)
+          ∙ sym (last_some (chain_of spread round (length heads) (key_of c.member)) i)
     ];
   }
-
--- where a cell is another with other ends, so are the rows
-pub rows_written : {K : Type 0} (xs : List (Cell K)) (k : ℕ) (e : Ends) (x y : Cell K) → slice_get xs k ≡ Some x → y.row ≡ record { key = x.row.key; ends = Some e }
-    → map row_in (set xs k y) ≡ with_ends k e (map row_in xs)
-rows_written [] k e x y there r = cc
-rows_written (z ∷ zs) zero e x y there r = ap (λ w. w ∷ map row_in zs) (r ∙ ap (λ (c : Cell _). record { key = c.row.key; ends = Some e }) (sym (same_Some z x there)))
-rows_written (z ∷ zs) (suc k) e x y there r = ap (λ ws. z.row ∷ ws) (rows_written zs k e x y there r)

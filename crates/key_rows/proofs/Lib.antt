@@ -1,4 +1,6 @@
 mod RowLemmas
 mod ChainLemmas
+mod MemberLemmas
 mod RowNumbers
 mod CellLemmas
+mod NumberLemmas

@@ -6,7 +6,7 @@ use Rattle.std.specs.Option.{SomeIff}
 use Rattle.std.proofs.lemmas.Bool.{cond-true, cond-false, cases_Bool, false_from_ne_true, eqb-true, lt-ltb}
 use Rattle.std.proofs.lemmas.Option.{same_Some}
 use Rattle.std.proofs.Math.Dec.{eqb-suc-zero}
-use Rattle.key_rows.specs.declared.cells.Ends.{Ends}
+use Rattle.key_rows.specs.declared.rows.Ends.{Ends}
 use Rattle.key_rows.specs.Rows.{index_where, index_from, last_where, has_key, gap, gaps_of, ends_of, gap_to, next_by, next_alike}
 
 module _ {X : Type 0} (p : X → Bool) (y : X) where

@@ -1,19 +1,16 @@
 -- What the row of a key says, once a row goes last, and once the ends of one are others.
-use Rattle.std.proofs.Common.{zero, suc, ◌≡◌, ℕ, ◌<◌, Bool, true, false, List, [], ◌∷◌, ◌++◌, length, map, refl, sym, ap, ◌∙◌, inl, inr, arith}
-use Rattle.std.specs.Prelude.{Option, None, Some, cond, slice_get, option_map, option_and_then, is_some, IfSome}
+use Rattle.std.proofs.Common.{zero, suc, ◌≡◌, ℕ, ◌<◌, Bool, true, false, List, [], ◌∷◌, ◌++◌, length, set, refl, sym, ap, ◌∙◌, subst, inl, inr, arith}
+use Rattle.std.specs.Prelude.{Option, None, Some, Result, Ok, Err, OnOk, OnErr, cond, slice_get, option_map, option_and_then, is_some, MatchOption}
 use Rattle.std.specs.declared.cmp.Ordering.{Ordering}
 use Rattle.std.specs.Ordering.{eq_by_cmp, is_eq}
 use Rattle.std.specs.Cmp.{IsTotalOrder, eq_by_cmp_equiv, Equal-is}
 use Rattle.std.proofs.lemmas.Bool.{cond-true, cond-false, cases_Bool, true≢false}
-use Rattle.std.proofs.lemmas.List.{take_all}
-use Rattle.key_rows.proofs.ChainLemmas.{last_passes}
+use Rattle.key_rows.proofs.MemberLemmas.{passes}
 use Rattle.std.proofs.lemmas.Option.{same_Some}
-use Rattle.key_rows.specs.declared.cells.Ends.{Ends}
-use Rattle.key_rows.specs.declared.cells.Row.{Row}
+use Rattle.key_rows.specs.declared.rows.Ends.{Ends}
+use Rattle.key_rows.specs.declared.rows.Row.{Row}
 use Rattle.key_rows.specs.Positions.{last_where}
 use Rattle.key_rows.specs.Cells.{ends_in, with_ends, is_of, row_number, get, cell, ContainsKey}
-use Rattle.key_rows.specs.declared.cells.Cell.{Cell}
-use Rattle.key_rows.specs.private.Chains.{row_in, IsFoundAt}
 use Rattle.key_rows.proofs.RowLemmas.{last_where-push, last_within}
 
 module _ {K : Type 0} where
@@ -45,25 +42,11 @@ module _ {K : Type 0} where
   keys_stay p same (r ∷ rs) zero e = ap (λ b. elim (last_where p rs) [ Some k ↦ Some (suc k) | None ↦ cond b (Some 0) None ]) (same r.key (Some e) r.ends)
   keys_stay p same (r ∷ rs) (suc n) e = ap (λ o. elim o [ Some k ↦ Some (suc k) | None ↦ cond (p r) (Some 0) None ]) (keys_stay p same rs n e)
 
-  -- the row of a cell
-  pub get_row : (cs : List (Cell K)) (n : ℕ) (c : Cell K) → slice_get cs n ≡ Some c → slice_get (map row_in cs) n ≡ Some c.row
-  get_row [] n c at = cc
-  get_row (x ∷ xs) zero c at = ap (λ (y : Cell K). Some y.row) (same_Some x c at)
-  get_row (x ∷ xs) (suc n) c at = get_row xs n c at
-
-  -- the key of a row stays
-  key_stays : (rs : List (Row K)) (n m : ℕ) (e : Ends) (r : Row K) → slice_get (with_ends n e rs) m ≡ Some r
-      → (was : Row K) × (slice_get rs m ≡ Some was) × (was.key ≡ r.key)
-  key_stays [] n m e r at = cc
-  key_stays (x ∷ xs) zero zero e r at = (x, refl, ap (λ (y : Row K). y.key) (same_Some (record { key = x.key; ends = Some e }) r at))
-  key_stays (x ∷ xs) zero (suc m) e r at = (r, at, refl)
-  key_stays (x ∷ xs) (suc n) zero e r at = (x, refl, ap (λ (y : Row K). y.key) (same_Some x r at))
-  key_stays (x ∷ xs) (suc n) (suc m) e r at = key_stays xs n m e r at
-
-  pub length-with_ends : (rs : List (Row K)) (n : ℕ) (e : Ends) → length (with_ends n e rs) ≡ length rs
-  length-with_ends [] n e = refl
-  length-with_ends (r ∷ rs) zero e = refl
-  length-with_ends (r ∷ rs) (suc n) e = ap suc (length-with_ends rs n e)
+  -- the row of a number with other ends
+  pub written_ends : (rs : List (Row K)) (n : ℕ) (e : Ends) (r : Row K) → slice_get rs n ≡ Some r → set rs n (record { key = r.key; ends = Some e }) ≡ with_ends n e rs
+  written_ends [] n e r at = refl
+  written_ends (x ∷ xs) zero e r at = ap (λ (y : Row K). record { key = y.key; ends = Some e } ∷ xs) (sym (same_Some x r at))
+  written_ends (x ∷ xs) (suc n) e r at = ap (λ rs. x ∷ rs) (written_ends xs n e r at)
 
 abbrev pub content : Option (Option Ends) → Option Ends
 content o = elim o [ None ↦ None | Some c ↦ c ]
@@ -72,9 +55,6 @@ there_is : {X : Type 0} (xs : List X) (n : ℕ) → n < length xs → (x : X) ×
 there_is [] n h = absurd (omega arith)
 there_is (x ∷ xs) zero h = (x, refl)
 there_is (x ∷ xs) (suc n) h = there_is xs n (omega arith)
-
-passes : {X : Type 0} (p : X → Bool) (xs : List X) (n : ℕ) (x : X) → last_where p xs ≡ Some n → slice_get xs n ≡ Some x → p x ≡ true
-passes p xs n x e at = last_passes p xs (length xs) n x (ap (last_where p) (take_all (length xs) xs (omega arith)) ∙ e) at
 
 module _ {K : Type 0} (cmp : K → K → Ordering) where
   -- a row more: its key has its ends, and the others what they had
@@ -101,11 +81,6 @@ module _ {K : Type 0} (cmp : K → K → Ordering) where
     | Some n ↦ λ f. refl
   ] h
 
-  -- the row of a key stands among them
-  pub row_within : (rs : List (Row K)) (k : K) (o : Option ℕ) → o ≡ row_number cmp k rs → IfSome o (λ n. n < length rs)
-  row_within rs k None e = tt
-  row_within rs k (Some n) e = last_within (is_of cmp k) rs n (sym e)
-
   -- what the row of a number says is what its key says
   pub says : (rs : List (Row K)) (k : K) (n : ℕ) (e : Option Ends) → row_number cmp k rs ≡ Some n → option_map ends_in (slice_get rs n) ≡ Some e → get cmp rs k ≡ Some e
   says rs k n e at is = ap (option_and_then (λ m. option_map ends_in (slice_get rs m))) at ∙ is
@@ -116,35 +91,12 @@ module _ {K : Type 0} (cmp : K → K → Ordering) where
     | Some n ↦ λ f. cc
   ] h
 
-  -- where the ends of one are others, all are found as before
-  pub found_set : (rs : List (Row K)) (n m : ℕ) (e : Ends) → IsFoundAt cmp rs m → IsFoundAt cmp (with_ends n e rs) m
-  found_set rs n m e found = λ r at.
-      let was = key_stays rs n m e r at in
-      keys_stay (is_of cmp r.key) (λ j a b. refl) rs n e
-      ∙ ap (λ k. row_number cmp k rs) (sym was.2) ∙ found was.0 was.1
-
   module _ (total : IsTotalOrder cmp) where
     -- equal keys have one row
     pub one_row : (rs : List (Row K)) (s t : K) → eq_by_cmp cmp s t ≡ true → row_number cmp s rs ≡ row_number cmp t rs
     one_row rs s t e =
         let orders : (z : K) → cmp s z ≡ cmp t z = λ z. total.congr s t z ((Equal-is (cmp s t)).0 e) in
         ap (λ (f : K → Ordering). last_where (λ (r : Row K). is_eq (f r.key)) rs) (λ j z. orders z j)
-
-    -- what is found by a number is found by it again
-    pub found_again : (rs : List (Row K)) (key : K) (n : ℕ) (r : Row K) → IsFoundAt cmp rs n → slice_get rs n ≡ Some r → eq_by_cmp cmp key r.key ≡ true
-        → Some n ≡ row_number cmp key rs
-    found_again rs key n r found at e = sym (one_row rs key r.key e ∙ found r at)
-
-    pub found_once : (rs : List (Row K)) (key : K) (n : ℕ) → row_number cmp key rs ≡ Some n → IsFoundAt cmp rs n
-    found_once rs key n is = λ r at. sym (one_row rs key r.key (passes (is_of cmp key) rs n r is at)) ∙ is
-
-    -- a row that goes last is found there
-    pub found_pushed : (rs : List (Row K)) (row : Row K) → IsFoundAt cmp (rs ++ row ∷ []) (length rs)
-    found_pushed rs row = λ r at.
-        let is : row ≡ r = same_Some row r (sym (get_last rs row) ∙ at) in
-        last_where-push (is_of cmp r.key) row rs
-        ∙ cond-true (eq_by_cmp cmp r.key row.key) (Some (length rs)) (last_where (is_of cmp r.key) rs)
-        (ap (λ (x : Row K). eq_by_cmp cmp r.key x.key) is ∙ (eq_by_cmp_equiv total).refl r.key)
 
     -- a row has one key
     no_other : (rs : List (Row K)) (key k : K) (n : ℕ) → row_number cmp key rs ≡ Some n → eq_by_cmp cmp key k ≡ false → row_number cmp k rs ≡ Some n → ⊥
@@ -173,20 +125,45 @@ module _ {K : Type 0} (cmp : K → K → Ordering) where
               ∙ sym (cond-false (eq_by_cmp cmp key k) (Some (Some e)) (get cmp rs k) other)
         ]
 
+    -- what a row that is made for a key, unless it has one, leaves of the others
+    pub record IsMade (rs new : List (Row K)) (key : K) : Type 0 where
+      pub cells : (k : K) → cell cmp new k ≡ cell cmp rs k
+      pub kept : (k : K) → ContainsKey cmp rs k → ContainsKey cmp new k
+      pub there : ContainsKey cmp new key
+
     -- an empty row more for a key that has none: what each key's row says stays
     module _ (rs new : List (Row K)) (key : K) (row : Row K) (is : row ≡ record { key = key; ends = None }) (made : new ≡ rs ++ row ∷ []) (none : is_some (row_number cmp key rs) ≡ false) where
       gets : (k : K) → get cmp new k ≡ cond (eq_by_cmp cmp k key) (Some None) (get cmp rs k)
       gets k = ap (λ xs. get cmp xs k) made ∙ get_pushed rs row k ∙ ap (λ (r : Row K). cond (eq_by_cmp cmp k r.key) (Some r.ends) (get cmp rs k)) is
 
-      pub cell_made : (k : K) → cell cmp new k ≡ cell cmp rs k
+      cell_made : (k : K) → cell cmp new k ≡ cell cmp rs k
       cell_made k = ap content (gets k) ∙ elim (cases_Bool (eq_by_cmp cmp k key)) [
         | inl same ↦ ap content (cond-true (eq_by_cmp cmp k key) (Some None) (get cmp rs k) same)
             ∙ sym (ap content (ap (option_and_then (λ n. option_map ends_in (slice_get rs n))) (one_row rs k key same) ∙ no_row rs key none))
         | inr other ↦ ap content (cond-false (eq_by_cmp cmp k key) (Some None) (get cmp rs k) other)
       ]
 
-      pub cell_kept : (k : K) → ContainsKey cmp rs k → ContainsKey cmp new k
+      cell_kept : (k : K) → ContainsKey cmp rs k → ContainsKey cmp new k
       cell_kept k had = ap is_some (gets k) ∙ elim (eq_by_cmp cmp k key) as (λ b. is_some (cond b (Some None) (get cmp rs k)) ≡ true) [ true ↦ refl | false ↦ had ]
 
-      pub cell_there : ContainsKey cmp new key
+      cell_there : ContainsKey cmp new key
       cell_there = ap is_some (gets key ∙ cond-true (eq_by_cmp cmp key key) (Some None) (get cmp rs key) ((eq_by_cmp_equiv total).refl key))
+
+      pub row_made : IsMade rs new key
+      row_made = record { cells = cell_made; kept = cell_kept; there = cell_there }
+
+    pub made_unless : (rs new : List (Row K)) (key : K)
+        → MatchOption (row_number cmp key rs) (new ≡ rs ++ record { key = key; ends = None } ∷ []) (λ _. new ≡ rs) → IsMade rs new key
+    made_unless rs new key made = elim (row_number cmp key rs) as (λ o. row_number cmp key rs ≡ o → MatchOption o (new ≡ rs ++ record { key = key; ends = None } ∷ []) (λ _. new ≡ rs) → IsMade rs new key) [
+      | None ↦ λ was m. row_made rs new key (record { key = key; ends = None }) refl m (ap is_some was)
+      | Some n ↦ λ was m. subst (λ xs. IsMade rs xs key) (sym m) (record { cells = λ k. refl; kept = λ k had. had; there = holds_row rs key (ap is_some was) })
+    ] refl made
+
+-- what follows from what holds where a call is not refused, and where it is
+pub either_way : {A E P Q R : Type 0} (r : Result A E) → OnOk r P → OnErr r Q → (P → R) → (Q → R) → R
+either_way (Ok x) p q if_made if_not = if_made p
+either_way (Err e) p q if_made if_not = if_not q
+
+pub if_ok : {A E P R : Type 0} (r : Result A E) → OnOk r P → (P → R) → OnOk r R
+if_ok (Ok x) p f = f p
+if_ok (Err e) p f = tt

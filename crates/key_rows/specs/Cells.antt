@@ -2,11 +2,14 @@
 use Rattle.std.specs.Prelude.{ℕ, zero, suc, Bool, List, [], ◌∷◌, Option, None, Some, option_map, option_and_then, slice_get, IsSome}
 use Rattle.std.specs.declared.cmp.Ordering.{Ordering}
 use Rattle.std.specs.Ordering.{eq_by_cmp}
-use Rattle.key_rows.specs.declared.cells.Ends.{Ends}
-use Rattle.key_rows.specs.declared.cells.Row.{Row}
+use Rattle.key_rows.specs.declared.rows.Ends.{Ends}
+use Rattle.key_rows.specs.declared.rows.Row.{Row}
 use Rattle.key_rows.specs.Positions.{last_where}
 
 module _ {K : Type 0} where
+  abbrev pub key_in : Row K → K
+  key_in r = r.key
+
   abbrev pub ends_in : Row K → Option Ends
   ends_in r = r.ends
 

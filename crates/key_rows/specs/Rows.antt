@@ -4,8 +4,8 @@ use Rattle.std.specs.declared.cmp.Ordering.{Ordering}
 use Rattle.std.specs.Ordering.{eq_by_cmp}
 pub use Rattle.key_rows.specs.Positions.{index_where, index_from, last_where}
 use Rattle.key_rows.specs.Cells.{cell, ContainsKey}
-use Rattle.key_rows.specs.declared.cells.Ends.{Ends}
-use Rattle.key_rows.specs.declared.cells.Row.{Row}
+use Rattle.key_rows.specs.declared.rows.Ends.{Ends}
+use Rattle.key_rows.specs.declared.rows.Row.{Row}
 use Rattle.key_rows.specs.declared.rows.KeyRows.{KeyRows}
 
 -- where the next of a row stands, by the distance to it, which is 0 for the last
@@ -54,12 +54,12 @@ module _ {K : Type 0} (cmp : K → K → Ordering) where
 
   -- The rows are those of a list whose members have these keys, or none.
   abbrev pub AreRows : List (Option K) → KeyRows K → Type 0
-  AreRows ks rows = AreLinked ks rows.cells rows.gaps.items
+  AreRows ks rows = AreLinked ks rows.cells.members rows.gaps.items
 
   -- a member with this key can be added without a new cell
   abbrev pub HasCell : KeyRows K → Option K → Type 0
   HasCell rows None = Unit {0}
-  HasCell rows (Some key) = ContainsKey cmp rows.cells key
+  HasCell rows (Some key) = ContainsKey cmp rows.cells.members key
 
 -- There is space for so many members more, and they can be numbered.
 pub record HasSpace {K : Type 0} (n : ℕ) (rows : KeyRows K) : Type 0 where

@@ -1,12 +1,15 @@
-//! Rows of numbers by key: for things that are numbered in order of addition and have a key each, where
-//! the first with a key stands, and where the next one stands behind it.
+//! Lists that are looked up by key: where the member with a key stands, and, for things that share keys, where the first with a
+//! key stands and where the next one stands behind it.
 #![tactic(auto)]
 
 mod bytes;
-mod cells;
 mod key;
+mod keyed;
 mod link;
+mod numbers;
 mod rows;
 
 pub use key::{Key, mixed};
+pub use keyed::{Keyed, KeyedList};
+pub use numbers::NumberRows;
 pub use rows::KeyRows;

@@ -1,13 +1,35 @@
 ghost use Rattle.std.specs.Prelude.{◌≡◌, ◌↔◌, ◌<◌, ℕ, ◌+◌, ◌++◌, ◌∷◌, [], ◌^◌, List, length, Option, None, Some, IsTrue, OnOk, vec_len, vec_capacity, ◌≤◌};
 ghost use Rattle.std.specs.Ordering.{eq_by_cmp};
 ghost use Rattle.key_rows.specs.Positions.{index_where, last_where};
-ghost use Rattle.key_rows.specs.Cells.{cell, row_number, ContainsKey};
-ghost use Rattle.key_rows.specs.Rows.{has_key, next_alike, gap_to, AreLinked, AreRows, HasCell, HasSpace};
+ghost use Rattle.key_rows.specs.Cells.{cell, key_in, ContainsKey};
+ghost use Rattle.key_rows.specs.Rows.{has_key, next_alike, gap_to, gaps_of, AreLinked, AreRows, HasCell, HasSpace};
 
-use crate::cells::{Ends, KeyCells};
 use crate::key::Key;
+use crate::keyed::{Keyed, KeyedList};
 use std::alloc::Global;
 use wpds_base::OutOfMemory;
+
+/// Where the first and the last of a row stand.
+#[derive(Clone, Copy, Debug, PartialEq, Eq, Drop)]
+pub(crate) struct Ends {
+    pub(crate) first: u32,
+    pub(crate) last: u32,
+}
+
+/// A key, and the ends of its row, where some member has the key.
+#[derive(Clone, Copy, Drop)]
+pub(crate) struct Row<K: Copy + Drop> {
+    pub(crate) key: K,
+    pub(crate) ends: Option<Ends>,
+}
+
+impl<K: Key> Keyed<K> for Row<K> {
+    ghost key_of = { key_in };
+
+    fn key(&self) -> K {
+        self.key
+    }
+}
 
 /// The rows of a list whose members have a key each, or none: where the first stands that has a key, and
 /// where the next stands behind it.
@@ -16,13 +38,13 @@ use wpds_base::OutOfMemory;
 #[derive(Drop)]
 pub struct KeyRows<K: Key> {
     // The ends of each row.
-    cells: KeyCells<K>,
+    cells: KeyedList<K, Row<K>>,
     // How far behind each member the next of its row stands, and 0 for the last.
     gaps: Vec<u32>,
 }
 
-// Writes how far the next of its row stands behind the last so far.
-fn put_gap(gaps: &mut Vec<u32>, ends: Option<Ends>, number: u32)
+/// Writes how far the next of its row stands behind the last so far.
+pub(crate) fn put_gap(gaps: &mut Vec<u32>, ends: Option<Ends>, number: u32)
     requires number { number ≡ length gaps.old.items }
     ensures gaps { gaps.new.items ≡ gap_to ends number gaps.old.items }
     ensures len { vec_len gaps.new ≡ vec_len gaps.old }
@@ -35,24 +57,42 @@ fn put_gap(gaps: &mut Vec<u32>, ends: Option<Ends>, number: u32)
     }
 }
 
+/// Where the next stands that has the key of the `k`-th, by how far it stands behind it.
+pub(crate) fn next_by_gap<K: Key>(gaps: &[u32], k: u64) -> Option<u64>
+    requires { length gaps.now < 2 ^ 63 }
+    ensures { (ks : List (Option K)) → gaps.now ≡ gaps_of (eq_by_cmp K.cmp) ks
+        → result ≡ next_alike (eq_by_cmp K.cmp) k ks }
+{
+    match gaps.get(k as usize) {
+        Some(gap) => {
+            if *gap == 0 {
+                return None;
+            }
+            k.checked_add(u64::from(*gap))
+        }
+        None => None,
+    }
+}
+
 // What the cell of a key says.
-fn cell_at<K: Key>(cells: &KeyCells<K>, key: K) -> Option<Ends>
-    ensures { result ≡ cell K.cmp cells.now key }
+fn cell_at<K: Key>(cells: &KeyedList<K, Row<K>>, key: K) -> Option<Ends>
+    ensures { result ≡ cell K.cmp cells.now.members key }
 {
     match cells.find(key) {
-        Some(k) => cells.ends(k),
+        Some(k) => cells.get(k as usize).ends,
         None => None,
     }
 }
 
 // Adds a member to the row of a key, last of all. It takes no memory.
-fn link<K: Key>(cells: &mut KeyCells<K>, gaps: &mut Vec<u32>, key: K)
-    requires cell { ContainsKey K.cmp cells.old key }
+fn link<K: Key>(cells: &mut KeyedList<K, Row<K>>, gaps: &mut Vec<u32>, key: K)
+    requires cell { ContainsKey K.cmp cells.old.members key }
     requires gaps { vec_len gaps.old < vec_capacity gaps.old }
     requires number { vec_len gaps.old < 2 ^ 32 }
-    ensures rows { (ks : List (Option K)) → AreLinked K.cmp ks cells.old gaps.old.items
-        → AreLinked K.cmp (ks ++ Some key ∷ []) cells.new gaps.new.items }
-    ensures kept { (k : K) → ContainsKey K.cmp cells.old k → ContainsKey K.cmp cells.new k }
+    ensures rows { (ks : List (Option K)) → AreLinked K.cmp ks cells.old.members gaps.old.items
+        → AreLinked K.cmp (ks ++ Some key ∷ []) cells.new.members gaps.new.items }
+    ensures kept { (k : K) → ContainsKey K.cmp cells.old.members k
+        → ContainsKey K.cmp cells.new.members k }
     ensures len { vec_len gaps.new ≡ vec_len gaps.old + 1 }
     ensures capacity { vec_capacity gaps.new ≡ vec_capacity gaps.old }
 {
@@ -60,18 +100,29 @@ fn link<K: Key>(cells: &mut KeyCells<K>, gaps: &mut Vec<u32>, key: K)
     let Some(k) = cells.find_made(key) else {
         unreachable!()
     };
-    let found = cells.ends(k);
-    put_gap(gaps, found, number);
-    let first = match found {
+    let row = *cells.get(k as usize);
+    put_gap(gaps, row.ends, number);
+    let first = match row.ends {
         Some(ends) => ends.first,
         None => number,
     };
-    let both = Ends {
+    let ends = Some(Ends {
         first,
         last: number,
-    };
-    cells.set(k, both);
+    });
+    cells.replace(k as usize, Row { key: row.key, ends });
     gaps.push_reserved(0);
+}
+
+// Makes an empty row for a key, unless it has one. It is refused only when out of memory, or when rows can't be numbered any
+// more, and all stays as it was then.
+fn make_row<K: Key>(cells: &mut KeyedList<K, Row<K>>, key: K) -> Result<(), OutOfMemory>
+    ensures cells { (k : K) → cell K.cmp cells.new.members k ≡ cell K.cmp cells.old.members k }
+    ensures kept { (k : K) → ContainsKey K.cmp cells.old.members k
+        → ContainsKey K.cmp cells.new.members k }
+    ensures made { OnOk result (ContainsKey K.cmp cells.new.members key) }
+{
+    cells.make(Row { key, ends: None })
 }
 
 impl<K: Key> KeyRows<K> {
@@ -81,7 +132,7 @@ impl<K: Key> KeyRows<K> {
         ensures space { HasSpace 0 result }
     {
         KeyRows {
-            cells: KeyCells::new(alloc),
+            cells: KeyedList::new(alloc),
             gaps: Vec::new(alloc),
         }
     }
@@ -113,15 +164,7 @@ impl<K: Key> KeyRows<K> {
         ensures { (ks : List (Option K)) → AreRows K.cmp ks self.now
             → result ≡ next_alike (eq_by_cmp K.cmp) k ks }
     {
-        match self.gaps.get(k as usize) {
-            Some(gap) => {
-                if *gap == 0 {
-                    return None;
-                }
-                k.checked_add(u64::from(*gap))
-            }
-            None => None,
-        }
+        next_by_gap::<K>(&self.gaps, k)
     }
 
     /// Whether a member with this key can be added without a new cell.
@@ -143,7 +186,7 @@ impl<K: Key> KeyRows<K> {
     {
         make_space(&mut self.gaps, more)?;
         match key {
-            Some(key) => self.cells.make(key),
+            Some(key) => make_row(&mut self.cells, key),
             None => Ok(()),
         }
     }
@@ -164,8 +207,8 @@ impl<K: Key> KeyRows<K> {
     }
 }
 
-// Makes room for so many distances more, where their numbers stay below 2^32.
-fn make_space(gaps: &mut Vec<u32>, more: usize) -> Result<(), OutOfMemory>
+/// Makes room for so many distances more, where their numbers stay below 2^32.
+pub(crate) fn make_space(gaps: &mut Vec<u32>, more: usize) -> Result<(), OutOfMemory>
     ensures items { gaps.new.items ≡ gaps.old.items }
     ensures len { vec_len gaps.new ≡ vec_len gaps.old }
     ensures room { OnOk result (vec_len gaps.old + more ≤ vec_capacity gaps.new) }

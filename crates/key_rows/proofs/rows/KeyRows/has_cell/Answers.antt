@@ -5,6 +5,6 @@ use Rattle.key_rows.proofs.rows.KeyRows.has_cell.Goals as goal
 
 pub returns : goal.returns
 returns g c = (
-  (λ is. holds_row g.K.Ord.cmp c.args.self.now.cells c.args.key (ap is_some (sym c.find.ensures.row) ∙ sym c.is_some.ensures ∙ is)),
-  (λ had. c.is_some.ensures ∙ ap is_some c.find.ensures.row ∙ has_row g.K.Ord.cmp c.args.self.now.cells c.args.key had),
+  (λ is. holds_row g.K.Ord.cmp c.args.self.now.cells.members c.args.key (ap is_some (sym c.find.ensures.number) ∙ sym c.is_some.ensures ∙ is)),
+  (λ had. c.is_some.ensures ∙ ap is_some c.find.ensures.number ∙ has_row g.K.Ord.cmp c.args.self.now.cells.members c.args.key had),
 )
