@@ -188,3 +188,18 @@ module _ {S W Map : Type 0} (ts us : List (Entry S W Map)) (distinct : HasDistin
 
     pub written_places : places_of us ≡ places_of ts
     written_places = ap places_of (written_at read there) ∙ places-lowered read.place w n ts k (get_at_place ts distinct k read there)
+
+-- what stands where a place is found is a transition at that place
+module _ {S W Map : Type 0} (x : Place) (ts : List (Entry S W Map)) (k : ℕ) (found : index_at x ts ≡ Some k) where
+  pub found_place : (t : Entry S W Map) → slice_get ts k ≡ Some t → t.place ≡ x
+  found_place t at = entry_at-place x ts t (sym (at_index_at x ts) ∙ ap (option_and_then (slice_get ts)) found ∙ at)
+
+pub found_within : {S W Map : Type 0} (x : Place) (ts : List (Entry S W Map)) (k : ℕ) → index_at x ts ≡ Some k → k < length ts
+found_within x [] k e = cc
+found_within x (t ∷ ts) k e = elim (same_place t.place x) as (λ b. cond b (Some 0) (option_map (λ i. i + 1) (index_at x ts)) ≡ Some k → k < length (t ∷ ts)) [
+  | true ↦ λ h. let g : 0 ≡ k = same_Some 0 k h in omega arith
+  | false ↦ λ h. elim (index_at x ts) as (λ i. index_at x ts ≡ i → option_map (λ j. j + 1) i ≡ Some k → k < length (t ∷ ts)) [
+    | None ↦ λ was f. cc
+    | Some j ↦ λ was f. let g : j + 1 ≡ k = same_Some (j + 1) k f in omega (arith, found_within x ts j was)
+  ] refl h
+] e

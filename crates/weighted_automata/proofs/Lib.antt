@@ -4,4 +4,5 @@ mod EntryLemmas
 mod RoomLemmas
 mod WaitingLemmas
 mod RowLemmas
+mod AskedLemmas
 pub mod CallerLemmas

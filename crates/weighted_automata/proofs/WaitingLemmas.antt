@@ -13,11 +13,14 @@ use Rattle.weighted_automata.proofs.RoomLemmas.{has_place-append, without_only, 
 
 pub fewer_spaces : (n m : ℕ) (index : PlaceIndex) → n ≤ m → HasSpaces m index → HasSpaces n index
 fewer_spaces n m index less h = record {
-  places = omega (arith, less, h.places);
   sources = omega (arith, less, h.sources);
   states = omega (arith, less, h.states);
   empties = omega (arith, less, h.empties);
 }
+
+-- where none waits, room for none
+pub room_for_none : (index : PlaceIndex) → HasSpaces 0 index → HasRoomFor [] index
+room_for_none index spaces = record { cells = λ p e. cc; spaces = spaces }
 
 -- room stays where each cell stays, and the space
 pub room_kept_in : (ps : List Place) (old new : PlaceIndex) → ((p : Place) → HasCells old p → HasCells new p) → HasSpaces (length ps) new → HasRoomFor ps old → HasRoomFor ps new

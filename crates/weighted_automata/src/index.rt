@@ -3,7 +3,7 @@ ghost use Rattle.weighted_automata.specs.declared.place.Place.{Place as PlaceVal
 ghost use Rattle.weighted_automata.specs.private.Index.{source_of as source_value, empty_target as target_value, AreIndexed, HasCells, HasSpaces};
 
 use crate::{Label, Place};
-use key_rows::KeyRows;
+use key_rows::{KeyRows, NumberRows};
 use std::alloc::Global;
 use wpds_base::OutOfMemory;
 
@@ -17,14 +17,12 @@ pub(crate) struct Source {
 /// Where the places of a list stand, in rows by what they have in common.
 #[derive(Drop)]
 pub(crate) struct PlaceIndex {
-    /// By the place itself.
-    pub(crate) places: KeyRows<Place>,
     /// By where they go from and what they read.
     pub(crate) sources: KeyRows<Source>,
     /// By where they go from.
-    pub(crate) states: KeyRows<u32>,
+    pub(crate) states: NumberRows,
     /// Those that read nothing, by where they go to.
-    pub(crate) empties: KeyRows<u32>,
+    pub(crate) empties: NumberRows,
 }
 
 // Where a place goes from, and what is read there.
@@ -54,10 +52,9 @@ impl PlaceIndex {
         ensures spaces { HasSpaces 0 result }
     {
         PlaceIndex {
-            places: KeyRows::new(alloc),
             sources: KeyRows::new(alloc),
-            states: KeyRows::new(alloc),
-            empties: KeyRows::new(alloc),
+            states: NumberRows::new(alloc),
+            empties: NumberRows::new(alloc),
         }
     }
 
@@ -69,7 +66,6 @@ impl PlaceIndex {
         ensures space { OnOk result (HasSpaces more self.new) }
         ensures spaces { (n : ℕ) → HasSpaces n self.old → HasSpaces n self.new }
     {
-        self.places.reserve(Some(place), more)?;
         self.sources.reserve(Some(source_of(place)), more)?;
         self.states.reserve(Some(place.from), more)?;
         self.empties.reserve(empty_target(place), more)
@@ -84,7 +80,6 @@ impl PlaceIndex {
         ensures cells { (p : PlaceValue) → HasCells self.old p → HasCells self.new p }
         ensures spaces { (n : ℕ) → HasSpaces (n + 1) self.old → HasSpaces n self.new }
     {
-        self.places.push(Some(place));
         self.sources.push(Some(source_of(place)));
         self.states.push(Some(place.from));
         self.empties.push(empty_target(place));

@@ -3,7 +3,7 @@ ghost use Rattle.weighted_automata.specs.private.Spread.{label_word as word_of, 
 
 use crate::index::Source;
 use crate::{Label, Place};
-use key_rows::{Key, mixed};
+use key_rows::{Key, Keyed, mixed};
 
 // A word that stands for a label.
 fn label_word(label: Label) -> u32
@@ -28,6 +28,14 @@ impl Key for Place {
     }
 
     ghost alike = { places_alike };
+}
+
+impl Keyed<Place> for Place {
+    ghost key_of = { λ p. p };
+
+    fn key(&self) -> Place {
+        *self
+    }
 }
 
 impl Key for Source {

@@ -1,12 +1,13 @@
-ghost use Rattle.std.specs.Prelude.{◌≡◌, ◌+◌, ◌≤◌, ◌++◌, [], ◌∷◌, List, length, vec_len, vec_capacity, IsTrue, IsOk, OnOk, OnErr, option_map, slice_set};
+ghost use Rattle.std.specs.Prelude.{◌≡◌, ◌+◌, ◌<◌, ◌≤◌, ◌++◌, [], ◌∷◌, ℕ, List, length, IsTrue, IsOk, OnOk, OnErr, option_map};
 ghost use Rattle.weighted_automata.specs.Places.{same_place, has_place};
 ghost use Rattle.weighted_automata.specs.declared.place.Place.{Place as PlaceValue};
 ghost use Rattle.weighted_automata.specs.private.Room.{without};
-ghost use Rattle.weighted_automata.specs.private.Index.{AreIndexed, HasCells, HasSpaces, HasRoomFor};
+ghost use Rattle.weighted_automata.specs.private.Index.{AreAsked, AreIndexed, HasCells, HasSpaces, HasRoomFor};
 ghost use Rattle.weighted_automata.specs.Entries.{index_where};
 
 use crate::index::PlaceIndex;
 use crate::{Entry, Place};
+use key_rows::KeyedList;
 use semiring_laws::Semiring;
 use std::collections::VecDeque;
 use wpds_base::OutOfMemory;
@@ -39,7 +40,7 @@ pub(crate) fn take_out(waiting: &mut VecDeque<Place>, place: Place) -> bool
 
 // Makes a place's room, beside that of those that wait.
 fn make_space<S: Semiring>(
-    entries: &mut Vec<Entry<S>>,
+    entries: &mut KeyedList<Place, Entry<S>>,
     index: &mut PlaceIndex,
     waiting: &VecDeque<Place>,
     place: Place,
@@ -49,100 +50,111 @@ fn make_space<S: Semiring>(
         → HasRoomFor waiting.now.items index.new }
     ensures cells { OnOk result (HasCells index.new place) }
     ensures spaces { OnOk result (HasSpaces (length waiting.now.items + 1) index.new) }
-    ensures entries { entries.new.items ≡ entries.old.items }
-    ensures len { vec_len entries.new ≡ vec_len entries.old }
-    ensures capacity { vec_capacity entries.old ≤ vec_capacity entries.new }
-    ensures ok { OnOk result (
-        vec_len entries.new + length waiting.now.items + 1 ≤ vec_capacity entries.new) }
+    ensures entries { entries.new.members ≡ entries.old.members }
+    ensures kept { entries.old.spare ≤ entries.new.spare }
+    ensures ok { OnOk result (length waiting.now.items + 1 ≤ entries.new.spare) }
 {
     let wanted = waiting.len().checked_add(1).ok_or(OutOfMemory)?;
-    entries.reserve(wanted)?;
+    entries.reserve(place, wanted)?;
     index.reserve(place, wanted)
 }
 
-// Takes a place's room out of what waits, or makes it.
-fn take_room<S: Semiring>(
-    entries: &mut Vec<Entry<S>>,
+// Adds a transition whose place waited, so that it has room.
+fn add_waited<S: Semiring>(
+    entries: &mut KeyedList<Place, Entry<S>>,
     index: &mut PlaceIndex,
-    waiting: &mut VecDeque<Place>,
-    place: Place,
-) -> Result<(), OutOfMemory>
-    requires room { vec_len entries.old + length waiting.old.items ≤ vec_capacity entries.old }
-    requires rooms { HasRoomFor waiting.old.items index.old }
-    ensures rows { (ps : List PlaceValue) → AreIndexed ps index.old → AreIndexed ps index.new }
-    ensures rooms { HasRoomFor waiting.new.items index.new }
-    ensures cells { OnOk result (HasCells index.new place) }
-    ensures spaces { OnOk result (HasSpaces (length waiting.new.items + 1) index.new) }
-    ensures entries { entries.new.items ≡ entries.old.items }
-    ensures len { vec_len entries.new ≡ vec_len entries.old }
-    ensures room { vec_len entries.new + length waiting.new.items ≤ vec_capacity entries.new }
-    ensures ok { OnOk result (
-        vec_len entries.new + length waiting.new.items + 1 ≤ vec_capacity entries.new) }
-    ensures left { OnOk result (waiting.new.items ≡ without place waiting.old.items) }
-    ensures stays { OnErr result (waiting.new.items ≡ waiting.old.items) }
-    ensures waited { IsTrue (has_place place waiting.old.items) → IsOk result }
+    entry: Entry<S>,
+)
+    requires room { 0 < entries.old.spare }
+    requires cells { HasCells index.old entry.place }
+    requires space { HasSpaces 1 index.old }
+    ensures added { (ps : List PlaceValue) → AreIndexed ps index.old
+        → AreIndexed (ps ++ entry.place ∷ []) index.new }
+    ensures cells { (p : PlaceValue) → HasCells index.old p → HasCells index.new p }
+    ensures spaces { (n : ℕ) → HasSpaces (n + 1) index.old → HasSpaces n index.new }
+    ensures entries { entries.new.members ≡ entries.old.members ++ entry ∷ [] }
+    ensures spare { entries.new.spare + 1 ≡ entries.old.spare }
 {
-    if take_out(waiting, place) {
-        return Ok(());
-    }
-    make_space(entries, index, waiting, place)
+    index.add(entry.place);
+    entries.push_reserved(entry);
+}
+
+// Adds a transition, and keeps room for each place that waits.
+fn add_new<S: Semiring>(
+    entries: &mut KeyedList<Place, Entry<S>>,
+    index: &mut PlaceIndex,
+    waiting: &VecDeque<Place>,
+    entry: Entry<S>,
+) -> Result<(), OutOfMemory>
+    requires room { length waiting.now.items ≤ entries.old.spare }
+    requires rooms { HasRoomFor waiting.now.items index.old }
+    ensures added { OnOk result ((ps : List PlaceValue) → AreIndexed ps index.old
+        → AreIndexed (ps ++ entry.place ∷ []) index.new) }
+    ensures same { OnErr result ((ps : List PlaceValue) → AreIndexed ps index.old
+        → AreIndexed ps index.new) }
+    ensures rooms { HasRoomFor waiting.now.items index.new }
+    ensures ok { OnOk result (entries.new.members ≡ entries.old.members ++ entry ∷ []) }
+    ensures err { OnErr result (entries.new.members ≡ entries.old.members) }
+    ensures room { length waiting.now.items ≤ entries.new.spare }
+{
+    let count = waiting.len();
+    let wanted = count.checked_add(1).ok_or(OutOfMemory)?;
+    let place = entry.place;
+    index.reserve(place, wanted)?;
+    entries.append(entry, count)?;
+    index.add(place);
+    Ok(())
 }
 
 /// Adds a transition, and keeps room for each place that waits. If its own place waited, there is room.
 pub(crate) fn add<S: Semiring>(
-    entries: &mut Vec<Entry<S>>,
+    entries: &mut KeyedList<Place, Entry<S>>,
     index: &mut PlaceIndex,
     waiting: &mut VecDeque<Place>,
     entry: Entry<S>,
 ) -> Result<(), OutOfMemory>
-    requires room { vec_len entries.old + length waiting.old.items ≤ vec_capacity entries.old }
+    requires room { length waiting.old.items ≤ entries.old.spare }
     requires rooms { HasRoomFor waiting.old.items index.old }
     ensures added { OnOk result ((ps : List PlaceValue) → AreIndexed ps index.old
         → AreIndexed (ps ++ entry.place ∷ []) index.new) }
     ensures same { OnErr result ((ps : List PlaceValue) → AreIndexed ps index.old
         → AreIndexed ps index.new) }
     ensures rooms { HasRoomFor waiting.new.items index.new }
-    ensures ok { OnOk result (entries.new.items ≡ entries.old.items ++ entry ∷ []) }
-    ensures err { OnErr result (entries.new.items ≡ entries.old.items) }
+    ensures ok { OnOk result (entries.new.members ≡ entries.old.members ++ entry ∷ []) }
+    ensures err { OnErr result (entries.new.members ≡ entries.old.members) }
     ensures left { OnOk result (waiting.new.items ≡ without entry.place waiting.old.items) }
     ensures stays { OnErr result (waiting.new.items ≡ waiting.old.items) }
-    ensures room { vec_len entries.new + length waiting.new.items ≤ vec_capacity entries.new }
+    ensures room { length waiting.new.items ≤ entries.new.spare }
     ensures waited { IsTrue (has_place entry.place waiting.old.items) → IsOk result }
 {
-    take_room(entries, index, waiting, entry.place)?;
-    index.add(entry.place);
-    entries.push_reserved(entry);
-    Ok(())
-}
-
-/// Writes a transition over another.
-pub(crate) fn replace<S: Semiring>(entries: &mut Vec<Entry<S>>, k: usize, entry: Entry<S>)
-    ensures set { entries.new.items ≡ slice_set entries.old.items k entry }
-    ensures len { vec_len entries.new ≡ vec_len entries.old }
-    ensures room { vec_capacity entries.new ≡ vec_capacity entries.old }
-{
-    if k < entries.len() {
-        entries[k] = entry;
+    if take_out(waiting, entry.place) {
+        add_waited(entries, index, entry);
+        return Ok(());
     }
+    add_new(entries, index, waiting, entry)
 }
 
-/// Makes room for a transition at one more place.
+/// Makes room for a transition at one more place. What was asked for so far is kept, to tell soon what waits.
 pub(crate) fn wait<S: Semiring>(
-    entries: &mut Vec<Entry<S>>,
+    entries: &mut KeyedList<Place, Entry<S>>,
     index: &mut PlaceIndex,
     waiting: &mut VecDeque<Place>,
+    asked: &mut KeyedList<Place, Place>,
     place: Place,
 ) -> Result<(), OutOfMemory>
-    requires room { vec_len entries.old + length waiting.old.items ≤ vec_capacity entries.old }
+    requires room { length waiting.old.items ≤ entries.old.spare }
     requires rooms { HasRoomFor waiting.old.items index.old }
+    requires asked { AreAsked waiting.old.items asked.old }
     ensures rows { (ps : List PlaceValue) → AreIndexed ps index.old → AreIndexed ps index.new }
     ensures rooms { HasRoomFor waiting.new.items index.new }
-    ensures entries { entries.new.items ≡ entries.old.items }
+    ensures asked { AreAsked waiting.new.items asked.new }
+    ensures entries { entries.new.members ≡ entries.old.members }
     ensures ok { OnOk result (waiting.new.items ≡ waiting.old.items ++ place ∷ []) }
     ensures err { OnErr result (waiting.new.items ≡ waiting.old.items) }
-    ensures room { vec_len entries.new + length waiting.new.items ≤ vec_capacity entries.new }
+    ensures room { length waiting.new.items ≤ entries.new.spare }
 {
     make_space(entries, index, waiting, place)?;
+    asked.make(place)?;
     waiting.push_back(place)?;
     Ok(())
 }

@@ -6,8 +6,9 @@ ghost use Rattle.weighted_automata.specs.declared.place.Label.TheVariants.{Empty
 ghost use Rattle.weighted_automata.specs.declared.transitions.Entry.{Entry as EntryValue};
 
 use crate::index::{PlaceIndex, Source};
-use crate::room::{add, position, replace, wait};
+use crate::room::{add, position, wait};
 use crate::{Label, Place};
+use key_rows::{Keyed, KeyedList};
 use semiring_laws::Semiring;
 use std::alloc::Global;
 use std::collections::VecDeque;
@@ -22,35 +23,47 @@ pub struct Entry<S: Semiring> {
     pub node: u64,
 }
 
+impl<S: Semiring> Keyed<Place> for Entry<S> {
+    ghost key_of = { λ t. t.place };
+
+    fn key(&self) -> Place {
+        self.place
+    }
+}
+
 /// The transitions that were found, in order of addition, at most one for each place.
 ///
 /// Some places have room: a transition there can be lowered or added without memory. Each place that
 /// has a transition has room, and [`Transitions::reserve`] makes it for others.
 #[derive(Drop)]
 pub struct Transitions<S: Semiring> {
-    entries: Vec<Entry<S>>,
-    // Where their places stand.
+    // Each is found by its place.
+    entries: KeyedList<Place, Entry<S>>,
+    // Where their places stand, by what they have in common.
     index: PlaceIndex,
     // Places for which `entries` and `index` have room beside their own.
     waiting: VecDeque<Place>,
+    // Each place that ever waited.
+    asked: KeyedList<Place, Place>,
 }
 
 impl<S: Semiring> Model for Transitions<S> {
-    ghost use Rattle.std.specs.Prelude.{◌+◌, ◌≤◌, ◌++◌, length, vec_len, vec_capacity};
+    ghost use Rattle.std.specs.Prelude.{◌≤◌, ◌++◌, length};
     ghost use Rattle.weighted_automata.specs.Entries.{HasDistinctPlaces, TransitionList, places_of};
-    ghost use Rattle.weighted_automata.specs.private.Index.{AreIndexed, HasRoomFor};
+    ghost use Rattle.weighted_automata.specs.private.Index.{AreAsked, AreIndexed, HasRoomFor};
 
     ghost Value = { TransitionList S S.W S.Ret };
 
     ghost view = { λ t. record {
-      transitions = t.entries.items;
-      room = places_of t.entries.items ++ t.waiting.items;
+      transitions = t.entries.members;
+      room = places_of t.entries.members ++ t.waiting.items;
     } };
 
-    ghost invariant = { λ t. HasDistinctPlaces t.entries.items
-        × (vec_len t.entries + length t.waiting.items ≤ vec_capacity t.entries)
-        × AreIndexed (places_of t.entries.items) t.index
-        × HasRoomFor t.waiting.items t.index };
+    ghost invariant = { λ t. HasDistinctPlaces t.entries.members
+        × (length t.waiting.items ≤ t.entries.spare)
+        × AreIndexed (places_of t.entries.members) t.index
+        × HasRoomFor t.waiting.items t.index
+        × AreAsked t.waiting.items t.asked };
 }
 
 impl<S: Semiring> Transitions<S> {
@@ -59,9 +72,10 @@ impl<S: Semiring> Transitions<S> {
         ensures { result ≡ record { transitions = []; room = [] } }
     {
         Transitions {
-            entries: Vec::new(alloc),
+            entries: KeyedList::new(alloc),
             index: PlaceIndex::new(alloc),
             waiting: VecDeque::new(alloc),
+            asked: KeyedList::new(alloc),
         }
     }
 
@@ -80,7 +94,7 @@ impl<S: Semiring> Transitions<S> {
         ensures entry { slice_get self.now.transitions k ≡ Some result.now }
         ensures present { Present self.now.transitions result.now }
     {
-        &self.entries[k as usize]
+        self.entries.get(k as usize)
     }
 
     /// Where the transition at a place stands.
@@ -89,7 +103,10 @@ impl<S: Semiring> Transitions<S> {
         ensures entry { option_and_then (slice_get self.now.transitions) result
             ≡ entry_at place self.now.transitions }
     {
-        self.index.places.first(place)
+        match self.entries.find(place) {
+            Some(k) => Some(u64::from(k)),
+            None => None,
+        }
     }
 
     /// Where the first transition stands that goes from a state and reads a label.
@@ -152,7 +169,8 @@ impl<S: Semiring> Transitions<S> {
             ≡ slice_get (filter (is_from state label) self.now.transitions) k }
     {
         let mut left = k;
-        for (i, entry) in self.entries.iter().enumerate() {
+        for i in 0..self.entries.len() {
+            let entry = self.entries.get(i);
             if entry.place.is_from(state, label) {
                 if left == 0 {
                     return Some(i as u64);
@@ -170,7 +188,8 @@ impl<S: Semiring> Transitions<S> {
             ≡ slice_get (filter (is_into state) self.now.transitions) k }
     {
         let mut left = k;
-        for (i, entry) in self.entries.iter().enumerate() {
+        for i in 0..self.entries.len() {
+            let entry = self.entries.get(i);
             if entry.place.to == state {
                 if left == 0 {
                     return Some(i as u64);
@@ -207,7 +226,7 @@ impl<S: Semiring> Transitions<S> {
                     weight,
                     node,
                 };
-                replace(&mut self.entries, k as usize, entry);
+                self.entries.replace(k as usize, entry);
                 Ok(k)
             }
             None => self.add(alloc, place, weight, node),
@@ -250,13 +269,13 @@ impl<S: Semiring> Transitions<S> {
             self.new.transitions ≡ lowered t.place weight node self.old.transitions }
         ensures room { self.new.room ≡ self.old.room }
     {
-        let place = self.entries[k as usize].place;
+        let place = self.entries.get(k as usize).place;
         let entry = Entry {
             place,
             weight,
             node,
         };
-        replace(&mut self.entries, k as usize, entry);
+        self.entries.replace(k as usize, entry);
     }
 
     /// Makes room for these places. It is refused only when out of memory, and changes nothing then.
@@ -294,7 +313,7 @@ impl<S: Semiring> Transitions<S> {
         ensures { result ≡ has_place place self.now.room }
     {
         self.find(place).is_some()
-            || (self.index.places.has_cell(place) && position(&self.waiting, place).is_some())
+            || (self.asked.find(place).is_some() && position(&self.waiting, place).is_some())
     }
 
     // Makes room for one place.
@@ -308,7 +327,13 @@ impl<S: Semiring> Transitions<S> {
         if self.has_room(place) {
             return Ok(());
         }
-        wait(&mut self.entries, &mut self.index, &mut self.waiting, place)?;
+        wait(
+            &mut self.entries,
+            &mut self.index,
+            &mut self.waiting,
+            &mut self.asked,
+            place,
+        )?;
         Ok(())
     }
 }

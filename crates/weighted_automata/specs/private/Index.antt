@@ -1,6 +1,7 @@
 -- Where places stand, by what they have in common.
-use Rattle.std.specs.Prelude.{ℕ, List, map, Option, None, Some, IsTrue, length}
-use Rattle.std.specs.Ordering.{nat_cmp}
+use Rattle.std.specs.Prelude.{ℕ, List, map, Option, None, Some, IsTrue, IsSome, length}
+use Rattle.key_rows.specs.Members.{KeyedMembers, number_of}
+use Rattle.key_rows.specs.Numbers.{AreNumberRows, HasNumber, HasNumberSpace}
 use Rattle.key_rows.specs.Rows.{AreRows, HasCell, HasSpace}
 use Rattle.weighted_automata.specs.contracts.place.PlaceOrd.TheImpl.{ghosts as of_places}
 use Rattle.weighted_automata.specs.contracts.index.SourceOrd.TheImpl.{ghosts as of_sources}
@@ -20,26 +21,27 @@ empty_target p = elim p.label [ Symbol a ↦ None | Empty ↦ Some p.to ]
 
 -- The rows of the index are those of these places.
 pub record AreIndexed (ps : List Place) (index : PlaceIndex) : Type 0 where
-  pub by_place : AreRows of_places.cmp (map (λ p. Some p) ps) index.places
   pub by_source : AreRows of_sources.cmp (map (λ p. Some (source_of p)) ps) index.sources
-  pub by_state : AreRows nat_cmp (map (λ p. Some p.from) ps) index.states
-  pub by_target : AreRows nat_cmp (map empty_target ps) index.empties
+  pub by_state : AreNumberRows (map (λ p. Some p.from) ps) index.states
+  pub by_target : AreNumberRows (map empty_target ps) index.empties
 
 -- The place has a cell in each.
 pub record HasCells (index : PlaceIndex) (p : Place) : Type 0 where
-  pub of_place : HasCell of_places.cmp index.places (Some p)
   pub of_source : HasCell of_sources.cmp index.sources (Some (source_of p))
-  pub of_state : HasCell nat_cmp index.states (Some p.from)
-  pub of_target : HasCell nat_cmp index.empties (empty_target p)
+  pub of_state : HasNumber index.states (Some p.from)
+  pub of_target : HasNumber index.empties (empty_target p)
 
 -- There is space for so many places more.
 pub record HasSpaces (n : ℕ) (index : PlaceIndex) : Type 0 where
-  pub places : HasSpace n index.places
   pub sources : HasSpace n index.sources
-  pub states : HasSpace n index.states
-  pub empties : HasSpace n index.empties
+  pub states : HasNumberSpace n index.states
+  pub empties : HasNumberSpace n index.empties
 
 -- Each of these places can be added without memory.
 pub record HasRoomFor (ps : List Place) (index : PlaceIndex) : Type 0 where
   pub cells : (p : Place) → IsTrue (has_place p ps) → HasCells index p
   pub spaces : HasSpaces (length ps) index
+
+-- Each of these places is among those that ever waited.
+abbrev pub AreAsked : List Place → KeyedMembers Place → Type 0
+AreAsked ps asked = (p : Place) → IsTrue (has_place p ps) → IsSome (number_of of_places.cmp (λ x. x) p asked.members)

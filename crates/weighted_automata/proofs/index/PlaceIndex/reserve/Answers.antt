@@ -4,64 +4,42 @@ use Rattle.weighted_automata.proofs.index.PlaceIndex.reserve.Goals as goal
 
 pub returns-in_err-reserve-clause-cells : goal.returns-in_err-reserve-clause-cells
 returns-in_err-reserve-clause-cells c = λ p had. record {
-  of_place = c.reserve.ensures.cells (Some p) had.of_place;
-  of_source = had.of_source;
+  of_source = c.reserve.ensures.cells (Some (source_of p)) had.of_source;
   of_state = had.of_state;
   of_target = had.of_target;
 }
 
 pub returns-in_err-reserve-clause-spaces : goal.returns-in_err-reserve-clause-spaces
 returns-in_err-reserve-clause-spaces c = λ n had. record {
-  places = c.reserve.ensures.spaces n had.places;
-  sources = had.sources;
+  sources = c.reserve.ensures.spaces n had.sources;
   states = had.states;
   empties = had.empties;
 }
 
 pub returns-in_err-reserve-2-clause-cells : goal.returns-in_err-reserve-2-clause-cells
 returns-in_err-reserve-2-clause-cells c = λ p had. record {
-  of_place = c.reserve.ensures.cells (Some p) had.of_place;
-  of_source = c.reserve-2.ensures.cells (Some (source_of p)) had.of_source;
-  of_state = had.of_state;
+  of_source = c.reserve.ensures.cells (Some (source_of p)) had.of_source;
+  of_state = c.reserve-2.ensures.cells (Some p.from) had.of_state;
   of_target = had.of_target;
 }
 
 pub returns-in_err-reserve-2-clause-spaces : goal.returns-in_err-reserve-2-clause-spaces
 returns-in_err-reserve-2-clause-spaces c = λ n had. record {
-  places = c.reserve.ensures.spaces n had.places;
-  sources = c.reserve-2.ensures.spaces n had.sources;
-  states = had.states;
-  empties = had.empties;
-}
-
-pub returns-in_err-reserve-3-clause-cells : goal.returns-in_err-reserve-3-clause-cells
-returns-in_err-reserve-3-clause-cells c = λ p had. record {
-  of_place = c.reserve.ensures.cells (Some p) had.of_place;
-  of_source = c.reserve-2.ensures.cells (Some (source_of p)) had.of_source;
-  of_state = c.reserve-3.ensures.cells (Some p.from) had.of_state;
-  of_target = had.of_target;
-}
-
-pub returns-in_err-reserve-3-clause-spaces : goal.returns-in_err-reserve-3-clause-spaces
-returns-in_err-reserve-3-clause-spaces c = λ n had. record {
-  places = c.reserve.ensures.spaces n had.places;
-  sources = c.reserve-2.ensures.spaces n had.sources;
-  states = c.reserve-3.ensures.spaces n had.states;
+  sources = c.reserve.ensures.spaces n had.sources;
+  states = c.reserve-2.ensures.spaces n had.states;
   empties = had.empties;
 }
 
 pub returns-clause-cells : goal.returns-clause-cells
 returns-clause-cells c = λ p had. record {
-  of_place = c.reserve.ensures.cells (Some p) had.of_place;
-  of_source = c.reserve-2.ensures.cells (Some (source_of p)) had.of_source;
-  of_state = c.reserve-3.ensures.cells (Some p.from) had.of_state;
-  of_target = c.reserve-4.ensures.cells (empty_target p) had.of_target;
+  of_source = c.reserve.ensures.cells (Some (source_of p)) had.of_source;
+  of_state = c.reserve-2.ensures.cells (Some p.from) had.of_state;
+  of_target = c.reserve-3.ensures.cells (empty_target p) had.of_target;
 }
 
 pub returns-clause-spaces : goal.returns-clause-spaces
 returns-clause-spaces c = λ n had. record {
-  places = c.reserve.ensures.spaces n had.places;
-  sources = c.reserve-2.ensures.spaces n had.sources;
-  states = c.reserve-3.ensures.spaces n had.states;
-  empties = c.reserve-4.ensures.spaces n had.empties;
+  sources = c.reserve.ensures.spaces n had.sources;
+  states = c.reserve-2.ensures.spaces n had.states;
+  empties = c.reserve-3.ensures.spaces n had.empties;
 }

@@ -7,6 +7,6 @@ use Rattle.weighted_automata.proofs.transitions.Transitions.first_empty_into.Goa
 
 pub returns : goal.returns
 returns g c =
-    c.first.ensures (map empty_target (places_of c.self.inside.entries.items)) c.self.invariant.2.by_target
-    ∙ first_of_row (eq_by_cmp nat_cmp) empty_target c.args.state (is_empty_into c.args.state) (λ t. target_test c.args.state t.place) c.self.inside.entries.items
+    c.first.ensures (map empty_target (places_of c.self.inside.entries.members)) c.self.invariant.2.by_target
+    ∙ first_of_row (eq_by_cmp nat_cmp) empty_target c.args.state (is_empty_into c.args.state) (λ t. target_test c.args.state t.place) c.self.inside.entries.members
     ∙ ap (λ v. index_where (is_empty_into c.args.state) v.transitions) c.self.view_is

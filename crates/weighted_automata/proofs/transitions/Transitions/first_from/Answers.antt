@@ -9,6 +9,6 @@ use Rattle.weighted_automata.proofs.transitions.Transitions.first_from.Goals as 
 
 pub returns : goal.returns
 returns g c =
-    c.first.ensures (map (λ p. Some (source_of p)) (places_of c.self.inside.entries.items)) c.self.invariant.2.by_source
-    ∙ first_of_row (eq_by_cmp of_sources.cmp) (λ p. Some (source_of p)) (record { state = c.args.state; label = c.args.label }) (is_from c.args.state c.args.label) (λ t. source_test (record { state = c.args.state; label = c.args.label }) t.place) c.self.inside.entries.items
+    c.first.ensures (map (λ p. Some (source_of p)) (places_of c.self.inside.entries.members)) c.self.invariant.2.by_source
+    ∙ first_of_row (eq_by_cmp of_sources.cmp) (λ p. Some (source_of p)) (record { state = c.args.state; label = c.args.label }) (is_from c.args.state c.args.label) (λ t. source_test (record { state = c.args.state; label = c.args.label }) t.place) c.self.inside.entries.members
     ∙ ap (λ v. index_where (is_from c.args.state c.args.label) v.transitions) c.self.view_is
