@@ -12,13 +12,14 @@ use Rattle.saturation_laws.specs.declared.opening.Opening.{Opening}
 use Rattle.saturation_laws.specs.Openings.{found_so_far}
 use Rattle.saturation_laws.specs.States.{CoreState, weight_at}
 use Rattle.saturation_laws.specs.Books.{BookValue, IsBook, IsClosed}
-use Rattle.saturation_laws.specs.Paths.{IsSaturated}
+use Rattle.saturation_laws.specs.Paths.{IsMet, IsSaturated}
 use Rattle.saturation_laws.proofs.CallerLemmas.{entry_fits, closed_applies}
 use Rattle.path_sum.specs.Sums.{Ways, answer_place, IsGrown}
 use Rattle.path_sum.specs.private.Work.{IsSummed}
 use Rattle.path_sum.specs.private.Paths.{IsQuery, answer_runs}
 use Rattle.path_sum.specs.Answers.{first_of, last_of}
 use Rattle.path_sum.specs.Saturated.{IsSaturatedAutomaton}
+use Rattle.path_sum.proofs.FollowedLemmas.{ArePart}
 use Rattle.path_sum.proofs.SumLemmas.{sum_answers}
 use Rattle.saturation_laws.specs.Ways.{Way, start_of, IsLawful, HasPathSums}
 
@@ -55,12 +56,13 @@ module _ {S W Map D : Type 0} (operations : S → Operations W Map) (laws : (x :
   }
 
   pub finished_answers : HasPathSums operations way d p o
-      → (ways : Ways) → ways.control < p.controls → (near far : Configuration → Bool) → IsQuery p o ways near far → (st : CoreState S W Map)
-      → IsGrown s (way.tables d p).side o ts nodes ways st → IsSummed s (way.tables d p).side o ts ways st.transitions
+      → (ways : Ways) → ways.control < p.controls → (near far : Configuration → Bool) → IsQuery p o ways near far → (us : List (Entry S W Map)) → ArePart us ts
+      → ((c : Configuration) (v : W) → IsMet s (way.tables d p).side o.finals ts c v → IsMet s (way.tables d p).side o.finals us c v) → (st : CoreState S W Map)
+      → IsGrown s (way.tables d p).side o us nodes ways st → IsSummed s (way.tables d p).side o us ways st.transitions
       → Answers s p (first_of (way.tables d p).side near far) (last_of (way.tables d p).side near far) (weight_at s answer_place st.transitions) (answer_runs (way.tables d p).side st)
-  finished_answers sums ways control near far query st grown summed =
+  finished_answers sums ways control near far query us part still st grown summed =
       sum_answers (laws p.semiring) p value_fit (way.tables d p).side o ways (way.tables d p) (start_of operations way d p o).transitions (way.runs d p o) control
-      sums ts saturated nodes is.sound (found_so_far ts nodes [], refl, is.shape) near far query st grown summed
+      sums ts saturated nodes is.sound (found_so_far ts nodes [], refl, is.shape) near far query us part still st grown summed
 
 -- what holds of the parts of an automaton holds of equal parts
 pub moved : {S W Map D : Type 0} (P : Pushdown S W Map → D → Opening → List (Entry S W Map) → List Node → Type 0) {p q : Pushdown S W Map} {d e : D} {o u : Opening}

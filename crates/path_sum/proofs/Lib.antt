@@ -20,3 +20,6 @@ mod MemberLemmas
 mod FinishedLemmas
 mod ExistLemmas
 mod EndsLemmas
+mod FollowedLemmas
+mod ReadLemmas
+mod WalkLemmas

@@ -1,22 +1,26 @@
-ghost use Rattle.std.specs.Prelude.{◌≡◌, ◌<◌, ◌≤◌, ◌+◌, ◌++◌, nat_eq, None, Some, IfOk, OnOk, IfSome, IsTrue, length, drop, slice_get, if◌then◌else◌, [], ◌∷◌};
+ghost use Rattle.std.specs.Prelude.{ℕ, ◌≡◌, ◌<◌, ◌≤◌, ◌+◌, ◌++◌, nat_eq, None, Some, IfOk, OnOk, IfSome, IsTrue, IsFalse, length, drop, slice_get, if◌then◌else◌, [], ◌∷◌};
 ghost use Rattle.config_patterns.specs.declared.item.Item.{Item as ItemValue};
 ghost use Rattle.wpds_base.specs.Limits.{most_items};
 ghost use Rattle.semiring_laws.specs.Semiring.{Fits};
 ghost use Rattle.weighted_automata.specs.declared.place.Label.TheVariants.{Symbol};
-ghost use Rattle.weighted_automata.specs.Entries.{Present};
+ghost use Rattle.key_rows.specs.Rows.{index_from};
+ghost use Rattle.weighted_automata.specs.declared.place.Label.{Label as LabelValue};
+ghost use Rattle.weighted_automata.specs.Entries.{Present, is_from};
 ghost use Rattle.saturation_laws.specs.States.{apply};
 ghost use Rattle.saturation_laws.specs.Openings.{AreKept};
 ghost use Rattle.saturation_laws.specs.Paths.{in_order};
 ghost use Rattle.path_sum.specs.private.Growing.{CanDraw, MovesBy, GrowsBy, given, state_of};
 ghost use Rattle.path_sum.specs.Sums.{bare_sum, ways_of, pair_place, can_move, first_part, second_part, Along};
-ghost use Rattle.path_sum.specs.private.Work.{edge_moves, into_moves, on_moves, back_moves, item_at, HaveMoves, moves_by, pair_moves, end_moves, moves_of};
+ghost use Rattle.path_sum.specs.Values.{is_left_out};
+ghost use Rattle.path_sum.specs.private.Work.{edge_moves, into_moves, on_moves, back_moves, item_at, HaveMoves, moves_by, followed_moves, pair_moves, end_moves, moves_of, ReadsAlone};
 
 use crate::change::apply_parts;
 use crate::sum_input::SumInput;
+use direction_parts::lower_index;
 use saturation_core::{NumberedPlace, QueuedTransitions};
 use semiring_laws::Semiring;
 use std::alloc::Global;
-use weighted_automata::{Entry, Label, Place};
+use weighted_automata::{Entry, Label, Place, Transitions};
 use witness_graph::{Graph, Overlay, Side};
 use wpds_base::OutOfMemory;
 
@@ -64,6 +68,21 @@ fn parts(side: Side, pair: u64, transition: u64) -> (u64, u64)
         Side::Pre => (pair, transition),
         Side::Post => (transition, pair),
     }
+}
+
+// Where the next of a row stands behind a place of the list, if it stands there or behind it.
+fn behind<S: Semiring>(transitions: &Transitions<S>, at: Option<u64>, k: u64) -> Option<u64>
+    ensures { (state : ℕ) (label : LabelValue) → let test = is_from state label in
+        at ≡ index_from test k transitions.now.transitions →
+        result ≡ index_from test (k + 1) transitions.now.transitions }
+{
+    let Some(j) = at else {
+        return None;
+    };
+    if j != k {
+        return at;
+    }
+    transitions.next_from(k)
 }
 
 impl<'g, S: Semiring> Growing<'g, S> {
@@ -299,8 +318,36 @@ impl<'g, S: Semiring> Growing<'g, S> {
         }
     }
 
-    // Goes along each transition from a pair.
-    fn follow_all(
+    // Goes along a transition from a pair with its source, if it leads to no state that is left out.
+    fn follow_kept(
+        &mut self,
+        alloc: Global,
+        input: &SumInput<S>,
+        number: u32,
+        i: u32,
+        transition: &Entry<S>,
+    ) -> Result<(), OutOfMemory>
+        requires ready { CanDraw S.operations input.now number
+            (pair_place i transition.now.place.from) (state_of self.old) }
+        requires there { let x = transition.now.place in
+            IsFalse (is_left_out input.now.low input.now.high x.to) →
+            Present input.now.transitions transition.now }
+        ensures grows { OnOk result (GrowsBy S.operations input.now
+            (followed_moves input.now.opening (ways_of input.now.pattern) input.now.low
+            input.now.high i transition.now)
+            (state_of self.old) (state_of self.new)) }
+        ensures ready { OnOk result (CanDraw S.operations input.now number
+            (pair_place i transition.now.place.from) (state_of self.new)) }
+        ensures graph { self.new.nodes.graph ≡ self.old.nodes.graph }
+    {
+        if input.leaves_out(transition.place.to) {
+            return Ok(());
+        }
+        self.follow_any(alloc, input, number, i, transition)
+    }
+
+    // Goes along each transition from a pair that is followed, over the row of all that go from its state.
+    fn follow_row(
         &mut self,
         alloc: Global,
         input: &SumInput<S>,
@@ -320,10 +367,65 @@ impl<'g, S: Semiring> Growing<'g, S> {
         let transitions = input.transitions();
         let mut at = transitions.first_out_of(state);
         while let Some(k) = at {
-            self.follow_any(alloc, input, number, i, transitions.entry(k))?;
+            self.follow_kept(alloc, input, number, i, transitions.entry(k))?;
             at = transitions.next_out_of(k);
         }
         Ok(())
+    }
+
+    // The same, over the rows of those that read one label and of those that read nothing. The pattern reads no other label.
+    fn follow_label(
+        &mut self,
+        alloc: Global,
+        input: &SumInput<S>,
+        number: u32,
+        i: u32,
+        state: u32,
+        label: Label,
+    ) -> Result<(), OutOfMemory>
+        requires ready { CanDraw S.operations input.now number (pair_place i state)
+            (state_of self.old) }
+        requires alone { ReadsAlone (ways_of input.now.pattern).edges i label }
+        ensures grows { OnOk result (GrowsBy S.operations input.now
+            (pair_moves input.now.opening (ways_of input.now.pattern) i state input.now.transitions)
+            (state_of self.old) (state_of self.new)) }
+        ensures ready { OnOk result (CanDraw S.operations input.now number
+            (pair_place i state) (state_of self.new)) }
+        ensures graph { self.new.nodes.graph ≡ self.old.nodes.graph }
+    {
+        let transitions = input.transitions();
+        let mut reading = transitions.first_from(state, label);
+        let mut empty = transitions.first_from(state, Label::Empty);
+        'rows: while let Some(k) = lower_index(reading, empty) {
+            self.follow_kept(alloc, input, number, i, transitions.entry(k))?;
+            reading = behind(transitions, reading, k);
+            empty = behind(transitions, empty, k);
+        }
+        Ok(())
+    }
+
+    // Goes along each transition from a pair that is followed: those that lead to no state that is left out.
+    fn follow_all(
+        &mut self,
+        alloc: Global,
+        input: &SumInput<S>,
+        number: u32,
+        i: u32,
+        state: u32,
+    ) -> Result<(), OutOfMemory>
+        requires ready { CanDraw S.operations input.now number (pair_place i state)
+            (state_of self.old) }
+        ensures grows { OnOk result (GrowsBy S.operations input.now
+            (pair_moves input.now.opening (ways_of input.now.pattern) i state input.now.transitions)
+            (state_of self.old) (state_of self.new)) }
+        ensures ready { OnOk result (CanDraw S.operations input.now number
+            (pair_place i state) (state_of self.new)) }
+        ensures graph { self.new.nodes.graph ≡ self.old.nodes.graph }
+    {
+        match input.only_label(i) {
+            Some(label) => self.follow_label(alloc, input, number, i, state, label),
+            None => self.follow_row(alloc, input, number, i, state),
+        }
     }
 
     // Adds a pair of final states to the answer.

@@ -1,21 +1,26 @@
-ghost use Rattle.std.specs.Prelude.{◌≡◌, ◌&&◌, ◌<◌, IfOk, Some, length, slice_get};
+ghost use Rattle.std.specs.Prelude.{◌≡◌, ◌&&◌, ◌<◌, ◌∷◌, [], ℕ, IfOk, IfSome, Some, false, length, slice_get};
 ghost use Rattle.config_patterns.specs.Edges.{is_final_of};
 ghost use Rattle.config_patterns.specs.Membership.{has_symbol};
 ghost use Rattle.config_patterns.specs.Validity.{IsPattern};
 ghost use Rattle.config_patterns.specs.declared.item.Item.{Item as ItemValue};
-ghost use Rattle.path_sum.specs.Sums.{has_state};
+ghost use Rattle.weighted_automata.specs.declared.place.Label.TheVariants.{Symbol};
+ghost use Rattle.path_sum.specs.Sums.{has_state, ways_of};
+ghost use Rattle.path_sum.specs.Values.{is_left_out};
+ghost use Rattle.path_sum.specs.private.Inputs.{followed};
+ghost use Rattle.path_sum.specs.private.Work.{item_at, ReadsAlone};
 
 use crate::lookup::{Lookup, lookups_of};
-use config_patterns::Pattern;
+use config_patterns::{Item, Pattern};
 use saturation_laws::Opening;
 use semiring_laws::Semiring;
 use std::alloc::Global;
 use std::marker::Model;
-use weighted_automata::Transitions;
+use weighted_automata::{Label, Transitions};
 use witness_graph::Side;
 use wpds_base::OutOfMemory;
 
-/// What a sum goes over: transitions, the opening that they began with, and a pattern with the sets of its items.
+/// What a sum goes over: transitions, the opening that they began with, and a pattern with the sets of its items. The states
+/// from `low` up to `high`, without it, are left out: no transition that leads to one is followed.
 #[derive(Drop)]
 pub(crate) struct SumInput<'a, S: Semiring> {
     semiring: &'a S,
@@ -24,10 +29,12 @@ pub(crate) struct SumInput<'a, S: Semiring> {
     transitions: &'a Transitions<S>,
     pattern: &'a Pattern,
     lookups: Vec<Lookup>,
+    low: u32,
+    high: u32,
 }
 
 impl<'a, S: Semiring> Model for SumInput<'a, S> {
-    ghost use Rattle.path_sum.specs.private.Inputs.{SumInputValue};
+    ghost use Rattle.path_sum.specs.private.Inputs.{SumInputValue, followed};
     ghost use Rattle.path_sum.specs.private.Lookups.{AreLookups};
 
     ghost Value = { SumInputValue S S.W S.Ret };
@@ -36,16 +43,18 @@ impl<'a, S: Semiring> Model for SumInput<'a, S> {
       semiring = t.semiring.now;
       side = t.side;
       opening = t.opening.now;
-      transitions = t.transitions.now.transitions;
+      transitions = followed t.low t.high t.transitions.now.transitions;
       pattern = t.pattern.now;
+      low = t.low;
+      high = t.high;
     } };
 
     ghost invariant = { λ t. AreLookups t.lookups.items t.pattern.now.items };
 }
 
 impl<'a, S: Semiring> SumInput<'a, S> {
-    /// The input of a sum over these transitions, which read to the opening, and this pattern. The sets of its items are
-    /// made ready here, once. Refused only when out of memory.
+    /// The input of a sum over these transitions, which read to the opening, and this pattern, without the states that are left
+    /// out. The sets of its items are made ready here, once. Refused only when out of memory.
     pub(crate) fn new(
         alloc: Global,
         semiring: &'a S,
@@ -53,13 +62,17 @@ impl<'a, S: Semiring> SumInput<'a, S> {
         opening: &'a Opening,
         transitions: &'a Transitions<S>,
         pattern: &'a Pattern,
+        low: u32,
+        high: u32,
     ) -> Result<SumInput<'a, S>, OutOfMemory>
         ensures { IfOk result (λ t. t ≡ record {
           semiring = semiring.now;
           side = side;
           opening = opening.now;
-          transitions = transitions.now.transitions;
+          transitions = followed low high transitions.now.transitions;
           pattern = pattern.now;
+          low = low;
+          high = high;
         }) }
     {
         let lookups = lookups_of(alloc, pattern)?;
@@ -70,6 +83,8 @@ impl<'a, S: Semiring> SumInput<'a, S> {
             transitions,
             pattern,
             lookups,
+            low,
+            high,
         })
     }
 
@@ -87,11 +102,19 @@ impl<'a, S: Semiring> SumInput<'a, S> {
         self.side
     }
 
-    /// The transitions.
+    /// All transitions, also those that are not followed.
     pub(crate) fn transitions(&self) -> &'a Transitions<S>
-        ensures { result.now.transitions ≡ self.now.transitions }
+        ensures { self.now.transitions
+            ≡ followed self.now.low self.now.high result.now.transitions }
     {
         self.transitions
+    }
+
+    /// Whether a state of the automaton is left out.
+    pub(crate) fn leaves_out(&self, state: u32) -> bool
+        ensures { result ≡ is_left_out self.now.low self.now.high state }
+    {
+        self.low <= state && state < self.high
     }
 
     /// The control of the pattern.
@@ -127,6 +150,27 @@ impl<'a, S: Semiring> SumInput<'a, S> {
         self.lookups[item as usize].has(symbol)
     }
 
+    // Whether an item with a star ends in a state of the pattern, so that it reads on there.
+    fn reads_on(&self, state: u32) -> bool
+        ensures { (y : ItemValue) → item_at state self.now.pattern.items ≡ Some y →
+            result ≡ y.star }
+    {
+        state > 0 && state <= self.items() && self.is_starred(state - 1)
+    }
+
+    /// What the pattern reads from one of its states, where that is one symbol alone or nothing.
+    pub(crate) fn only_label(&self, state: u32) -> Option<Label>
+        ensures { IfSome result (ReadsAlone (ways_of self.now.pattern).edges state) }
+    {
+        if self.reads_on(state) {
+            return None;
+        }
+        if state >= self.items() {
+            return Some(Label::Empty);
+        }
+        one_symbol(self.pattern.item(state))
+    }
+
     /// Whether a state of the pattern is final, and one of the automaton.
     pub(crate) fn ends_at(&self, state: u32, other: u32) -> bool
         ensures { result ≡ (is_final_of self.now.pattern.items state
@@ -134,6 +178,20 @@ impl<'a, S: Semiring> SumInput<'a, S> {
     {
         self.pattern.is_final(state) && has_number(self.opening.finals.as_slice(), other)
     }
+}
+
+// The symbol of an item that takes it once and no other.
+fn one_symbol(item: &Item) -> Option<Label>
+    ensures { IfSome result (λ l. (item.now.star ≡ false) × (g : ℕ)
+        × (l ≡ Symbol g) × (item.now.set ≡ g ∷ [])) }
+{
+    let [symbol] = item.set.as_slice() else {
+        return None;
+    };
+    if item.star {
+        return None;
+    }
+    Some(Label::Symbol(*symbol))
 }
 
 fn has_number(states: &[u32], state: u32) -> bool

@@ -5,6 +5,7 @@ ghost use Rattle.saturation_laws.specs.Books.{IsClosed};
 ghost use Rattle.saturation_laws.specs.Openings.{AreKept};
 ghost use Rattle.path_sum.specs.Sums.{answer_place};
 ghost use Rattle.path_sum.specs.private.Growing.{IsShownOver, BeginsBehind, begun_of, state_of};
+ghost use Rattle.path_sum.specs.private.Inputs.{followed};
 ghost use Rattle.path_sum.specs.private.Rounds.{IsWalked};
 ghost use Rattle.path_sum.specs.Saturated.{IsSaturatedAutomaton};
 ghost use Rattle.path_sum.specs.Answers.{Shows, IsValueOf};
@@ -75,7 +76,7 @@ fn list_answer<S: Semiring>(
     }
 }
 
-/// The sum with all that goes on from its first pair: nothing waits behind it.
+/// The sum with all that goes on from its first pair, without the states that are left out: nothing waits behind it.
 pub(crate) fn walk<'g, S: Semiring, D: Direction<S>>(
     alloc: Global,
     system: &System<S>,
@@ -84,17 +85,29 @@ pub(crate) fn walk<'g, S: Semiring, D: Direction<S>>(
     transitions: &Transitions<S>,
     graph: &'g Graph,
     pattern: &Pattern,
+    low: u32,
+    high: u32,
 ) -> Result<Growing<'g, S>, OutOfMemory>
     requires automaton { IsSaturatedAutomaton S.operations D.way system.now direction.now
         opening.now transitions.now.transitions graph.now.nodes }
     requires pattern { pattern.now.control < system.now.controls }
     ensures walked { IfOk result (λ x. IsWalked S.operations D.way system.now direction.now
-        opening.now transitions.now.transitions graph.now.nodes pattern.now (state_of x)) }
+        opening.now (followed low high transitions.now.transitions) graph.now.nodes pattern.now
+        low high (state_of x)) }
     ensures graph { IfOk result (λ x. x.nodes.graph ≡ graph.now) }
 {
     let semiring = system.semiring();
     let side = direction.side();
-    let input = SumInput::new(alloc, semiring, side, opening, transitions, pattern)?;
+    let input = SumInput::new(
+        alloc,
+        semiring,
+        side,
+        opening,
+        transitions,
+        pattern,
+        low,
+        high,
+    )?;
     let mut sum = start(alloc, &input, graph)?;
     'rounds: while let Some(taken) = sum.pairs.pop() {
         sum.draw(alloc, &input, taken)?;
@@ -107,8 +120,9 @@ pub(crate) fn walk<'g, S: Semiring, D: Direction<S>>(
 /// the transitions that read one to a final state, of the product along the path (Reps, Schwoon, Jha, Melski 2005). The
 /// transitions are those of a finished saturation from the opening, and the nodes theirs. What is listed are the sum's
 /// own nodes made shorter (`short_listings`). Refused only when out of memory. The graph is not copied; beside it at most
-/// so many nodes are made as there are pairs and one, times the top rank and one, and each transition is looked at once
-/// for each time that a pair of its source waits. Where no listing is asked for none is made.
+/// so many nodes are made as there are pairs and one, times the top rank and one. Each time that a pair of its source waits a
+/// transition is looked at once, or not at all where the pattern can read one other symbol alone. Where no listing is asked for
+/// none is made.
 pub fn sum_parts<S: Semiring, D: Direction<S>>(
     alloc: Global,
     system: &System<S>,
@@ -134,6 +148,8 @@ pub fn sum_parts<S: Semiring, D: Direction<S>>(
         transitions,
         graph,
         pattern,
+        0,
+        0,
     )?;
     let semiring = system.semiring();
     let value = weight_now(alloc, semiring, sum.pairs.list(), ANSWER)?;

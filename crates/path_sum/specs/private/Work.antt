@@ -1,5 +1,5 @@
 -- What is left to add to a sum, and what goes on from a pair.
-use Rattle.std.specs.Prelude.{◌≡◌, ◌⊎◌, ℕ, ◌+◌, map, ◌&&◌, nat_eq, IsTrue, List, [], ◌∷◌, ◌++◌, drop, Option, None, Some, slice_get, IsSome, if◌then◌else◌, zero, suc}
+use Rattle.std.specs.Prelude.{◌≡◌, ◌⊎◌, ℕ, ◌+◌, map, ◌&&◌, nat_eq, IsTrue, IsFalse, List, [], ◌∷◌, ◌++◌, drop, Option, None, Some, slice_get, IsSome, if◌then◌else◌, zero, suc}
 use Rattle.config_patterns.specs.declared.item.Item.{Item}
 use Rattle.config_patterns.specs.Membership.{has_symbol}
 use Rattle.saturation_laws.specs.Paths.{in_order}
@@ -8,6 +8,7 @@ use Rattle.saturation_laws.specs.declared.opening.Opening.{Opening}
 use Rattle.semiring_laws.specs.Semiring.{Operations, Below}
 use Rattle.weighted_automata.specs.Entries.{entry_at, Present}
 use Rattle.weighted_automata.specs.Places.{same_label}
+use Rattle.weighted_automata.specs.declared.place.Label.{Label}
 use Rattle.weighted_automata.specs.declared.place.Label.TheVariants.{Symbol, Empty}
 use Rattle.weighted_automata.specs.declared.place.Place.{Place}
 use Rattle.weighted_automata.specs.declared.transitions.Entry.{Entry}
@@ -16,6 +17,7 @@ use Rattle.wpds_base.specs.Lists.{IsIn}
 use Rattle.path_sum.specs.Pairs.{states_of}
 use Rattle.path_sum.specs.Sums.{Ways, answer_place, pair_place, can_move, has_state, Move, Along, End, Done}
 use Rattle.path_sum.specs.private.Paths.{Moves}
+use Rattle.path_sum.specs.Values.{is_left_out}
 
 module _ {S W Map : Type 0} (s : Operations W Map) (side : Side) where
   -- Nothing more is to be added.
@@ -76,6 +78,10 @@ item_at (suc k) items = slice_get items k
 abbrev pub item_moves : ℕ → ℕ → Place → List Item → List Move
 item_moves i g x items = back_moves i g x (item_at i items) ++ on_moves i g x (i + 1) (drop i items)
 
+-- the edges lead from a state over no other label
+abbrev pub ReadsAlone : List Place → ℕ → Label → Type 0
+ReadsAlone edges i label = (h : ℕ) (x : Place) → IsFalse (same_label (Symbol h) label) → edge_moves i h x edges ≡ []
+
 -- the edges have each of these moves along a transition that reads a symbol
 abbrev pub HaveMoves : List Place → ℕ → ℕ → Place → List Move → Type 0
 HaveMoves edges i g x ms = (j : ℕ) → IsIn (Along i j x) ms → IsTrue (can_move edges i (Symbol g) j)
@@ -83,6 +89,10 @@ HaveMoves edges i g x ms = (j : ℕ) → IsIn (Along i j x) ms → IsTrue (can_m
 module _ {S W Map : Type 0} (o : Opening) (ways : Ways) where
   abbrev pub moves_by : ℕ → Entry S W Map → List Move
   moves_by i t = elim t.place.label [ Empty ↦ Along i i t.place ∷ [] | Symbol g ↦ edge_moves i g t.place ways.edges ]
+
+  -- the same if it leads to no state that is left out
+  abbrev pub followed_moves : ℕ → ℕ → ℕ → Entry S W Map → List Move
+  followed_moves low high i t = if is_left_out low high t.place.to then [] else moves_by i t
 
   abbrev pub pair_moves : ℕ → ℕ → List (Entry S W Map) → List Move
   pair_moves i q [] = []
