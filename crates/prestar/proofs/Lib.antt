@@ -1,4 +1,5 @@
 mod FitLemmas
 mod StageLemmas
+mod ApartLemmas
 mod RowLemmas
 pub mod CallerLemmas
