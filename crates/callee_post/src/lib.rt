@@ -1,4 +1,4 @@
-//! Forwards saturation that goes through each callee once: what it draws from a transition, and the book that it opens for a
+//! Forwards saturation that goes through each callee once: what it draws from a transition, and the search that it begins for a
 //! pattern.
 #![tactic(auto)]
 
@@ -16,4 +16,4 @@ mod worths;
 
 pub use callee::CalleePost;
 pub use laws::callee_openings_read_alike;
-pub use opening::callee_opening;
+pub use opening::callee_search;

@@ -1,4 +1,4 @@
-ghost use Rattle.std.specs.Prelude.{◌≡◌, ◌≤◌, ◌++◌, [], length, IfOk, OnOk};
+ghost use Rattle.std.specs.Prelude.{◌≡◌, ◌≤◌, ◌++◌, length, IfOk, OnOk};
 ghost use Rattle.std.specs.List.{flat_map};
 ghost use Rattle.wpds_base.specs.Limits.{most_items};
 ghost use Rattle.witness_graph.specs.declared.node.Side.TheVariants.{Post as PostSide};
@@ -13,7 +13,7 @@ use config_patterns::Pattern;
 use direction_parts::two_symbols;
 use pattern_openings::opening_of;
 use pushdown_rules::{Rule, System};
-use saturation_core::Book;
+use saturation_core::Search;
 use saturation_laws::{Opening, PlaceList};
 use semiring_laws::Semiring;
 use std::alloc::Global;
@@ -72,21 +72,20 @@ fn callee_edges<S: Semiring>(
     })
 }
 
-/// The forward saturation from the configurations of a pattern that goes through each callee once: the pattern's edges, and
-/// an edge into each callee, each of weight one. All wait, in this order. It is refused only when memory runs out.
-pub fn callee_opening<'s, S: Semiring>(
+/// The search forwards from the configurations of a pattern that goes through each callee once: it begins with the pattern's
+/// edges, and an edge into each callee, each of weight one. All wait, in this order. It is refused only when memory runs out.
+pub fn callee_search<'s, S: Semiring>(
     alloc: Global,
     system: &'s System<S>,
     start: &Pattern,
-) -> Result<Book<'s, S, CalleePost>, OutOfMemory>
+) -> Result<Search<'s, S, CalleePost>, OutOfMemory>
     requires { IsOver system.now.controls system.now.symbols start.now }
-    ensures system { IfOk result (λ b. b.system ≡ system.now) }
-    ensures direction { IfOk result (λ b. b.direction.items ≡ length start.now.items) }
-    ensures opening { IfOk result (λ b. b.opening ≡ callee_opening_of system.now start.now) }
+    ensures system { IfOk result (λ v. v.system ≡ system.now) }
+    ensures direction { IfOk result (λ v. v.direction.items ≡ length start.now.items) }
+    ensures opening { IfOk result (λ v. v.opening ≡ callee_opening_of system.now start.now) }
     ensures state { let opening = callee_opening_of system.now start.now in
         let state = opening_state (S.operations system.now.semiring) PostSide system.now in
-        IfOk result (λ b. b.state ≡ state opening.edges) }
-    ensures journal { IfOk result (λ b. b.journal ≡ []) }
+        IfOk result (λ v. v.state ≡ state opening.edges) }
 {
     // the rules are over the system's controls and symbols
     let _semiring = system.semiring();
@@ -94,5 +93,5 @@ pub fn callee_opening<'s, S: Semiring>(
     let direction = CalleePost {
         items: start.items(),
     };
-    Book::open(alloc, system, direction, opening)
+    Search::open(alloc, system, direction, opening)
 }

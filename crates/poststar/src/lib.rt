@@ -1,5 +1,5 @@
-//! Forwards saturation (post*): what it draws from a transition, and the book that it opens for a pattern (Schwoon 2002;
-//! Reps, Schwoon, Jha, Melski 2005).
+//! Forwards saturation (post*): what it draws from a transition, and the book or the search that it begins for a pattern
+//! (Schwoon 2002; Reps, Schwoon, Jha, Melski 2005).
 #![tactic(auto)]
 
 mod candidate;
@@ -12,5 +12,5 @@ mod pass;
 mod post;
 mod worths;
 
-pub use opening::post_opening;
+pub use opening::{post_opening, post_search};
 pub use post::Post;

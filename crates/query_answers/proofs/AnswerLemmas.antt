@@ -1,5 +1,5 @@
 -- The answer of a sum over a book that workers have saturated.
-use Rattle.std.proofs.Common.{◌≡◌, ◌↔◌, Bool, true, ℕ, ◌<◌, List, IsTrue, refl, sym, subst}
+use Rattle.std.proofs.Common.{◌≡◌, ◌↔◌, Bool, ℕ, ◌<◌, List, IsTrue, refl, sym, subst}
 use Rattle.std.specs.Prelude.{nat_eq, Result, Ok, Err, IfOk, IfSome}
 use Rattle.std.proofs.lemmas.Bool.{and_parts, eqb-true}
 use Rattle.semiring_laws.specs.Semiring.{Operations}
@@ -18,12 +18,11 @@ use Rattle.witness_graph.specs.declared.node.Side.{Side}
 use Rattle.witness_graph.specs.declared.node.Side.TheVariants.{Pre as Backward, Post as Forward}
 use Rattle.path_sum.specs.Answers.{AnswersOpening, IsGrownAnswer, IsValueOf, first_of, last_of, listed_runs}
 use Rattle.path_sum.specs.Sums.{ways_of}
-use Rattle.callee_post.specs.declared.callee.CalleePost.{CalleePost}
-use Rattle.query_answers.specs.declared.saturation.Saturation.TheVariants.{Backward as BackwardOf, Forward as ForwardOf, Callees as CalleesOf}
+use Rattle.query_answers.specs.declared.saturation.Saturation.TheVariants.{Backward as BackwardOf, Forward as ForwardOf}
 use Rattle.path_sum.specs.declared.answer.Answer.{Answer}
 use Rattle.path_sum.specs.Results.{IsSumOver, IsSumOf}
 use Rattle.prestar_laws.specs.Ways.{pre_way}
-use Rattle.query_answers.specs.Answering.{opened_of, summed_of, forward_way, forward_callees, ShowsAnswer, IsGrownFromBook, IsSaturatedFrom, IsThroughCallees, IsSaturated, IsAnswer}
+use Rattle.query_answers.specs.Answering.{opened_of, summed_of, forward_way, ShowsAnswer, IsGrownFromBook, IsSaturatedFrom, IsSaturated, IsAnswer}
 
 -- what the law on openings says
 abbrev pub OpeningsReadMembers : Type 0
@@ -123,24 +122,3 @@ module _ {S W Map : Type 0} (operations : S → Operations W Map) (law : Opening
       → IsSaturated operations p side listed workers (opened_of side from to) (ForwardOf b) → IfOk r (IsValueOf (IsAnswer operations p side workers from to))
   forward_values b (Err e) summed side listed workers from to sums below same saturated = tt
   forward_values b (Ok v) summed side listed workers from to (a, sums, value) below same saturated = (a, forward_is b a summed side listed workers from to sums below same saturated, value)
-
-module _ {S W Map : Type 0} (operations : S → Operations W Map) (p : Pushdown S W Map) (b : BookValue S W Map CalleePost) where
-  -- a book that went through each callee once lists nothing
-  pub callees_list_nothing : {P : Type 0} (side : Side) (workers : ℕ) (opened : PatternValue) → IsSaturated operations p side true workers opened (CalleesOf b) → P
-  callees_list_nothing Backward workers opened saturated = absurd saturated
-  callees_list_nothing Forward workers opened saturated = let none = saturated.0 in cc
-
-  -- what the law on such a book's sums says
-  abbrev CalleesHaveValues : Type 0
-  CalleesHaveValues = (q : Pushdown S W Map) (workers : ℕ) (from to : PatternValue) (c : BookValue S W Map CalleePost) (v : W) → from.control < q.controls → to.control < q.controls
-      → IsThroughCallees operations q workers from c → IsValueOf (IsSumOf operations (forward_callees operations) c to) v → IsValueOf (IsAnswer operations q Forward workers from to) v
-
-  pub callee_values : {E : Type 0} (r : Result W E) (summed : PatternValue) (side : Side) (listed : Bool) (workers : ℕ) (from to : PatternValue) → CalleesHaveValues
-      → IfOk r (IsValueOf (IsSumOf operations (forward_callees operations) b summed)) → (opened_of side from to).control < p.controls → summed.control < b.system.controls → summed_of side from to ≡ summed
-      → IsSaturated operations p side listed workers (opened_of side from to) (CalleesOf b) → IfOk r (IsValueOf (IsAnswer operations p side workers from to))
-  callee_values r summed Backward listed workers from to law sums below low same saturated = absurd saturated
-  callee_values (Err e) summed Forward listed workers from to law sums below low same saturated = tt
-  callee_values (Ok v) summed Forward listed workers from to law sums below low same saturated =
-      let is = saturated.1 in
-      let low_to : to.control < p.controls = subst (λ (q : Pushdown S W Map). to.control < q.controls) is.system (subst (λ (d : PatternValue). d.control < b.system.controls) (sym same) low) in
-      law p workers from to b v below low_to is (subst (λ d. IsValueOf (IsSumOf operations (forward_callees operations) b d) v) (sym same) sums)

@@ -2,4 +2,4 @@ mod AnswerLemmas
 pub mod CallerLemmas
 mod ValueLemmas
 mod SharedLemmas
-mod CalleeLemmas
+mod SearchLemmas

@@ -1,9 +1,9 @@
 -- The values of queries that share one search backwards.
 use Rattle.std.proofs.Common.{◌≡◌, ◌↔◌, true, ℕ, zero, suc, ◌+◌, ◌<◌, ◌≤◌, List, [], ◌∷◌, ◌++◌, IsTrue, length, map, refl, sym, ap, ap₂, ◌∙◌, subst, arith}
-use Rattle.std.specs.Prelude.{All, Bool, false, Some, ◌||◌, not, nat_eq, cond, filter, slice_get}
+use Rattle.std.specs.Prelude.{All, Bool, IsFalse, false, Some, ◌||◌, not, nat_eq, nat_le, nat_lt, cond, filter, slice_get}
 use Rattle.std.specs.List.{AllByRecursion}
 use Rattle.std.proofs.lemmas.List.Elements.{All-from_recursion, recursion_from_All}
-use Rattle.std.proofs.lemmas.Bool.{and_parts, eqb-true}
+use Rattle.std.proofs.lemmas.Bool.{and_from, and_parts, eqb-true, false_from_ne_true, le-leb, leb-true, lt-ltb, ltb-true}
 use Rattle.std.proofs.lemmas.Option.{same_Some}
 use Rattle.semiring_laws.specs.Semiring.{Operations, IsSemiring}
 use Rattle.pushdown_rules.specs.Answers.{Answers}
@@ -18,10 +18,10 @@ use Rattle.pattern_openings.specs.PatternOpenings.{IsOver, opening_of}
 use Rattle.path_sum.specs.Answers.{AnswersOpening, IsValueOf, listed_runs}
 use Rattle.path_sum.specs.Results.{IsSumOf}
 use Rattle.path_sum.specs.Saturated.{IsSaturatedAutomaton}
-use Rattle.path_sum.specs.Values.{with_finals, IsSaturatedTo, IsValueTo, AreValuesTo}
+use Rattle.path_sum.specs.Values.{with_finals, is_left_out, IsSaturatedTo, IsValueTo, AreValuesTo}
 use Rattle.path_sum.specs.declared.answer.Answer.{Answer}
 use Rattle.prestar.proofs.CallerLemmas.{pattern_fits}
-use Rattle.prestar.specs.Stages.{HasStates}
+use Rattle.prestar.specs.Stages.{HasStates, IsEarlier, EarlierStayApart}
 use Rattle.prestar.specs.declared.pre.Pre.{Pre}
 use Rattle.weighted_automata.specs.declared.transitions.Entry.{Entry}
 use Rattle.witness_graph.specs.declared.node.Node.{Node}
@@ -39,7 +39,7 @@ use Rattle.witness_graph.specs.declared.node.Side.TheVariants.{Pre as Backward}
 use Rattle.worker_pool.specs.Closing.{IsClosedAlone, just_opened}
 use Rattle.worker_pool.specs.Workers.{IsWorkerCount}
 use Rattle.query_answers.specs.Answering.{IsAnswer, AreValues}
-use Rattle.query_answers.specs.private.Shared.{narrowed_for}
+use Rattle.query_answers.specs.private.Shared.{AreApart, narrowed_for}
 use Rattle.query_answers.proofs.AnswerLemmas.{OpeningsReadMembers, backward_is}
 
 -- a pattern's members are what an opening reads, where it reads them at each control
@@ -107,6 +107,15 @@ LaterOpeningsRead = (edges : List Place) (patterns : List PatternValue) (control
     → (k : ℕ) (d : PatternValue) (finals : List ℕ) → slice_get patterns k ≡ Some d → slice_get (joint_finals first patterns) k ≡ Some finals
     → (c : Configuration) → c.control < controls → IsOpened (record { edges = edges ++ joint_edges first patterns; finals = finals }) c ↔ IsTrue (has_member d c)
 
+abbrev pub StayApart : {S W Map : Type 0} → (S → Operations W Map) → Type 0
+StayApart operations = (v : SearchValue _ _ _ Pre) (states : ℕ) (edges : List Place) (patterns : List PatternValue) → IsSearch operations (pre_way operations) v
+    → v.system.controls ≤ states → AreBefore v.system.controls states edges → All (λ (d : PatternValue). d.control < v.system.controls) patterns
+    → v.opening.edges ≡ edges ++ joint_edges states patterns → EarlierStayApart v.system.controls states v.state.transitions
+
+abbrev pub EndApart : Type 0
+EndApart = (patterns : List PatternValue) (controls states : ℕ) → All (λ (d : PatternValue). d.control < controls) patterns
+    → All (All (λ q. IsEarlier controls states q → ⊥)) (joint_finals states patterns)
+
 module _ {S W Map : Type 0} (operations : S → Operations W Map) (p : Pushdown S W Map) (valid : IsSystem operations p) (workers : ℕ) (some : IsWorkerCount workers) where
   -- there is an answer to each query
   answer_exists : Closes operations → Opens operations → HasSums operations → OpeningsReadMembers → (from to : PatternValue) → from.control < p.controls → to.control < p.controls
@@ -166,6 +175,34 @@ states_stay a b n same has = record {
   edges = subst (λ (p : Pushdown _ _ _). AreBefore p.controls n b.opening.edges) (sym same.system)
       (subst (λ (o : Opening). AreBefore a.system.controls n o.edges) (sym same.opening) has.edges);
 }
+
+-- ---- what a walk may leave out
+
+module _ (controls first q : ℕ) where
+  is_earlier : IsTrue (is_left_out controls first q) → IsEarlier controls first q
+  is_earlier out = let parts = and_parts (nat_le controls q) (nat_lt q first) out in (leb-true controls q parts.0, ltb-true q first parts.1)
+
+  is_out : IsEarlier controls first q → IsTrue (is_left_out controls first q)
+  is_out is = and_from (nat_le controls q) (nat_lt q first) (le-leb controls q is.0) (lt-ltb q first is.1)
+
+  is_kept : (IsEarlier controls first q → ⊥) → IsFalse (is_left_out controls first q)
+  is_kept apart = false_from_ne_true (is_left_out controls first q) (λ out. apart (is_earlier out))
+
+-- the states of earlier patterns, from which a group that comes keeps apart
+pub leave_out : {S W Map : Type 0} (operations : S → Operations W Map) → StayApart operations → EndApart → (a v : SearchValue S W Map Pre) (first : ℕ) (patterns : List PatternValue) (finals : List (List ℕ))
+    → HasStates first a → IsSearch operations (pre_way operations) v → v.system ≡ a.system → v.opening ≡ edges_alone (a.opening.edges ++ joint_edges first patterns)
+    → All (λ (d : PatternValue). d.control < a.system.controls) patterns → finals ≡ joint_finals first patterns → AreApart first v finals
+leave_out {S} {W} {Map} operations stay ends a v first patterns finals has is same opens low are =
+    let controls = v.system.controls in
+    let least = subst (λ (p : Pushdown S W Map). p.controls ≤ first) (sym same) has.controls in
+    let before = subst (λ (p : Pushdown S W Map). AreBefore p.controls first a.opening.edges) (sym same) has.edges in
+    let each = subst (λ (p : Pushdown S W Map). All (λ (d : PatternValue). d.control < p.controls) patterns) (sym same) low in
+    let goes_on = stay v first a.opening.edges patterns is least before each (ap (λ (o : Opening). o.edges) opens) in
+    let apart = subst (All (All (λ q. IsEarlier controls first q → ⊥))) (sym are) (ends patterns controls first each) in
+    record {
+      transitions = λ t there out. is_out controls first t.place.to (goes_on t there (is_earlier controls first t.place.from out));
+      kept = λ k d within j e inside. is_kept controls first _ (apart k d within j e inside);
+    }
 
 module _ {S W Map D : Type 0} (operations : S → Operations W Map) (way : Way S W Map D) (p : Pushdown S W Map) (d : D) (o : Opening) (pattern : PatternValue) where
   value_at : (sets : List (List ℕ)) (vs : List W) → AreValuesTo operations way p d o pattern sets vs → (k : ℕ) (v : W) → slice_get vs k ≡ Some v

@@ -9,7 +9,9 @@ use Rattle.witness_graph.specs.declared.node.Side.TheVariants.{Pre as Backward, 
 use Rattle.witness_graph.specs.Tight.{IsTight}
 use Rattle.config_patterns.specs.Membership.{PatternValue, has_member}
 use Rattle.pattern_openings.specs.PatternOpenings.{IsOver, opening_of}
+use Rattle.saturation_laws.specs.declared.opening.Opening.{Opening}
 use Rattle.saturation_laws.specs.Books.{BookValue, IsBook, IsClosed}
+use Rattle.saturation_laws.specs.Searches.{SearchValue, IsSearch, IsDone}
 use Rattle.saturation_laws.specs.Ways.{Way}
 use Rattle.prestar_laws.specs.Ways.{pre_way}
 use Rattle.prestar.specs.declared.pre.Pre.{Pre}
@@ -19,7 +21,7 @@ use Rattle.callee_laws.specs.Ways.{callee_way}
 use Rattle.callee_post.specs.Openings.{callee_opening_of}
 use Rattle.callee_post.specs.declared.callee.CalleePost.{CalleePost}
 use Rattle.query_answers.specs.declared.saturation.Saturation.{Saturation}
-use Rattle.query_answers.specs.declared.saturation.Saturation.TheVariants.{Backward as BackwardOf, Forward as ForwardOf, Callees as CalleesOf}
+use Rattle.query_answers.specs.declared.saturation.Saturation.TheVariants.{Backward as BackwardOf, Forward as ForwardOf, Values as ValuesOf, Callees as CalleesOf}
 use Rattle.path_sum.specs.declared.answer.Answer.{Answer}
 use Rattle.path_sum.specs.Answers.{listed_runs, IsGrownAnswer, IsValueOf}
 use Rattle.path_sum.specs.Sums.{ways_of}
@@ -68,6 +70,13 @@ module _ {S W Map D : Type 0} (operations : S → Operations W Map) (way : Way S
     pub saturated : IsSaturatedFrom workers (opened_of side from to) book
     pub grown : IsGrownAnswer (operations p.semiring) side book.opening book.state.transitions book.state.nodes (ways_of (summed_of side from to)) a
 
+  -- The search is done, and began with an opening over the system.
+  pub record IsSearchedFrom (o : Opening) (v : SearchValue S W Map D) : Type 0 where
+    pub system : v.system ≡ p
+    pub opening : v.opening ≡ o
+    pub search : IsSearch operations way v
+    pub done : IsDone v
+
 -- ---- by both directions
 
 -- forwards, by how many items the opening pattern has
@@ -82,31 +91,36 @@ forward_callees operations = callee_way (λ d. d.items) operations
 abbrev pub saturated_system : {S W Map : Type 0} → Saturation S W Map → Pushdown S W Map
 saturated_system (BackwardOf b) = b.system
 saturated_system (ForwardOf b) = b.system
-saturated_system (CalleesOf b) = b.system
+saturated_system (ValuesOf v) = v.system
+saturated_system (CalleesOf v) = v.system
 
 -- nothing waits in it, and no hand is out
 abbrev pub IsFinished : {S W Map : Type 0} → Saturation S W Map → Type 0
 IsFinished (BackwardOf b) = IsClosed b
 IsFinished (ForwardOf b) = IsClosed b
-IsFinished (CalleesOf b) = IsClosed b
+IsFinished (ValuesOf v) = IsDone v
+IsFinished (CalleesOf v) = IsDone v
 
 module _ {S W Map : Type 0} (operations : S → Operations W Map) (p : Pushdown S W Map) where
-  -- The book went through each callee once, forwards from a pattern. It has no answer's nodes, but the values of all.
-  pub record IsThroughCallees (workers : ℕ) (pattern : PatternValue) (b : BookValue S W Map CalleePost) : Type 0 where
+  -- The search is done, forwards from a pattern. It has no answer's nodes, but the values of all.
+  pub record IsSearchedForward (workers : ℕ) (pattern : PatternValue) (v : SearchValue S W Map Post) : Type 0 where
+    pub some : IsWorkerCount workers
+    pub searched : IsSearchedFrom operations (forward_way operations) p (opening_of p.controls pattern) v
+
+  -- So is this one, and it went through each callee once.
+  pub record IsThroughCallees (workers : ℕ) (pattern : PatternValue) (v : SearchValue S W Map CalleePost) : Type 0 where
     pub some : IsWorkerCount workers
     pub over : IsOver p.controls p.symbols pattern
-    pub system : b.system ≡ p
-    pub items : b.direction.items ≡ length pattern.items
-    pub opening : b.opening ≡ callee_opening_of p pattern
-    pub book : IsBook operations (forward_callees operations) b
-    pub closed : IsClosed b
+    pub items : v.direction.items ≡ length pattern.items
+    pub searched : IsSearchedFrom operations (forward_callees operations) p (callee_opening_of p pattern) v
 
   -- It is a finished saturation of the system from a pattern, by the direction of this side and so many workers. Where no
-  -- listing is asked for, it may have gone through each callee once.
+  -- listing is asked for, it may be a search forwards, which one worker has made.
   abbrev pub IsSaturated : Side → Bool → ℕ → PatternValue → Saturation S W Map → Type 0
   IsSaturated Backward listed workers pattern (BackwardOf b) = IsSaturatedFrom operations (pre_way operations) p workers pattern b
   IsSaturated Forward listed workers pattern (ForwardOf b) = IsSaturatedFrom operations (forward_way operations) p workers pattern b
-  IsSaturated Forward listed workers pattern (CalleesOf b) = IsFalse listed × IsThroughCallees workers pattern b
+  IsSaturated Forward listed workers pattern (ValuesOf v) = IsFalse listed × IsSearchedForward workers pattern v
+  IsSaturated Forward listed workers pattern (CalleesOf v) = IsFalse listed × IsThroughCallees workers pattern v
   IsSaturated _ _ workers pattern _ = ⊥
 
   -- the answer is grown from a book of the direction of this side

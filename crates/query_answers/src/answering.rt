@@ -1,33 +1,29 @@
 ghost use Rattle.std.specs.Prelude.{◌≡◌, ◌<◌, ℕ, Bool, true, IfOk};
 ghost use Rattle.config_patterns.specs.Membership.{PatternValue};
-ghost use Rattle.callee_post.specs.declared.callee.CalleePost.{CalleePost as CalleePostValue};
 ghost use Rattle.path_sum.specs.Answers.{IsValueOf};
-ghost use Rattle.path_sum.specs.Results.{IsSumOf};
 ghost use Rattle.pattern_openings.specs.PatternOpenings.{IsOver};
 ghost use Rattle.pushdown_rules.specs.Pushdown.{Pushdown};
-ghost use Rattle.saturation_laws.specs.Books.{BookValue, IsClosed};
 ghost use Rattle.witness_graph.specs.declared.node.Side.{Side as SideValue};
-ghost use Rattle.witness_graph.specs.declared.node.Side.TheVariants.{Post as Forward};
 ghost use Rattle.worker_pool.specs.Workers.{IsWorkerCount};
-ghost use Rattle.query_answers.specs.Answering.{opened_of, summed_of, saturated_system, forward_callees};
-ghost use Rattle.query_answers.specs.Answering.{IsFinished, IsSaturated, IsThroughCallees, IsAnswer};
+ghost use Rattle.query_answers.specs.Answering.{opened_of, summed_of, saturated_system};
+ghost use Rattle.query_answers.specs.Answering.{IsFinished, IsSaturated, IsAnswer};
 
 use crate::Saturation;
-use crate::reach::shares_callees;
-use callee_post::{CalleePost, callee_opening, callee_openings_read_alike};
+use crate::searches::{
+    callees_have_values, saturate_for_values, search_value, searches_have_values, sum_search,
+};
 use config_patterns::Pattern;
-use path_sum::{Answer, sum, sum_value, sums_have_answers};
+use path_sum::{Answer, sum, sum_value};
 use pattern_openings::openings_read_members;
-use poststar::{Post, post_opening};
+use poststar::post_opening;
 use prestar::pre_opening;
-use pushdown_rules::{System, answers_agree};
-use saturation_core::Book;
+use pushdown_rules::System;
 use semiring_laws::Semiring;
 use std::alloc::Global;
 use std::sync::Wait;
 use std::thread::Threads;
 use witness_graph::Side;
-use worker_pool::{one_worker_closes, saturate as saturate_book, saturate_alone};
+use worker_pool::saturate as saturate_book;
 use wpds_base::OutOfMemory;
 use wpds_port::Gate;
 
@@ -43,27 +39,10 @@ fn by_side<'p>(side: Side, from: &'p Pattern, to: &'p Pattern) -> (&'p Pattern, 
     }
 }
 
-// The finished saturation forwards from a pattern that goes through each callee once. One worker makes it.
-fn through_callees<'s, S: Semiring, G: Gate>(
-    alloc: Global,
-    system: &'s System<S>,
-    opened: &Pattern,
-    gate: &G,
-) -> Result<Book<'s, S, CalleePost>, OutOfMemory>
-    requires { IsOver system.now.controls system.now.symbols opened.now }
-    ensures through { (workers : ℕ) → IsWorkerCount workers →
-        IfOk result (IsThroughCallees S.operations system.now workers opened.now) }
-    ensures finished { IfOk result IsClosed }
-    ensures system { IfOk result (λ b. b.system ≡ system.now) }
-{
-    let book = callee_opening(alloc, system, opened)?;
-    saturate_alone(alloc, book, gate)
-}
-
 /// The finished saturation from a pattern, by so many workers: backwards from where runs end, or forwards from where they
-/// begin. Where no listing is asked for, one worker may have gone through each callee once, forwards. Refused only when out
-/// of memory. Two workers or more have a thread each, and each worker calls the gate between taking a transition and
-/// settling it.
+/// begin. Forwards, where no listing is asked for, one worker makes a search, whatever their number, and calls the gate before
+/// each turn. Otherwise two workers or more have a thread each, and each worker calls the gate between taking a transition and
+/// settling it. Refused only when out of memory.
 pub fn saturate<
     's,
     H: Threads + Wait + Sync,
@@ -92,9 +71,8 @@ pub fn saturate<
             Ok(Saturation::Backward(saturate_book(rt, alloc, book, workers, gate)?))
         }
         Side::Post => {
-            if !listed && shares_callees(alloc, system, opened)? {
-                let book = through_callees(alloc, system, opened, gate)?;
-                return Ok(Saturation::Callees(book));
+            if !listed {
+                return saturate_for_values(alloc, system, opened, gate);
             }
             let book = post_opening(alloc, system, opened)?;
             Ok(Saturation::Forward(saturate_book(rt, alloc, book, workers, gate)?))
@@ -120,25 +98,9 @@ pub fn answer_over<S: Semiring>(
     match saturation {
         Saturation::Backward(book) => sum(alloc, book, summed),
         Saturation::Forward(book) => sum(alloc, book, summed),
-        Saturation::Callees(book) => sum(alloc, book, summed),
+        Saturation::Values(search) => sum_search(alloc, search, summed, true),
+        Saturation::Callees(search) => sum_search(alloc, search, summed, true),
     }
-}
-
-// What a sum over a book that went through each callee once gives is the value of an answer: values are unique, and each
-// query has an answer.
-fn callees_have_values<S: Semiring>()
-    ensures { (p : Pushdown S S.W S.Ret) (workers : ℕ) (from to : PatternValue)
-        (b : BookValue S S.W S.Ret CalleePostValue) (v : S.W) →
-        from.control < p.controls → to.control < p.controls →
-        IsThroughCallees S.operations p workers from b →
-        IsValueOf (IsSumOf S.operations (forward_callees S.operations) b to) v →
-        IsValueOf (IsAnswer S.operations p Forward workers from to) v }
-{
-    openings_read_members();
-    callee_openings_read_alike::<S>();
-    answers_agree::<S>();
-    sums_have_answers::<S, Post>();
-    one_worker_closes::<S, Post>();
 }
 
 /// The value of the answer that [`answer_over`] gives, without making a listing. Refused only when out of memory.
@@ -156,11 +118,13 @@ pub fn value_over<S: Semiring>(
         → IfOk result (IsValueOf (IsAnswer S.operations p side workers from to)) }
 {
     openings_read_members();
+    searches_have_values::<S>();
     callees_have_values::<S>();
     match saturation {
         Saturation::Backward(book) => sum_value(alloc, book, summed),
         Saturation::Forward(book) => sum_value(alloc, book, summed),
-        Saturation::Callees(book) => sum_value(alloc, book, summed),
+        Saturation::Values(search) => search_value(alloc, search, summed),
+        Saturation::Callees(search) => search_value(alloc, search, summed),
     }
 }
 
@@ -192,7 +156,8 @@ pub fn answer<
     answer_over(alloc, &saturation, summed)
 }
 
-/// The value of the answer that [`answer`] gives, without making a listing. Refused only when out of memory.
+/// The value of the answer that [`answer`] gives, without making a listing. Forwards one worker finds it, whatever their number.
+/// Refused only when out of memory.
 pub fn value<
     H: Threads + Wait + Sync,
     S: Semiring<W: Send + Sync, Ret: Send + Sync> + Send + Sync,

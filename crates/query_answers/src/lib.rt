@@ -4,6 +4,7 @@
 mod answering;
 mod reach;
 mod saturation;
+mod searches;
 mod values;
 
 pub use answering::{answer, answer_over, saturate, value, value_over};

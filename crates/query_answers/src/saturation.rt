@@ -5,18 +5,20 @@ use callee_post::CalleePost;
 use poststar::Post;
 use prestar::Pre;
 use pushdown_rules::System;
-use saturation_core::Book;
+use saturation_core::{Book, Search};
 use semiring_laws::Semiring;
 
-/// A book that is saturated from a pattern: all queries that start or end there are answered over it.
+/// A finished saturation from a pattern: all queries that start or end there are answered over it.
 #[derive(Drop)]
 pub enum Saturation<'s, S: Semiring> {
     /// Backwards, from where the runs of its queries end.
     Backward(Book<'s, S, Pre>),
     /// Forwards, from where they begin.
     Forward(Book<'s, S, Post>),
-    /// Forwards, through each callee once: for values alone.
-    Callees(Book<'s, S, CalleePost>),
+    /// Forwards, without events: for values alone.
+    Values(Search<'s, S, Post>),
+    /// Forwards, without events and through each callee once: for values alone.
+    Callees(Search<'s, S, CalleePost>),
 }
 
 impl<'s, S: Semiring> Saturation<'s, S> {
@@ -27,7 +29,8 @@ impl<'s, S: Semiring> Saturation<'s, S> {
         match self {
             Saturation::Backward(book) => book.system(),
             Saturation::Forward(book) => book.system(),
-            Saturation::Callees(book) => book.system(),
+            Saturation::Values(search) => search.system(),
+            Saturation::Callees(search) => search.system(),
         }
     }
 }

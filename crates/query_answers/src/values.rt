@@ -13,13 +13,13 @@ ghost use Rattle.wpds_base.specs.Limits.{most_items, most_queries};
 ghost use Rattle.worker_pool.specs.Workers.{IsWorkerCount};
 ghost use Rattle.query_answers.specs.Answering.{AreValues};
 ghost use Rattle.query_answers.specs.Shared.{shared_system};
-ghost use Rattle.query_answers.specs.private.Shared.{narrowed_for};
+ghost use Rattle.query_answers.specs.private.Shared.{AreApart, narrowed_for};
 
 use config_patterns::Pattern;
 use narrow_patterns::{Narrowing, narrowed_patterns_are_answered_alike};
 use path_sum::{sum_values, sums_have_answers};
 use pattern_openings::{later_openings_read_members, openings_read_members};
-use prestar::{Pre, search_controls, search_patterns};
+use prestar::{Pre, groups_stay_apart, search_controls, search_patterns};
 use pushdown_rules::{System, answers_agree};
 use saturation_core::Search;
 use saturation_laws::StateList;
@@ -130,8 +130,8 @@ impl<'s, S: Semiring> SharedSearch<'s, S> {
         })
     }
 
-    // Whether more patterns may come to it. A walk goes over what came for earlier ones too: where that is more than what leads
-    // from control to control, it is faster to find this again.
+    // Whether more patterns may come to it. A walk leaves out what came for earlier ones, but steps over their transitions in the
+    // rows of controls: where these are more than what leads from control to control, it is faster to find this again.
     fn has_room(&self) -> bool
         ensures { IsTrue result → self.now.states ≤ 2 ^ 30 }
     {
@@ -171,11 +171,15 @@ impl<'s, S: Semiring> SharedSearch<'s, S> {
         ensures finals { let q = self.entry in
             let ends = narrowed_for (shared_system q) from.now tos.now in
             IfOk result (λ r. r.1.items ≡ joint_finals q.states ends) }
+        ensures apart { let first = self.entry.states in
+            IfOk result (λ r. AreApart first r.0.search r.1.items) }
     {
         let system = self.search.system();
         let ends = narrowed_for(alloc, system, from, tos)?;
         let stage = search_patterns(alloc, self.search, self.states, &ends)?;
         let search = search_alone(alloc, stage.search, gate)?;
+        groups_stay_apart::<S>();
+        search.system();
         let shared = SharedSearch {
             search,
             states: stage.states,
@@ -184,14 +188,17 @@ impl<'s, S: Semiring> SharedSearch<'s, S> {
         Ok((shared, stage.finals))
     }
 
-    // The values of sums over the search to each of several sets of final states.
+    // The values of sums over the search to each of several sets of final states, of patterns whose items are numbered from a
+    // first number on. What came for patterns before these is left out.
     fn sums(
         &self,
         alloc: Global,
         from: &Pattern,
         finals: &[StateList],
+        first: u32,
     ) -> Result<Vec<S::W>, OutOfMemory>
-        requires { from.now.control < (shared_system self.now).controls }
+        requires from { from.now.control < (shared_system self.now).controls }
+        requires apart { AreApart first self.now.search finals.now }
         ensures { let v = self.now.search in
             IfOk result (λ vs. AreValuesTo S.operations (pre_way S.operations) v.system v.direction
             v.opening from.now finals.now vs.items) }
@@ -199,6 +206,7 @@ impl<'s, S: Semiring> SharedSearch<'s, S> {
         let search = &self.search;
         let (system, direction) = (search.system(), search.direction());
         let (opening, transitions) = (search.opening(), search.transitions());
+        let (low, high) = (system.controls(), first);
         sum_values(
             alloc,
             system,
@@ -208,6 +216,8 @@ impl<'s, S: Semiring> SharedSearch<'s, S> {
             search.graph(),
             from,
             finals,
+            low,
+            high,
         )
     }
 
@@ -233,8 +243,9 @@ impl<'s, S: Semiring> SharedSearch<'s, S> {
         walks_give_values::<S>();
         let roomy = self.with_room(alloc, gate)?;
         roomy.search.system();
+        let first = roomy.states;
         let (shared, finals) = roomy.with_ends(alloc, from, tos, gate)?;
-        let values = shared.sums(alloc, from, &finals)?;
+        let values = shared.sums(alloc, from, &finals, first)?;
         Ok((shared, values))
     }
 }

@@ -1,7 +1,9 @@
-use Rattle.std.proofs.Common.{sym, ◌∙◌, subst}
+use Rattle.std.proofs.Common.{Bool, sym, ◌∙◌, subst}
+use Rattle.std.specs.Prelude.{IfOk}
 use Rattle.witness_graph.specs.declared.node.Side.{Side}
+use Rattle.witness_graph.specs.declared.node.Side.TheVariants.{Post}
 use Rattle.query_answers.specs.Answering.{IsSaturated}
-use Rattle.query_answers.specs.declared.saturation.Saturation.TheVariants.{Backward, Forward, Callees}
+use Rattle.query_answers.specs.declared.saturation.Saturation.TheVariants.{Backward, Forward}
 use Rattle.query_answers.proofs.answering.saturate.Goals as goal
 
 pub returns-in_ok-saturate-in-Pre-clause-saturated : goal.returns-in_ok-saturate-in-Pre-clause-saturated
@@ -16,13 +18,16 @@ pub returns-in_ok-saturate-in-Post-clause-saturated : goal.returns-in_ok-saturat
 returns-in_ok-saturate-in-Post-clause-saturated g c =
     let b = c.in_ok-saturate-in-Post.field-0 in
     let kept = c.in_ok-saturate-in-Post.ensures in
-    let begun = c.in_ok-book-in-Post-2.ensures in
+    let begun = c.in_ok-book-in-Post.ensures in
     subst (λ (side : Side). IsSaturated g.S.Semiring.operations c.args.system.now side c.args.listed c.args.workers c.args.opened.now (Forward b)) (sym c.in-Post.is)
     (record { system = kept.base.system ∙ begun.system; opening = kept.base.opening ∙ begun.opening; book = kept.book; closed = kept.closed; seats = kept.seats; alone = kept.alone })
 
-pub returns-then-branch-clause-saturated : goal.returns-then-branch-clause-saturated
-returns-then-branch-clause-saturated g c =
-    let b = c.in_ok-book-in-Post.book in
-    let through = c.in_ok-book-in-Post.ensures.through c.args.workers c.requires.workers in
-    subst (λ (side : Side). IsSaturated g.S.Semiring.operations c.args.system.now side c.args.listed c.args.workers c.args.opened.now (Callees b)) (sym c.in-Post.is)
-    (c.if-not-listed.true, through)
+pub returns-then-not-listed-clause-saturated : goal.returns-then-not-listed-clause-saturated
+returns-then-not-listed-clause-saturated g c =
+    let p = c.args.system.now in
+    let workers = c.args.workers in
+    let pattern = c.args.opened.now in
+    let r = c.saturate_for_values.result in
+    let values = c.saturate_for_values.ensures.saturated workers c.requires.workers in
+    subst (λ (side : Side). IfOk r (IsSaturated g.S.Semiring.operations p side c.args.listed workers pattern)) (sym c.in-Post.is)
+    (subst (λ (listed : Bool). IfOk r (IsSaturated g.S.Semiring.operations p Post listed workers pattern)) (sym c.if-not-listed.true) values)

@@ -8,7 +8,7 @@ use Rattle.callee_laws.specs.Fitting.{fits_callees}
 use Rattle.callee_post.specs.Openings.{callee_opening_of}
 use Rattle.std.proofs.lemmas.Result.{IfOk-weaker}
 use Rattle.callee_post.proofs.FitLemmas.{callees_fit}
-use Rattle.callee_post.proofs.opening.callee_opening.Goals as goal
+use Rattle.callee_post.proofs.opening.callee_search.Goals as goal
 
 pub open-requires : goal.open-requires
 open-requires g c =
@@ -25,4 +25,4 @@ open-requires g c =
 pub returns-clause-state : goal.returns-clause-state
 returns-clause-state g c =
     let p = c.args.system.now in
-    IfOk-weaker c.open.result _ _ (λ b is. ap (λ x. x.state) is ∙ ap (λ (o : Opening). opening_state (g.S.Semiring.operations p.semiring) PostSide p o.edges) c.in_ok-opening.ensures) c.open.ensures
+    IfOk-weaker c.open.result _ _ (λ v is. ap (λ x. x.state) is ∙ ap (λ (o : Opening). opening_state (g.S.Semiring.operations p.semiring) PostSide p o.edges) c.in_ok-opening.ensures) c.open.ensures
