@@ -23,7 +23,8 @@ use Rattle.boolean_programs.specs.Lists.{Each}
 use Rattle.lowering_laws.specs.Lowering.{Effect, Planned, variables, symbols, symbol, step_rule, call_rule, return_rule, map_slot, IsMap}
 use Rattle.lowering_laws.specs.Plans.{IsWithin, AreLowered}
 use Rattle.lowering_laws.specs.Weights.{slots_of}
-use Rattle.boolean_lowering.specs.private.Made.{HasEffect, IsFor, AreAdded}
+use Rattle.boolean_lowering.specs.private.Effects.{HasEffect}
+use Rattle.boolean_lowering.specs.private.Made.{IsFor, AreAdded}
 
 -- ---- rules that are not refused
 

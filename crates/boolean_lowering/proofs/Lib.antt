@@ -8,6 +8,7 @@ pub mod TargetLemmas
 pub mod PlanLemmas
 pub mod MakingLemmas
 pub mod AddedLemmas
+pub mod SourceLemmas
 pub mod RuleLemmas
 pub mod LineLemmas
 pub mod TableLemmas

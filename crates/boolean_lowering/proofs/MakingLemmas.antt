@@ -21,7 +21,7 @@ use Rattle.lowering_laws.specs.Plans.{IsSlotOver}
 use Rattle.lowering_laws.specs.Weights.{slots_of, targets_of, values_of}
 use Rattle.boolean_lowering.specs.declared.layout.Layout.{Layout}
 use Rattle.boolean_lowering.specs.private.Layouts.{variables_in, slot_in, IsLayout}
-use Rattle.boolean_lowering.specs.private.Made.{HasEffect}
+use Rattle.boolean_lowering.specs.private.Effects.{HasEffect}
 use Rattle.boolean_lowering.proofs.LayoutLemmas.{slots_same, variables_same}
 
 -- what two clauses on a result say together

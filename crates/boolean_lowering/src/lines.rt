@@ -34,12 +34,12 @@ fn returns_of(program: &Program, procedure: usize) -> u32
 }
 
 // Adds the rules of a line, whose symbol is their head.
-fn add_line(
+fn add_line<'p>(
     alloc: Global,
-    making: &Making<'_>,
+    making: &Making<'p>,
     system: &mut System<Relations>,
     head: u32,
-    spot: &Spot<'_>,
+    spot: &Spot<'p>,
 ) -> Result<(), OutOfMemory>
     requires making { IsMaking making.now }
     requires system { IsFor (program_in making.now) system.old }
@@ -52,7 +52,8 @@ fn add_line(
     ensures { let p = program_in making.now in let i = instruction_of spot.now in OnOk result (
         AreAdded p system.old system.new (line_rules p head i (action p i))) }
 {
-    match &spot.line.statement {
+    let line = spot.line;
+    match &line.statement {
         Statement::Assign { targets, values } => {
             let targets = targets.as_slice();
             add_assignment(
@@ -98,11 +99,11 @@ fn add_line(
 }
 
 /// Adds the rules of all lines.
-pub(crate) fn add_lines(
+pub(crate) fn add_lines<'p>(
     alloc: Global,
-    making: &Making<'_>,
+    making: &Making<'p>,
     system: &mut System<Relations>,
-    spots: &[Spot<'_>],
+    spots: &[Spot<'p>],
 ) -> Result<(), OutOfMemory>
     requires making { IsMaking making.now }
     requires system { IsFor (program_in making.now) system.old }

@@ -28,11 +28,11 @@ pub struct Lowering {
 }
 
 // The system of a program, whose body lines and points these are.
-fn system_of(
+fn system_of<'p>(
     alloc: Global,
-    program: &Program,
-    table: &PointTable,
-    spots: &[Spot<'_>],
+    program: &'p Program,
+    table: &'p PointTable,
+    spots: &[Spot<'p>],
 ) -> Result<System<Relations>, OutOfMemory>
     requires read { IsRead (program_of program.now) }
     requires table { table.now ≡ symbol_points (program_of program.now) }
@@ -54,7 +54,8 @@ fn system_of(
 /// The lowering of a program: a pushdown system with one control, whose weights are relations
 /// between old and new values of the program's variables, and whose feasible runs are the runs of
 /// the program (Ball, Rajamani 2000; Schwoon 2002). It takes time by the number of lines, but for
-/// the look-ups of points, which are binary searches.
+/// the look-ups of points, which are binary searches. Rules that say the same share a weight, as
+/// long as there is room to keep it.
 ///
 /// A program that is read has few enough lines and rules.
 pub fn lower(alloc: Global, program: &Program) -> Result<Lowering, OutOfMemory>

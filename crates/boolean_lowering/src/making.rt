@@ -10,11 +10,15 @@ ghost use Rattle.lowering_laws.specs.Plans.{IsEffectOver, IsSlotOver};
 ghost use Rattle.lowering_laws.specs.Weights.{slots_of, targets_of, values_of};
 ghost use Rattle.boolean_lowering.specs.private.Layouts.{slot_in};
 ghost use Rattle.boolean_lowering.specs.private.Ways.{condition_of};
-ghost use Rattle.boolean_lowering.specs.private.Made.{IsMaking, HasEffect, program_in};
+ghost use Rattle.boolean_lowering.specs.private.Effects.{HasEffect};
+ghost use Rattle.boolean_lowering.specs.private.Sources.{effect_by, IsShort};
+ghost use Rattle.boolean_lowering.specs.private.Made.{IsMaking, program_in};
 
+use crate::kept::KeptWeights;
 use crate::layout::Layout;
-use crate::names::renamed;
+use crate::names::{assigned, filled, renamed};
 use crate::points::PointTable;
+use crate::source::Source;
 use crate::ways::Condition;
 use boolean_programs::{Point, Program};
 use lowering_laws::{actions_mean_effects, plans_are_within};
@@ -33,6 +37,8 @@ pub(crate) struct Making<'p> {
     pub(crate) relations: Relations,
     /// The relation under which all stays.
     pub(crate) stay: Relation,
+    /// Weights that were made.
+    pub(crate) kept: KeptWeights<'p>,
 }
 
 // The place of a variable among those of targets.
@@ -63,12 +69,14 @@ impl<'p> Making<'p> {
         let layout = Layout::of(program);
         let relations = Relations::new(layout.variables());
         let stay = relations.assume(alloc, &Expr::Const(true))?;
+        let kept = KeptWeights::new(alloc)?;
         Ok(Making {
             program,
             points,
             layout,
             relations,
             stay,
+            kept,
         })
     }
 
@@ -96,12 +104,8 @@ impl<'p> Making<'p> {
         self.relations.assume(alloc, tree)
     }
 
-    /// The relation under which all stays where a condition holds.
-    pub(crate) fn assume(
-        &self,
-        alloc: Global,
-        condition: Condition<'_>,
-    ) -> Result<Relation, OutOfMemory>
+    // The relation under which all stays where a condition holds.
+    fn assume(&self, alloc: Global, condition: Condition<'_>) -> Result<Relation, OutOfMemory>
         requires making { IsMaking self.now }
         requires over { let p = program_in self.now in
             IsEffectOver (variables p) (Assumes (renamed (slot_of p) (condition_of condition))) }
@@ -122,12 +126,8 @@ impl<'p> Making<'p> {
         }
     }
 
-    /// The relation under which variables are set to values.
-    pub(crate) fn assign(
-        &self,
-        alloc: Global,
-        pairs: &[(u32, Value)],
-    ) -> Result<Relation, OutOfMemory>
+    // The relation under which variables are set to values.
+    fn assign(&self, alloc: Global, pairs: &[(u32, Value)]) -> Result<Relation, OutOfMemory>
         requires making { IsMaking self.now }
         requires over { IsEffectOver (variables (program_in self.now))
             (Assigns (targets_of pairs.now) (values_of pairs.now)) }
@@ -136,6 +136,50 @@ impl<'p> Making<'p> {
     {
         actions_mean_effects();
         self.relations.assign(alloc, pairs)
+    }
+
+    // The relation of a source, made anew.
+    fn made(&self, alloc: Global, source: Source<'_>) -> Result<Relation, OutOfMemory>
+        requires making { IsMaking self.now }
+        requires over { let p = program_in self.now in
+            IsEffectOver (variables p) (effect_by (slot_of p) source) }
+        requires short { IsShort source }
+        ensures { let p = program_in self.now in IfOk result (λ w.
+            HasEffect (variables p) w (effect_by (slot_of p) source.entry)) }
+    {
+        match source {
+            Source::Assumption(condition) => self.assume(alloc, condition),
+            Source::Assignment { targets, values } => {
+                let pairs = assigned(alloc, self.layout, targets, values)?;
+                self.assign(alloc, &pairs)
+            }
+            Source::Filling {
+                first,
+                values,
+                free,
+            } => {
+                let pairs = filled(alloc, self.layout, first, values, free)?;
+                self.assign(alloc, &pairs)
+            }
+        }
+    }
+
+    /// The relation of a source. Where one was made from an equal source and is kept, it is shared.
+    pub(crate) fn weight(&self, alloc: Global, source: Source<'p>) -> Result<Relation, OutOfMemory>
+        requires making { IsMaking self.now }
+        requires over { let p = program_in self.now in
+            IsEffectOver (variables p) (effect_by (slot_of p) source) }
+        requires short { IsShort source }
+        ensures { let p = program_in self.now in IfOk result (λ w.
+            HasEffect (variables p) w (effect_by (slot_of p) source.entry)) }
+    {
+        if let Some(kept) = self.kept.find(self.layout, source) {
+            return self.relations.copy(alloc, kept);
+        }
+        let weight = self.made(alloc, source)?;
+        let copy = self.relations.copy(alloc, &weight)?;
+        self.kept.keep(alloc, self.layout, source, copy);
+        Ok(weight)
     }
 
     // Where a variable comes from behind a call with these targets.

@@ -16,7 +16,7 @@ ghost use Rattle.boolean_lowering.specs.private.Ways.{way_of};
 ghost use Rattle.boolean_lowering.specs.private.Made.{IsMaking, IsFor, AreAdded, program_in};
 
 use crate::making::Making;
-use crate::names::{assigned, filled};
+use crate::source::Source;
 use crate::spot::{Spot, line_at};
 use crate::ways::{Way, at_line};
 use boolean_programs::{Choice, Proc};
@@ -57,12 +57,12 @@ fn add(
 }
 
 // Adds the rule of a way.
-fn add_way(
+fn add_way<'p>(
     alloc: Global,
-    making: &Making<'_>,
+    making: &Making<'p>,
     system: &mut System<Relations>,
     head: u32,
-    way: Way<'_>,
+    way: Way<'p>,
 ) -> Result<(), OutOfMemory>
     requires making { IsMaking making.now }
     requires system { IsFor (program_in making.now) system.old }
@@ -72,18 +72,18 @@ fn add_way(
     ensures { let p = program_in making.now in OnOk result (
         AreAdded p system.old system.new (jump_rule p head (way_of way.entry) ∷ [])) }
 {
-    let weight = making.assume(alloc, way.condition)?;
+    let weight = making.weight(alloc, Source::Assumption(way.condition))?;
     let to = making.symbol(way.to);
     add(alloc, system, head, &[to], weight, None)
 }
 
 /// Adds the rules of ways.
-pub(crate) fn add_ways(
+pub(crate) fn add_ways<'p>(
     alloc: Global,
-    making: &Making<'_>,
+    making: &Making<'p>,
     system: &mut System<Relations>,
     head: u32,
-    ways: &[Way<'_>],
+    ways: &[Way<'p>],
 ) -> Result<(), OutOfMemory>
     requires making { IsMaking making.now }
     requires system { IsFor (program_in making.now) system.old }
@@ -100,14 +100,14 @@ pub(crate) fn add_ways(
 }
 
 /// Adds the rule of an assignment, behind which this line stands.
-pub(crate) fn add_assignment(
+pub(crate) fn add_assignment<'p>(
     alloc: Global,
-    making: &Making<'_>,
+    making: &Making<'p>,
     system: &mut System<Relations>,
     head: u32,
     next: u32,
-    targets: &[u32],
-    values: &[Choice],
+    targets: &'p [u32],
+    values: &'p [Choice],
 ) -> Result<(), OutOfMemory>
     requires making { IsMaking making.now }
     requires system { IsFor (program_in making.now) system.old }
@@ -119,22 +119,21 @@ pub(crate) fn add_assignment(
         AreAdded p system.old system.new (step_rule head (symbol p (at_line next))
         (Assigns (map (slot_of p) targets.now) (in_slots p values.now)) ∷ [])) }
 {
-    let pairs = assigned(alloc, making.layout, targets, values)?;
-    let weight = making.assign(alloc, &pairs)?;
+    let weight = making.weight(alloc, Source::Assignment { targets, values })?;
     let to = making.symbol(at_line(next));
     add(alloc, system, head, &[to], weight, None)
 }
 
 /// Adds the rule of a call of a procedure, below which this line stands.
-pub(crate) fn add_call(
+pub(crate) fn add_call<'p>(
     alloc: Global,
-    making: &Making<'_>,
+    making: &Making<'p>,
     system: &mut System<Relations>,
     head: u32,
     spot: &Spot<'_>,
     targets: &[u32],
     callee: &Proc,
-    arguments: &[Choice],
+    arguments: &'p [Choice],
 ) -> Result<(), OutOfMemory>
     requires making { IsMaking making.now }
     requires system { IsFor (program_in making.now) system.old }
@@ -147,8 +146,12 @@ pub(crate) fn add_call(
 {
     let first = making.layout.first_local();
     let free = callee.locals.len() as u32;
-    let pairs = filled(alloc, making.layout, first, arguments, free)?;
-    let weight = making.assign(alloc, &pairs)?;
+    let source = Source::Filling {
+        first,
+        values: arguments,
+        free,
+    };
+    let weight = making.weight(alloc, source)?;
     let to = making.symbol(at_line(line_at(callee.body.as_slice(), 0)));
     let back = making.symbol(at_line(spot.next));
     let map = making.map(targets);
@@ -156,12 +159,12 @@ pub(crate) fn add_call(
 }
 
 /// Adds the rule of a return of values, and of as many free ones behind them.
-pub(crate) fn add_return(
+pub(crate) fn add_return<'p>(
     alloc: Global,
-    making: &Making<'_>,
+    making: &Making<'p>,
     system: &mut System<Relations>,
     head: u32,
-    values: &[Choice],
+    values: &'p [Choice],
     free: u32,
 ) -> Result<(), OutOfMemory>
     requires making { IsMaking making.now }
@@ -173,7 +176,11 @@ pub(crate) fn add_return(
         AreAdded p system.old system.new
         (return_rule p head (values.now ++ replicate free Star) ∷ [])) }
 {
-    let pairs = filled(alloc, making.layout, making.layout.globals, values, free)?;
-    let weight = making.assign(alloc, &pairs)?;
+    let source = Source::Filling {
+        first: making.layout.globals,
+        values,
+        free,
+    };
+    let weight = making.weight(alloc, source)?;
     add(alloc, system, head, &[], weight, None)
 }

@@ -1,6 +1,6 @@
 //! The variables of a lowered program: the globals, then the return slots, then the local slots.
 
-ghost use Rattle.std.specs.Prelude.{◌≡◌, ◌+◌, ◌≤◌, map};
+ghost use Rattle.std.specs.Prelude.{◌≡◌, ◌+◌, ◌≤◌, IsTrue, map};
 ghost use Rattle.wpds_base.specs.Limits.{most_related};
 ghost use Rattle.boolean_programs.specs.Lists.{Each};
 ghost use Rattle.boolean_programs.specs.Programs.{Procedure, program_of, procedure_of, width};
@@ -62,6 +62,16 @@ impl Layout {
         ensures few { result ≤ most_related }
     {
         self.globals + self.returns + self.locals
+    }
+
+    /// Whether two layouts are the same.
+    pub(crate) fn is_same(self, other: Layout) -> bool
+        ensures variables { IsTrue result → variables_in self ≡ variables_in other }
+        ensures slots { IsTrue result → slot_in self ≡ slot_in other }
+    {
+        self.globals == other.globals
+            && self.returns == other.returns
+            && self.locals == other.locals
     }
 
     /// The variable of a name.

@@ -1,26 +1,19 @@
 -- What the making of rules stands on, and what it adds.
-use Rattle.std.specs.Prelude.{◌≡◌, ◌↔◌, ℕ, true, IsTrue, List, ◌++◌}
+use Rattle.std.specs.Prelude.{◌≡◌, ℕ, true, List, ◌++◌}
 use Rattle.truth_tables.specs.Formulas.{Constant}
-use Rattle.semiring_laws.specs.Semiring.{Fits}
 use Rattle.pushdown_rules.specs.declared.rule.Rule.{Rule}
 use Rattle.pushdown_rules.specs.Pushdown.{Pushdown}
 use Rattle.relation_laws.specs.Building.{Parts}
 use Rattle.relation_laws.specs.Relations.{leads}
 use Rattle.relation_weights.specs.declared.rel_map.RelMap.{RelMap}
-use Rattle.relation_weights.specs.Relations.{relation_operations}
 use Rattle.boolean_programs.specs.Programs.{Program, program_of}
 use Rattle.boolean_programs.specs.Structure.{IsRead}
-use Rattle.setting_runs.specs.Relations.{Setting}
-use Rattle.lowering_laws.specs.Lowering.{Effect, Means, Assumes, Planned, variables, symbols, symbol_points}
+use Rattle.lowering_laws.specs.Lowering.{Assumes, Planned, variables, symbols, symbol_points}
 use Rattle.lowering_laws.specs.Plans.{AreLowered}
 use Rattle.lowering_laws.specs.Weights.{slots_of}
 use Rattle.boolean_lowering.specs.declared.making.Making.{Making}
 use Rattle.boolean_lowering.specs.private.Layouts.{IsLayout}
-
--- the weight of an effect on n variables
-pub record HasEffect (n : ℕ) (w : Parts) (effect : Effect) : Type 0 where
-  pub fits : Fits (relation_operations n) w
-  pub means : (x y : Setting) → IsTrue (leads w x y) ↔ Means n effect x y
+use Rattle.boolean_lowering.specs.private.Effects.{HasEffect}
 
 abbrev pub program_in : Making → Program
 program_in m = program_of m.program.now

@@ -1,18 +1,15 @@
-use Rattle.std.proofs.Common.{◌≡◌, ◌+◌, ◌++◌, length, map, replicate, sym, ap, ◌∙◌, subst, arith}
-use Rattle.std.specs.List.{range_with_len}
+use Rattle.std.proofs.Common.{◌≡◌, sym, ap, ◌∙◌, subst, arith}
 use Rattle.std.proofs.lemmas.Result.{on_ok_weaker}
-use Rattle.boolean_programs.specs.declared.statement.Choice.TheVariants.{Star}
 use Rattle.boolean_programs.specs.Programs.{procedure_of}
 use Rattle.boolean_programs.specs.Lines.{first_line}
 use Rattle.boolean_machine.specs.Machine.{at_line}
-use Rattle.lowering_laws.specs.Lowering.{variables, symbol, renamed_choice}
+use Rattle.lowering_laws.specs.Lowering.{variables, symbol}
 use Rattle.lowering_laws.specs.Plans.{IsEffectOver, IsSlotOver}
-use Rattle.lowering_laws.specs.Weights.{targets_of, values_of}
-use Rattle.boolean_lowering.specs.private.Layouts.{slot_in}
 use Rattle.boolean_lowering.specs.private.Spots.{instruction_of}
-use Rattle.boolean_lowering.specs.private.Made.{HasEffect, program_in}
+use Rattle.boolean_lowering.specs.private.Effects.{HasEffect}
+use Rattle.boolean_lowering.specs.private.Made.{program_in}
 use Rattle.boolean_lowering.proofs.ListLemmas.{drop_zero}
-use Rattle.boolean_lowering.proofs.RuleLemmas.{call_small, call_values, call_same}
+use Rattle.boolean_lowering.proofs.RuleLemmas.{call_small, call_same}
 use Rattle.boolean_lowering.proofs.MakingLemmas.{map_over}
 use Rattle.boolean_lowering.proofs.AddedLemmas.{map_fits, call_accepted, call_added}
 use Rattle.boolean_lowering.proofs.rules.add_call.Goals as goal
@@ -23,28 +20,20 @@ overflow_cast-free c =
     let small = call_small p c.args.making.now.layout c.requires.making.layout (procedure_of c.args.callee.now) c.args.arguments.now c.requires.within.effect in
     omega arith
 
-pub filled-requires-clause-small : goal.filled-requires-clause-small
-filled-requires-clause-small c =
+pub weight-requires-clause-over : goal.weight-requires-clause-over
+weight-requires-clause-over c =
+    let p = program_in c.args.making.now in
+    let q = procedure_of c.args.callee.now in
+    let same = call_same p c.args.making.now.layout c.requires.making.layout q c.args.arguments.now c.requires.within.effect c.first_local-first.result c.len-free.result c.first_local-first.ensures c.len-free.ensures in
+    subst (IsEffectOver (variables p)) (sym same) c.requires.within.effect
+
+pub weight-requires-clause-short : goal.weight-requires-clause-short
+weight-requires-clause-short c =
     let p = program_in c.args.making.now in
     let small = call_small p c.args.making.now.layout c.requires.making.layout (procedure_of c.args.callee.now) c.args.arguments.now c.requires.within.effect in
+    let at = c.first_local-first.ensures in
+    let free = c.len-free.ensures in
     omega arith
-
-pub filled-requires-clause-values : goal.filled-requires-clause-values
-filled-requires-clause-values c =
-    call_values (program_in c.args.making.now) c.args.making.now.layout c.requires.making.layout (procedure_of c.args.callee.now) c.args.arguments.now c.requires.within.effect
-
-pub assign-requires-clause-over : goal.assign-requires-clause-over
-assign-requires-clause-over c =
-    let p = program_in c.args.making.now in
-    let l = c.args.making.now.layout in
-    let q = procedure_of c.args.callee.now in
-    let vs = c.args.arguments.now in
-    let first = c.first_local-first.result in
-    let free : c.len-free.result ≡ q.locals = c.len-free.ensures in
-    let same = call_same p l c.requires.making.layout q vs c.requires.within.effect first c.deref.result.now c.first_local-first.ensures
-    (ap targets_of c.deref.ensures.value ∙ c.in_ok-pairs.ensures.targets ∙ ap (λ n. range_with_len first (length vs + n)) free)
-    (ap values_of c.deref.ensures.value ∙ c.in_ok-pairs.ensures.values ∙ ap (λ n. map (renamed_choice (slot_in l)) vs ++ replicate n Star) free) in
-    subst (IsEffectOver (variables p)) (sym same) c.requires.within.effect
 
 pub add-requires-clause-map : goal.add-requires-clause-map
 add-requires-clause-map c =
@@ -65,14 +54,9 @@ add-requires-clause-accepted c =
 pub returns : goal.returns
 returns c =
     let p = program_in c.args.making.now in
-    let l = c.args.making.now.layout in
     let q = procedure_of c.args.callee.now in
     let vs = c.args.arguments.now in
-    let first = c.first_local-first.result in
-    let free : c.len-free.result ≡ q.locals = c.len-free.ensures in
-    let same = call_same p l c.requires.making.layout q vs c.requires.within.effect first c.deref.result.now c.first_local-first.ensures
-    (ap targets_of c.deref.ensures.value ∙ c.in_ok-pairs.ensures.targets ∙ ap (λ n. range_with_len first (length vs + n)) free)
-    (ap values_of c.deref.ensures.value ∙ c.in_ok-pairs.ensures.values ∙ ap (λ n. map (renamed_choice (slot_in l)) vs ++ replicate n Star) free) in
+    let same = call_same p c.args.making.now.layout c.requires.making.layout q vs c.requires.within.effect c.first_local-first.result c.len-free.result c.first_local-first.ensures c.len-free.ensures in
     let has = subst (HasEffect (variables p) c.in_ok-weight.weight) same c.in_ok-weight.ensures in
     let at : c.symbol-to.result ≡ symbol p (at_line (first_line c.args.callee.now.body)) =
     c.symbol-to.ensures ∙ ap (symbol p) (c.at_line.ensures ∙ ap at_line (c.line_at.ensures ∙ ap first_line (drop_zero c.as_slice.result.now ∙ c.as_slice.ensures))) in

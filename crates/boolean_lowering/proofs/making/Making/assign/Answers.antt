@@ -5,7 +5,8 @@ use Rattle.relation_weights.specs.Actions.{assigned, AreTargets}
 use Rattle.relation_weights.specs.Relations.{relation_operations}
 use Rattle.lowering_laws.specs.Lowering.{variables, Assigns}
 use Rattle.lowering_laws.specs.Weights.{targets_of, values_of}
-use Rattle.boolean_lowering.specs.private.Made.{HasEffect, program_in}
+use Rattle.boolean_lowering.specs.private.Effects.{HasEffect}
+use Rattle.boolean_lowering.specs.private.Made.{program_in}
 use Rattle.boolean_lowering.proofs.TargetLemmas.{targets_are}
 use Rattle.boolean_lowering.proofs.MakingLemmas.{if_ok_both, assigned_effect}
 use Rattle.boolean_lowering.proofs.making.Making.assign.Goals as goal

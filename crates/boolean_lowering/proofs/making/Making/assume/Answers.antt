@@ -4,7 +4,8 @@ use Rattle.truth_tables.specs.Formulas.{formula, renamed}
 use Rattle.lowering_laws.specs.Lowering.{variables, slot_of, Assumes}
 use Rattle.boolean_lowering.specs.private.Layouts.{slot_in}
 use Rattle.boolean_lowering.specs.private.Ways.{condition_of}
-use Rattle.boolean_lowering.specs.private.Made.{HasEffect, program_in}
+use Rattle.boolean_lowering.specs.private.Effects.{HasEffect}
+use Rattle.boolean_lowering.specs.private.Made.{program_in}
 use Rattle.boolean_lowering.proofs.MakingLemmas.{renamed_same}
 use Rattle.boolean_lowering.proofs.making.Making.assume.Goals as goal
 
