@@ -1,5 +1,5 @@
 -- The kinds of body lines, and what their blocks close.
-use Rattle.std.proofs.Common.{◌≡◌, ◌≤◌, ℕ, ◌+◌, Bool, true, false, cond, ◌||◌, List, [], ◌∷◌, ◌++◌, map, Option, None, Some, refl, sym, ap, ap₂, ◌∙◌, subst, arith}
+use Rattle.std.proofs.Common.{◌≡◌, ◌≤◌, ℕ, ◌+◌, Bool, false, cond, ◌||◌, List, [], ◌∷◌, ◌++◌, map, Option, None, Some, refl, sym, ap, ap₂, ◌∙◌, subst, arith}
 use Rattle.std.specs.Prelude.{nat_lt, bytes_eq}
 use Rattle.std.specs.List.{list_any}
 use Rattle.std.proofs.lemmas.Bool.{or_parts}
@@ -13,7 +13,7 @@ use Rattle.document_forms.specs.Names.{is_among, has_twice, has_unknown}
 use Rattle.program_forms.specs.Forms.{StatementForm, LineForm, Stating, ElseForm, EndForm}
 use Rattle.program_forms.specs.Places.{Stated}
 use Rattle.program_forms.specs.Declared.{globals_on, procs_on, LabelLine, label_by, labels_on, Whole}
-use Rattle.program_forms.specs.Above.{names_after, own_names, returns_after, own_returns, label_names, points_on, rules_on, rules_by, total, closes_proc}
+use Rattle.program_forms.specs.Above.{names_after, own_names, returns_after, own_returns, label_names, points_on, rules_on, rules_by, closes_proc}
 use Rattle.program_forms.specs.Kinds.{has_known, targets, variables, trees, is_deep, has_no_end, misfits, leaves, is_past_limits, listed}
 use Rattle.program_forms.specs.FirstRefusal.{kind_below}
 use Rattle.program_forms.specs.Programs.{statement_value, body_line, body_on, end_of, with_body, on_last, procs_with, asked_on}

@@ -1,18 +1,16 @@
 -- The kinds of lines that declare names, and of queries.
 use Rattle.std.proofs.Common.{◌≡◌, ℕ, ◌+◌, Bool, true, false, not, ◌&&◌, ◌||◌, cond, List, [], ◌∷◌, ◌++◌, length, Option, None, Some, refl, sym, ap, ap₂, ◌∙◌, arith}
 use Rattle.std.specs.Prelude.{option_map, unwrap_or, ◌==◌, nat_le, nat_lt, is_none, codes}
-use Rattle.std.specs.List.{list_any}
 use Rattle.wpds_base.specs.Faults.{first_fault}
 use Rattle.wpds_base.specs.Limits.{most_related, most_queries}
 use Rattle.wpds_base.specs.Lists.{IsOnce}
-use Rattle.wpds_port.specs.declared.Kind.{Kind}
 use Rattle.wpds_port.specs.declared.Kind.TheVariants.{Form, Twice, Unknown, Count, NothingAsked, Arity, TooWide, Label}
 use Rattle.document_forms.specs.Names.{is_among, has_twice, once}
 use Rattle.program_forms.specs.Forms.{GlobalForm, ProcForm, LocalForm, QueryForm}
 use Rattle.program_forms.specs.Places.{Stated}
 use Rattle.program_forms.specs.Declared.{LabelLine, label_named, proc_named, Whole}
 use Rattle.program_forms.specs.Above.{own_names, proc_names, queries, begun, closed}
-use Rattle.program_forms.specs.Kinds.{has_known, is_main, is_too_wide, proc_conditions, local_conditions, query_conditions, is_no_assert}
+use Rattle.program_forms.specs.Kinds.{has_known, is_main, is_too_wide, query_conditions, is_no_assert}
 use Rattle.program_forms.specs.FirstRefusal.{kind_below, end_conditions}
 use Rattle.program_forms.specs.Programs.{line_of_label}
 use Rattle.program_tables.specs.Tables.{label_row}

@@ -1,6 +1,6 @@
 -- What lines say, with one line more.
-use Rattle.std.proofs.Common.{◌≡◌, ℕ, ◌+◌, Bool, true, false, cond, List, [], ◌∷◌, ◌++◌, length, map, Option, None, Some, refl, sym, ap, ◌∙◌, append_assoc, append-nil, arith}
-use Rattle.std.specs.Prelude.{flat_map, count_by, sum_by}
+use Rattle.std.proofs.Common.{◌≡◌, ℕ, ◌+◌, Bool, cond, List, [], ◌∷◌, ◌++◌, length, map, refl, sym, ap, ◌∙◌, append_assoc, append-nil, arith}
+use Rattle.std.specs.Prelude.{flat_map, count_by}
 use Rattle.std.proofs.lemmas.List.{map-append}
 use Rattle.std.proofs.lemmas.List.Sums.{sum_by_push, sum_by-cons}
 use Rattle.document_forms.specs.Names.{once}
@@ -8,7 +8,7 @@ use Rattle.boolean_programs.specs.declared.program.Proc.{Proc}
 use Rattle.program_forms.specs.Forms.{LineForm, GlobalForm, ProcForm, LocalForm, Stating, ElseForm, EndForm, QueryForm}
 use Rattle.program_forms.specs.Places.{Stated}
 use Rattle.program_forms.specs.Declared.{globals_on, procs_on, labels_on, ProcHead, LabelLine, globals, procs, labels, Whole}
-use Rattle.program_forms.specs.Above.{names_after, names_behind, own_names, returns_after, returns_behind, own_returns, proc_names, label_names, points_on, rules_on, total, is_query, is_proc, closes_proc, queries, begun, closed}
+use Rattle.program_forms.specs.Above.{names_after, names_behind, own_names, returns_after, returns_behind, own_returns, proc_names, label_names, total, is_query, queries}
 use Rattle.program_forms.specs.Programs.{procs_with, procs_behind, procs_in, asked_on}
 use Rattle.program_tables.proofs.CallerLemmas.{flat_with}
 

@@ -1,19 +1,16 @@
 -- What a reading has, with a line more.
-use Rattle.std.proofs.Common.{◌≡◌, ◌≤◌, ℕ, ◌+◌, Bool, true, false, cond, ◌||◌, List, [], ◌∷◌, ◌++◌, length, map, Option, None, Some, refl, sym, ap, ◌∙◌, append_assoc, append-nil, arith}
+use Rattle.std.proofs.Common.{◌≡◌, ◌≤◌, ℕ, ◌+◌, Bool, false, cond, ◌||◌, List, [], ◌∷◌, ◌++◌, map, refl, sym, ap, ◌∙◌, append_assoc, append-nil, arith}
 use Rattle.std.specs.Prelude.{flat_map, bytes_eq}
 use Rattle.wpds_base.specs.Limits.{most_symbols, most_rules}
 use Rattle.document_forms.specs.Names.{once, is_among}
 use Rattle.document_reader.proofs.CallerLemmas.{once_again}
 use Rattle.rule_reader.proofs.CallerLemmas.{any_push}
-use Rattle.boolean_programs.specs.declared.point.Point.{Point}
 use Rattle.boolean_programs.specs.declared.program.Proc.{Proc}
-use Rattle.boolean_programs.specs.Structure.{Block}
-use Rattle.program_forms.specs.Forms.{StatementForm, LineForm, GlobalForm, ProcForm, LocalForm, Stating, ElseForm, EndForm, QueryForm}
+use Rattle.program_forms.specs.Forms.{LineForm, GlobalForm, ProcForm, LocalForm, QueryForm}
 use Rattle.program_forms.specs.Places.{Stated}
 use Rattle.program_forms.specs.Declared.{globals_on, procs_on, labels_on, globals, ProcHead, LabelLine, Whole}
 use Rattle.program_forms.specs.Above.{names_after, own_names, returns_after, own_returns, proc_names, label_names, points_on, rules_on, total, closes_proc, closed}
-use Rattle.program_forms.specs.Kinds.{listed}
-use Rattle.program_forms.specs.Programs.{procs_with, procs_in, asked_on, body_on, on_last, with_locals, with_body}
+use Rattle.program_forms.specs.Programs.{procs_with, procs_in, asked_on, on_last, with_locals, with_body}
 use Rattle.program_statements.specs.declared.reading.Scope.{Scope}
 use Rattle.boolean_syntax.specs.declared.reading.Reading.{Reading}
 use Rattle.boolean_syntax.specs.private.Readings.{HasSame, HasRead}

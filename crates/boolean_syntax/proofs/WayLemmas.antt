@@ -1,6 +1,6 @@
 -- The second walk over the lines.
-use Rattle.std.proofs.Common.{◌≡◌, ℕ, ◌+◌, Bool, true, false, cond, List, [], ◌∷◌, ◌++◌, map, Option, None, Some, refl, sym, ap, ◌∙◌, append_assoc, append-nil, arith}
-use Rattle.std.specs.Prelude.{option_map, Result, Ok, Err}
+use Rattle.std.proofs.Common.{◌≡◌, ℕ, ◌+◌, cond, List, [], ◌∷◌, ◌++◌, map, Option, None, Some, refl, sym, ap, ◌∙◌, append_assoc, append-nil, arith}
+use Rattle.std.specs.Prelude.{option_map, Ok, Err}
 use Rattle.wpds_base.specs.Faults.{first_fault}
 use Rattle.wpds_port.specs.declared.Kind.{Kind}
 use Rattle.wpds_port.specs.declared.Refusal.{Refusal}
@@ -10,7 +10,7 @@ use Rattle.boolean_programs.specs.Structure.{Block}
 use Rattle.program_forms.specs.Forms.{LineForm, GlobalForm, ProcForm, LocalForm, Stating, ElseForm, EndForm, QueryForm}
 use Rattle.program_forms.specs.Places.{Place, said, at_top, Stated, Judged, judged, judged_from, place_behind, stated, next_place, ended}
 use Rattle.program_forms.specs.Declared.{Whole, whole}
-use Rattle.program_forms.specs.Above.{begun, is_proc}
+use Rattle.program_forms.specs.Above.{is_proc}
 use Rattle.program_forms.specs.FirstRefusal.{kind_below, first_refused, end_conditions}
 use Rattle.boolean_syntax.specs.private.Found.{judged_lines, stated_lines, found_in, IsOnTheWay}
 use Rattle.boolean_syntax.proofs.MoreLemmas.{count_more}

@@ -1,6 +1,6 @@
-use Rattle.std.proofs.Common.{◌≡◌, ◌++◌, ◌∷◌, [], not, Some, sym, ap, ◌∙◌, refl, subst}
+use Rattle.std.proofs.Common.{not, sym, ap, ◌∙◌, refl, subst}
 use Rattle.document_forms.specs.Names.{is_among}
-use Rattle.program_forms.specs.Kinds.{listed, has_known}
+use Rattle.program_forms.specs.Kinds.{listed}
 use Rattle.program_lines.specs.Texts.{label_said}
 use Rattle.rule_reader.proofs.CallerLemmas.{seen_more, not_twice}
 use Rattle.boolean_syntax.specs.private.Readings.{HasSeen}

@@ -1,4 +1,4 @@
-use Rattle.std.proofs.Common.{rules, ◌≡◌, ◌+◌, cond, sym, ap, ap₂, ◌∙◌, subst}
+use Rattle.std.proofs.Common.{rules, ◌≡◌, ◌+◌, cond, sym, ap, ◌∙◌, subst}
 use Rattle.program_forms.specs.Above.{closes_proc}
 use Rattle.program_forms.specs.Forms.{EndForm}
 use Rattle.program_forms.specs.Places.{Place}

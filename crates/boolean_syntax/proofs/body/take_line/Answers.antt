@@ -1,4 +1,4 @@
-use Rattle.std.proofs.Common.{◌≡◌, Some, sym, ap, ◌∙◌}
+use Rattle.std.proofs.Common.{sym, ap, ◌∙◌}
 use Rattle.program_lines.proofs.CallerLemmas.{stating_said}
 use Rattle.program_lines.specs.Texts.{line_said}
 use Rattle.boolean_syntax.proofs.body.take_line.Goals as goal

@@ -1,11 +1,10 @@
-use Rattle.std.proofs.Common.{◌≡◌, ◌+◌, ◌||◌, ◌∷◌, [], Some, None, sym, ap, ◌∙◌, refl, subst}
+use Rattle.std.proofs.Common.{◌≡◌, ◌+◌, ◌||◌, sym, ap, ◌∙◌, subst}
 use Rattle.wpds_port.specs.declared.Kind.TheVariants.{Twice, Unknown, WeightText, Count, Arity, Label}
 use Rattle.program_forms.specs.FirstRefusal.{kind_below}
 use Rattle.program_forms.specs.Places.{Place}
 use Rattle.program_forms.specs.Programs.{on_last, with_body, body_line}
 use Rattle.program_lines.specs.Texts.{label_said}
 use Rattle.program_statements.specs.Statements.{HasStatement}
-use Rattle.boolean_syntax.specs.declared.reading.Reading.{Reading}
 use Rattle.boolean_syntax.proofs.BodyLemmas.{statement_kind_is, statement_taken}
 use Rattle.boolean_syntax.proofs.KindLemmas.{six_none, sound}
 use Rattle.boolean_syntax.proofs.body.take_statement.Goals as goal

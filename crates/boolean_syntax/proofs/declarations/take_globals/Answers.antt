@@ -1,4 +1,4 @@
-use Rattle.std.proofs.Common.{◌≡◌, ◌||◌, ◌++◌, true, false, sym, ap, ◌∙◌}
+use Rattle.std.proofs.Common.{◌||◌, ◌++◌, true, false, sym, ap, ◌∙◌}
 use Rattle.document_forms.specs.Names.{has_twice, once}
 use Rattle.program_forms.specs.Kinds.{has_known}
 use Rattle.boolean_syntax.proofs.DeclarationLemmas.{globals_kind}

@@ -1,4 +1,4 @@
-use Rattle.std.proofs.Common.{◌≡◌, ◌||◌, ◌&&◌, ◌+◌, ◌∷◌, ◌++◌, [], true, false, not, length, Some, None, sym, ap, ap₂, ◌∙◌, refl, subst}
+use Rattle.std.proofs.Common.{◌≡◌, ◌||◌, ◌&&◌, ◌+◌, ◌∷◌, ◌++◌, [], not, length, sym, ap, ap₂, ◌∙◌, refl, subst}
 use Rattle.std.specs.Prelude.{nat_lt, ◌==◌}
 use Rattle.wpds_base.specs.Faults.{first_fault}
 use Rattle.wpds_base.specs.Limits.{most_related}
@@ -6,7 +6,6 @@ use Rattle.wpds_base.specs.Lists.{IsOnce}
 use Rattle.wpds_port.specs.declared.Kind.TheVariants.{Twice, Arity, TooWide}
 use Rattle.document_forms.specs.Names.{has_twice, once}
 use Rattle.rule_reader.proofs.CallerLemmas.{seen_more}
-use Rattle.boolean_programs.specs.declared.program.Proc.{Proc}
 use Rattle.program_forms.specs.Kinds.{has_known, is_main}
 use Rattle.program_forms.specs.FirstRefusal.{kind_below}
 use Rattle.program_tables.proofs.CallerLemmas.{params_names}

@@ -3,7 +3,7 @@ use Rattle.wpds_port.specs.Refusals.{refusal}
 use Rattle.document_forms.specs.Lines.{Line, lines}
 use Rattle.document_reader.specs.LinesLeft.{Left}
 use Rattle.program_forms.specs.FirstRefusal.{said_lines}
-use Rattle.program_forms.specs.Places.{Said, said}
+use Rattle.program_forms.specs.Places.{said}
 use Rattle.boolean_syntax.proofs.TextLemmas.{header_refused}
 use Rattle.boolean_syntax.proofs.program.read_header.Goals as goal
 

@@ -1,5 +1,4 @@
-use Rattle.std.proofs.Common.{◌≡◌, Some, sym, ap, ◌∙◌, arith, refl}
-use Rattle.wpds_port.specs.declared.Kind.{Kind}
+use Rattle.std.proofs.Common.{◌≡◌, sym, ◌∙◌, arith, refl}
 use Rattle.document_forms.specs.Lines.{Line}
 use Rattle.program_forms.specs.Places.{Stated}
 use Rattle.boolean_syntax.proofs.WayLemmas.{refused_below, refused_alone}

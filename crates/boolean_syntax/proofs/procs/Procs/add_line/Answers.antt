@@ -1,4 +1,4 @@
-use Rattle.std.proofs.Common.{◌≡◌, ◌++◌, ◌∷◌, [], ap, ◌∙◌}
+use Rattle.std.proofs.Common.{◌∷◌, [], ap, ◌∙◌}
 use Rattle.boolean_programs.specs.declared.program.Proc.{Proc}
 use Rattle.program_forms.specs.Programs.{on_last, with_body}
 use Rattle.boolean_syntax.specs.declared.procs.OpenProc.{OpenProc}

@@ -1,4 +1,4 @@
-use Rattle.std.proofs.Common.{◌≡◌, ◌++◌, ◌∷◌, [], ap, ◌∙◌}
+use Rattle.std.proofs.Common.{ap, ◌∙◌}
 use Rattle.boolean_programs.specs.declared.program.Proc.{Proc}
 use Rattle.document_reader.specs.NameLines.{names_in}
 use Rattle.program_forms.specs.Programs.{on_last, with_locals}
