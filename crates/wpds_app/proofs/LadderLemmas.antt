@@ -1,7 +1,7 @@
 -- Answers to ladders.
 use Rattle.std.proofs.Common.{◌≡◌, ℕ, zero, suc, ◌<◌, List, [], ◌∷◌, length, sym, ap, ◌∙◌, subst, arith, Option}
 use Rattle.std.specs.Prelude.{All, Result, Ok, Err, IfOk, false}
-use Rattle.std.proofs.lemmas.List.Elements.{All-nil, All-cons}
+use Rattle.std.proofs.lemmas.List.Elements.{All-nil, All-cons, All-head}
 use Rattle.semiring_laws.specs.declared.reach.NoMap.{NoMap}
 use Rattle.cost_weights.specs.Cost.{cost_operations}
 use Rattle.pushdown_rules.specs.Pushdown.{Pushdown}
@@ -10,6 +10,8 @@ use Rattle.config_patterns.specs.Membership.{PatternValue}
 use Rattle.pattern_openings.specs.PatternOpenings.{IsOver}
 use Rattle.witness_graph.specs.declared.node.Side.{Side}
 use Rattle.witness_graph.specs.declared.node.Side.TheVariants.{Pre, Post}
+use Rattle.document_forms.specs.Lawful.{IsQueryLine, IsQueryOf, IsDocument}
+use Rattle.document_forms.specs.declared.document.QueryLine.{QueryLine}
 use Rattle.document_systems.specs.Weights.{cost_kind}
 use Rattle.document_systems.specs.Systems.{system_of, side_of}
 use Rattle.path_sum.specs.declared.answer.Answer.{Answer}
@@ -59,6 +61,15 @@ module _ (n : ℕ) (p : Pushdown ℕ (Option ℕ) NoMap) (from to : PatternValue
       let within : (summed_of by from to).control < 1 =
       by_summed (λ x. x.control < 1) by from to (omega (arith, ap (λ (x : PatternValue). x.control) begin)) (omega (arith, ap (λ (x : PatternValue). x.control) end)) in
       omega (arith, within, ap (λ (q : Pushdown ℕ (Option ℕ) NoMap). q.controls) is)
+
+-- the question is a query over the ladder's system
+pub asked_lawful : (n : ℕ) (p : Pushdown ℕ (Option ℕ) NoMap) (q : QueryLine) → IsDocument (ladder_document n) → p ≡ system_of cost_kind ladder_cap (ladder_document n)
+    → q ≡ question → IsQueryLine p.symbols p.controls p.symbols q
+asked_lawful n p q lawful is query =
+    let d = ladder_document n in
+    let one : IsQueryOf d question = All-head (IsQueryOf d) question [] lawful.queries in
+    subst (λ (x : Pushdown ℕ (Option ℕ) NoMap). IsQueryLine x.symbols x.controls x.symbols q) (sym is)
+    (subst (λ (x : QueryLine). IsQueryOf d x) (sym query) one)
 
 pub told : {E : Type 0} (g : Generation) (p : Pushdown ℕ (Option ℕ) NoMap) (from to : PatternValue) (a : Answer ℕ (Option ℕ) NoMap) (rules : ℕ) (value : List ℕ) (r : Result (List ℕ) E)
     → p ≡ system_of cost_kind ladder_cap (ladder_document g.rungs) → from ≡ side_of (ladder_document g.rungs) question.from → to ≡ side_of (ladder_document g.rungs) question.to

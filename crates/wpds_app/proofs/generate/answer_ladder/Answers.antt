@@ -6,8 +6,26 @@ use Rattle.document_forms.specs.declared.document.QueryLine.{QueryLine}
 use Rattle.document_systems.specs.Weights.{cost_kind}
 use Rattle.document_systems.specs.Systems.{system_of, pattern_of}
 use Rattle.ladder.specs.Ladders.{ladder_document, ladder_cap, question}
-use Rattle.wpds_app.proofs.LadderLemmas.{opened_over, summed_within, told}
+use Rattle.wpds_app.proofs.LadderLemmas.{asked_lawful, opened_over, summed_within, told}
 use Rattle.wpds_app.proofs.generate.answer_ladder.Goals as goal
+
+pub pattern_from-requires : goal.pattern_from-requires
+pattern_from-requires g c =
+    let rungs = c.args.generation.rungs in
+    let is = c.in_ok-system.ensures ∙ ap₂ (system_of cost_kind) c.costs.ensures c.in_ok-document.ensures in
+    let q = c.index-as_slice-0.result in
+    let queries = c.as_slice.ensures ∙ ap (λ (x : Document). x.queries) c.in_ok-document.ensures in
+    let query : q ≡ question = c.index-as_slice-0.is ∙ ap (λ xs. get_or xs 0 q) queries in
+    (asked_lawful rungs c.in_ok-system.system q (c.ladders_are_documents.ensures.lawful rungs c.requires.0.1) is query).from
+
+pub pattern_from-requires-2 : goal.pattern_from-requires-2
+pattern_from-requires-2 g c =
+    let rungs = c.args.generation.rungs in
+    let is = c.in_ok-system.ensures ∙ ap₂ (system_of cost_kind) c.costs.ensures c.in_ok-document.ensures in
+    let q = c.index-as_slice-0.result in
+    let queries = c.as_slice.ensures ∙ ap (λ (x : Document). x.queries) c.in_ok-document.ensures in
+    let query : q ≡ question = c.index-as_slice-0.is ∙ ap (λ xs. get_or xs 0 q) queries in
+    (asked_lawful rungs c.in_ok-system.system q (c.ladders_are_documents.ensures.lawful rungs c.requires.0.1) is query).to
 
 pub value-requires-clause-opened : goal.value-requires-clause-opened
 value-requires-clause-opened g c κs within =
