@@ -1,4 +1,4 @@
-ghost use Rattle.std.specs.Prelude.{◌≡◌, ◌∷◌, [], length, IfOk};
+ghost use Rattle.std.specs.Prelude.{◌≡◌, ◌<◌, ◌∷◌, [], true, All, length, IfOk};
 
 use pushdown_rules::{
     Config, Rule, RuleFault, System, answers_agree, answers_are_greatest_below, calls_return,
@@ -102,19 +102,41 @@ fn firing(rt: HostRuntime) -> Result<(), Fail> {
     Ok(())
 }
 
+// The same, and q a -> q a, which no run that counts takes.
+fn with_a_rule_that_is_out(alloc: Global) -> Result<System<Reach>, RuleFault> {
+    let mut system = call_and_return(alloc)?;
+    system.add_rule(alloc, 1, 0, 1, &[0], false, None)?;
+    Ok(system)
+}
+
+fn are_below(count: u32, run: &[u32]) -> bool
+    ensures { result ≡ true → All (λ k. k < count) run.now }
+{
+    run.iter().all(|k| *k < count)
+}
+
+// The value of a run from p a. Nothing where it names a rule that the system has not.
+fn value_of(alloc: Global, run: &[u32]) -> Result<Option<bool>, Fail> {
+    let system = with_a_rule_that_is_out(alloc)?;
+    if !are_below(system.rules(), run) {
+        return Ok(None);
+    }
+    let start = Config::new(alloc, 0, &[0])?;
+    Ok(system.run_value(alloc, &start, run)?)
+}
+
 #[test]
 fn run_values(rt: HostRuntime) -> Result<(), Fail> {
-    let alloc = rt.alloc();
-    let mut system = System::new(alloc, Reach, 2, 2);
-    system.add_rule(alloc, 0, 0, 0, &[1, 0], true, None)?;
-    system.add_rule(alloc, 0, 1, 1, &[], true, None)?;
-    system.add_rule(alloc, 1, 0, 1, &[0], false, None)?;
-    let start = Config::new(alloc, 0, &[0])?;
-    assert_eq!(rt; system.run_value(alloc, &start, &[0, 1])?, Some(true));
-    assert_eq!(rt; system.run_value(alloc, &start, &[0])?, Some(true));
-    assert_eq!(rt; system.run_value(alloc, &start, &[])?, Some(true));
-    assert_eq!(rt; system.run_value(alloc, &start, &[0, 1, 2])?, Some(false));
-    assert_eq!(rt; system.run_value(alloc, &start, &[1, 0])?, None);
+    let rows: [(&[u32], Option<bool>); 5] = [
+        (&[0, 1], Some(true)),
+        (&[0], Some(true)),
+        (&[], Some(true)),
+        (&[0, 1, 2], Some(false)),
+        (&[1, 0], None),
+    ];
+    for (run, value) in rows {
+        assert_eq!(rt; value_of(rt.alloc(), run)?, value, "{} rules", run.len());
+    }
     Ok(())
 }
 
