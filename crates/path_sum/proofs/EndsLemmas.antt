@@ -51,7 +51,7 @@ use Rattle.path_sum.proofs.RoundLemmas.{sum_good, ended}
 
 module _ {W Map : Type 0} {s : Operations W Map} (laws : IsSemiring s) where
   -- a combination lies below each of its weights
-  below_each : (ws : List W) (w : W) → AllByRecursion (Fits s) ws → IsIn w ws → Below s (combination s ws) w
+  pub below_each : (ws : List W) (w : W) → AllByRecursion (Fits s) ws → IsIn w ws → Below s (combination s ws) w
   below_each [] w fit h = absurd h
   below_each (v ∷ ws) w fit (inl is) =
       let P : W → Type 0 = Below s (combination s (v ∷ ws)) in

@@ -196,14 +196,18 @@ module _ {S W Map D : Type 0} {operations : S → Operations W Map} (laws : (x :
     {p : Pushdown S W Map} (valid : IsSystem operations p) {d : D} {o : Opening} {ts : List (Entry S W Map)} {nodes : List Node}
     (is : IsSaturatedAutomaton operations way p d o ts nodes) (sums : HasPathSums operations way d p o)
     (pattern : PatternValue) (control : pattern.control < p.controls) where
-  -- there is an answer of the sum
-  pub answer_exists : (a : Answer S W Map) × IsSumOver operations way p d o ts nodes pattern a
-  answer_exists =
+  -- the sum comes to its end
+  pub ending : Ends (laws p.semiring) (value_of (operations p.semiring) p) p (way.runs d p o) (input laws valid is sums pattern control) nodes (summable laws valid is sums pattern control)
+  ending = comes_to_end (laws p.semiring) (value_of (operations p.semiring) p) p (way.runs d p o) (input laws valid is sums pattern control) nodes (summable laws valid is sums pattern control)
+
+  -- and has an answer there
+  pub answer_at : (end : Ends (laws p.semiring) (value_of (operations p.semiring) p) p (way.runs d p o) (input laws valid is sums pattern control) nodes (summable laws valid is sums pattern control))
+      → (a : Answer S W Map) × IsSumOver operations way p d o ts nodes pattern a × (a.value ≡ weight_at (operations p.semiring) answer_place end.state.transitions)
+  answer_at end =
       let s = operations p.semiring in
       let side = (way.tables d p).side in
       let over = input laws valid is sums pattern control in
       let at = summable laws valid is sums pattern control in
-      let end = comes_to_end (laws p.semiring) (value_of s p) p (way.runs d p o) over nodes at in
       let st = end.state in
       let begins = grown_begins s side o ts (ways_of pattern) nodes st end.now.grown in
       let added = Start ∷ begins.0 in
@@ -212,4 +216,8 @@ module _ {S W Map D : Type 0} {operations : S → Operations W Map} (laws : (x :
       let l = listed s side nodes added st.transitions (subst (λ ns. AreKept s st.transitions (length ns)) begins.1 kept) (subst AreNodes begins.1 shape.nodes)
       (begins.0, refl) (entry_at answer_place st.transitions) refl in
       let a : Answer S W Map = record { value = weight_at s answer_place st.transitions; listing = l.0 } in
-      (a, answer_sums laws valid is sums pattern control st end.now end.empty a refl added begins.1 l.1)
+      (a, answer_sums laws valid is sums pattern control st end.now end.empty a refl added begins.1 l.1, refl)
+
+  -- there is an answer of the sum
+  pub answer_exists : (a : Answer S W Map) × IsSumOver operations way p d o ts nodes pattern a
+  answer_exists = let is = answer_at ending in (is.0, is.1)

@@ -23,3 +23,7 @@ mod EndsLemmas
 mod FollowedLemmas
 mod ReadLemmas
 mod WalkLemmas
+mod SplitLemmas
+mod SettlingLemmas
+mod HeadLemmas
+mod ThroughLemmas

@@ -4,4 +4,5 @@ pub mod Saturated
 pub mod Pairs
 pub mod Results
 pub mod Values
+pub mod Tails
 pub mod private

@@ -6,3 +6,5 @@ pub mod Growing
 pub mod Lookups
 pub mod Ends
 pub mod Rounds
+pub mod Settling
+pub mod Heads

@@ -40,8 +40,8 @@ pub(crate) const ANSWER: Place = Place {
     to: 0,
 };
 
-// The product of the weight of a pair and that of a transition, in the side's order.
-fn product<S: Semiring>(
+/// The product of two weights, in the side's order.
+pub(crate) fn product<S: Semiring>(
     alloc: Global,
     semiring: &S,
     side: Side,

@@ -19,8 +19,8 @@ pub(crate) enum Lookup {
 }
 
 impl Lookup {
-    // That of a set. Marks are made where they take no more memory than a copy.
-    fn of(alloc: Global, set: &[u32]) -> Result<Lookup, OutOfMemory>
+    /// That of a set. Marks are made where they take no more memory than a copy.
+    pub(crate) fn of(alloc: Global, set: &[u32]) -> Result<Lookup, OutOfMemory>
         ensures { IfOk result (IsLookup set.now) }
     {
         if greatest(set) as usize / size_of::<u32>() < set.len() {
