@@ -14,7 +14,7 @@ use wpds_port::OpenGate;
 const E: (&[u32], bool) = (&[4], false);
 
 // The cost of a query, forwards. Each system here has twice as many push rules as callees, so it goes through each once.
-fn cost_through_callees(
+fn forward_cost(
     rt: &(impl Threads + Wait + Sync + AllocGlobal),
     system: &System<Cost>,
     query: Query,
@@ -25,14 +25,14 @@ fn cost_through_callees(
     Ok(value(rt, rt.alloc(), system, Side::Post, 1, &from, &to, &OpenGate)?)
 }
 
-// The first row whose query has another cost.
-fn wrong_row(
+// The first row whose query has another cost, forwards.
+pub(crate) fn wrong_row(
     rt: &(impl Threads + Wait + Sync + AllocGlobal),
     system: &System<Cost>,
     rows: &[Row],
 ) -> Result<Option<usize>, Fail> {
     for (k, (query, cost)) in rows.iter().enumerate() {
-        if cost_through_callees(rt, system, *query)? != *cost {
+        if forward_cost(rt, system, *query)? != *cost {
             return Ok(Some(k));
         }
     }
@@ -53,7 +53,7 @@ fn calls_alike(alloc: Global, cost: Cost) -> Result<System<Cost>, RuleFault> {
 
 // Controls p, q and r, symbols a to d: p a -> p b d at 10, and the callee that calls itself, p b -> p b c at 3 and
 // p b -> q at 1. Behind each call it goes to the other of q and r: q c -> r at 5, and r c -> q at 7.
-fn calls_deeper(alloc: Global, cost: Cost) -> Result<System<Cost>, RuleFault> {
+pub(crate) fn calls_deeper(alloc: Global, cost: Cost) -> Result<System<Cost>, RuleFault> {
     let mut system = System::new(alloc, cost, 3, 4);
     system.add_rule(alloc, 0, 0, 0, &[1, 3], cost.number(10), None)?;
     system.add_rule(alloc, 0, 1, 0, &[1, 2], cost.number(3), None)?;

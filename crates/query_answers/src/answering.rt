@@ -9,9 +9,7 @@ ghost use Rattle.query_answers.specs.Answering.{opened_of, summed_of, saturated_
 ghost use Rattle.query_answers.specs.Answering.{IsFinished, IsSaturated, IsAnswer};
 
 use crate::Saturation;
-use crate::searches::{
-    callees_have_values, saturate_for_values, search_value, searches_have_values, sum_search,
-};
+use crate::searches::{callees_have_values, saturate_for_values, searches_have_values};
 use config_patterns::Pattern;
 use path_sum::{Answer, sum, sum_value};
 use pattern_openings::openings_read_members;
@@ -98,8 +96,8 @@ pub fn answer_over<S: Semiring>(
     match saturation {
         Saturation::Backward(book) => sum(alloc, book, summed),
         Saturation::Forward(book) => sum(alloc, book, summed),
-        Saturation::Values(search) => sum_search(alloc, search, summed, true),
-        Saturation::Callees(search) => sum_search(alloc, search, summed, true),
+        Saturation::Values(search) => search.sum(alloc, summed, true),
+        Saturation::Callees(search) => search.sum(alloc, summed, true),
     }
 }
 
@@ -123,8 +121,8 @@ pub fn value_over<S: Semiring>(
     match saturation {
         Saturation::Backward(book) => sum_value(alloc, book, summed),
         Saturation::Forward(book) => sum_value(alloc, book, summed),
-        Saturation::Values(search) => search_value(alloc, search, summed),
-        Saturation::Callees(search) => search_value(alloc, search, summed),
+        Saturation::Values(search) => search.value(alloc, summed),
+        Saturation::Callees(search) => search.value(alloc, summed),
     }
 }
 

@@ -2,11 +2,13 @@
 #![tactic(auto)]
 
 mod answering;
+mod forward;
 mod reach;
 mod saturation;
 mod searches;
 mod values;
 
 pub use answering::{answer, answer_over, saturate, value, value_over};
+pub use forward::ForwardSearch;
 pub use saturation::Saturation;
 pub use values::SharedSearch;

@@ -1,11 +1,12 @@
 ghost use Rattle.std.specs.Prelude.{◌≡◌};
 ghost use Rattle.query_answers.specs.Answering.{saturated_system};
 
+use crate::forward::ForwardSearch;
 use callee_post::CalleePost;
 use poststar::Post;
 use prestar::Pre;
 use pushdown_rules::System;
-use saturation_core::{Book, Search};
+use saturation_core::Book;
 use semiring_laws::Semiring;
 
 /// A finished saturation from a pattern: all queries that start or end there are answered over it.
@@ -16,9 +17,9 @@ pub enum Saturation<'s, S: Semiring> {
     /// Forwards, from where they begin.
     Forward(Book<'s, S, Post>),
     /// Forwards, without events: for values alone.
-    Values(Search<'s, S, Post>),
+    Values(ForwardSearch<'s, S, Post>),
     /// Forwards, without events and through each callee once: for values alone.
-    Callees(Search<'s, S, CalleePost>),
+    Callees(ForwardSearch<'s, S, CalleePost>),
 }
 
 impl<'s, S: Semiring> Saturation<'s, S> {
@@ -29,8 +30,8 @@ impl<'s, S: Semiring> Saturation<'s, S> {
         match self {
             Saturation::Backward(book) => book.system(),
             Saturation::Forward(book) => book.system(),
-            Saturation::Values(search) => search.system(),
-            Saturation::Callees(search) => search.system(),
+            Saturation::Values(values) => values.search().system(),
+            Saturation::Callees(values) => values.search().system(),
         }
     }
 }

@@ -3,7 +3,7 @@
 ghost use Rattle.std.specs.Prelude.{◌≡◌, ◌<◌, ℕ, false, IfOk};
 ghost use Rattle.config_patterns.specs.Membership.{PatternValue};
 ghost use Rattle.callee_post.specs.declared.callee.CalleePost.{CalleePost as CalleePostValue};
-ghost use Rattle.path_sum.specs.Answers.{IsValueOf, Shows};
+ghost use Rattle.path_sum.specs.Answers.{IsValueOf};
 ghost use Rattle.pattern_openings.specs.PatternOpenings.{IsOver};
 ghost use Rattle.poststar.specs.declared.post.Post.{Post as PostValue};
 ghost use Rattle.pushdown_rules.specs.Pushdown.{Pushdown};
@@ -15,15 +15,15 @@ ghost use Rattle.query_answers.specs.Answering.{IsFinished, IsSaturated, IsSearc
 ghost use Rattle.query_answers.specs.private.Searched.{IsSearchSum};
 
 use crate::Saturation;
+use crate::forward::ForwardSearch;
 use crate::reach::shares_callees;
 use callee_post::{CalleePost, callee_openings_read_alike, callee_search};
 use config_patterns::Pattern;
-use path_sum::{Answer, sum_parts, sums_have_answers};
+use path_sum::sums_have_answers;
 use pattern_openings::openings_read_members;
 use poststar::{Post, post_search};
 use pushdown_rules::{System, answers_agree};
 use saturation_core::Search;
-use saturation_laws::Direction;
 use semiring_laws::Semiring;
 use std::alloc::Global;
 use worker_pool::{one_worker_closes, search_alone};
@@ -84,53 +84,10 @@ pub(crate) fn saturate_for_values<'s, S: Semiring, G: Gate>(
 {
     if shares_callees(alloc, system, opened)? {
         let through = through_callees(alloc, system, opened, gate)?;
-        return Ok(Saturation::Callees(through));
+        return Ok(Saturation::Callees(ForwardSearch::of(alloc, through)?));
     }
     let search = searched_forward(alloc, system, opened, gate)?;
-    Ok(Saturation::Values(search))
-}
-
-/// The sum over a search that is done, with its listing where that is asked for. Refused only when out of memory.
-pub(crate) fn sum_search<S: Semiring, D: Direction<S>>(
-    alloc: Global,
-    search: &Search<'_, S, D>,
-    pattern: &Pattern,
-    listed: bool,
-) -> Result<Answer<S>, OutOfMemory>
-    requires done { IsDone search.now }
-    requires pattern { pattern.now.control < search.now.system.controls }
-    ensures { IfOk result (Shows listed
-        (IsSearchSum S.operations D.way search.now pattern.now)) }
-{
-    let system = search.system();
-    let direction = search.direction();
-    let opening = search.opening();
-    let transitions = search.transitions();
-    let graph = search.graph();
-    sum_parts(
-        alloc,
-        system,
-        &direction,
-        opening,
-        transitions,
-        graph,
-        pattern,
-        listed,
-    )
-}
-
-/// The value of the sum over a search that is done, without a listing. Refused only when out of memory.
-pub(crate) fn search_value<S: Semiring, D: Direction<S>>(
-    alloc: Global,
-    search: &Search<'_, S, D>,
-    pattern: &Pattern,
-) -> Result<S::W, OutOfMemory>
-    requires done { IsDone search.now }
-    requires pattern { pattern.now.control < search.now.system.controls }
-    ensures { IfOk result (IsValueOf
-        (IsSearchSum S.operations D.way search.now pattern.now)) }
-{
-    Ok(sum_search(alloc, search, pattern, false)?.value)
+    Ok(Saturation::Values(ForwardSearch::of(alloc, search)?))
 }
 
 /// What a sum over a search forwards gives is the value of an answer: values are unique, and each query has an answer.

@@ -36,7 +36,7 @@ const MOST_QUERIES: usize = 1000;
 
 const MOST_EDGES: u64 = 1_000_000;
 
-const MOST_TRANSITIONS: u64 = 200_000;
+const MOST_TRANSITIONS: u64 = 60_000;
 
 const MOST_PAIRS: u64 = 4_000_000;
 

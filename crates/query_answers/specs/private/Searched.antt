@@ -1,11 +1,16 @@
--- Sums over searches.
+-- Sums over searches, and what leads on from their states.
 use Rattle.semiring_laws.specs.Semiring.{Operations}
 use Rattle.config_patterns.specs.Membership.{PatternValue}
 use Rattle.saturation_laws.specs.Searches.{SearchValue}
 use Rattle.saturation_laws.specs.Ways.{Way}
 use Rattle.path_sum.specs.Results.{IsSumOver}
+use Rattle.path_sum.specs.Tails.{KeptTails, AreKeptTails}
 use Rattle.path_sum.specs.declared.answer.Answer.{Answer}
 
 -- the answer of a sum over the search's transitions and nodes, between a pattern and the opening
 abbrev pub IsSearchSum : {S W Map D : Type 0} → (S → Operations W Map) → Way S W Map D → SearchValue S W Map D → PatternValue → Answer S W Map → Type 0
 IsSearchSum operations way v = IsSumOver operations way v.system v.direction v.opening v.state.transitions v.state.nodes
+
+-- what is kept leads on from the search's states
+abbrev pub AreSearchTails : {S W Map D : Type 0} → (S → Operations W Map) → Way S W Map D → SearchValue S W Map D → KeptTails W → Type 0
+AreSearchTails operations way v = AreKeptTails (operations v.system.semiring) (way.tables v.direction v.system).side v.state.transitions v.opening.finals v.system.controls

@@ -20,12 +20,12 @@ pub returns-in-Values : goal.returns-in-Values
 returns-in-Values g c = λ p side listed workers from to below same saturated.
     let operations = g.S.Semiring.operations in
     let low = subst (λ s. c.args.summed.now.control < (saturated_system s).controls) c.in-Values.is c.requires.control in
-    search_values operations p c.in-Values.search c.search_value.result c.args.summed.now side listed workers from to c.searches_have_values.ensures c.search_value.ensures below low same
+    search_values operations p c.in-Values.search c.value.result c.args.summed.now side listed workers from to c.searches_have_values.ensures c.value.ensures below low same
     (subst (IsSaturated operations p side listed workers (opened_of side from to)) c.in-Values.is saturated)
 
 pub returns-in-Callees : goal.returns-in-Callees
 returns-in-Callees g c = λ p side listed workers from to below same saturated.
     let operations = g.S.Semiring.operations in
     let low = subst (λ s. c.args.summed.now.control < (saturated_system s).controls) c.in-Callees.is c.requires.control in
-    callee_values operations p c.in-Callees.search c.search_value-in-Callees.result c.args.summed.now side listed workers from to c.callees_have_values.ensures c.search_value-in-Callees.ensures below low same
+    callee_values operations p c.in-Callees.search c.value-in-Callees.result c.args.summed.now side listed workers from to c.callees_have_values.ensures c.value-in-Callees.ensures below low same
     (subst (IsSaturated operations p side listed workers (opened_of side from to)) c.in-Callees.is saturated)
