@@ -26,7 +26,7 @@ pub record ArePart {S W Map : Type 0} (us ts : List (Entry S W Map)) : Type 0 wh
 pub all_are : {S W Map : Type 0} (ts : List (Entry S W Map)) → HasDistinctPlaces ts → ArePart ts ts
 all_are ts distinct = record { there = λ x t e. e; distinct = distinct }
 
-each_in : {X : Type 0} (P : X → Type 0) (x : X) (xs : List X) → AllByRecursion P xs → IsIn x xs → P x
+pub each_in : {X : Type 0} (P : X → Type 0) (x : X) (xs : List X) → AllByRecursion P xs → IsIn x xs → P x
 each_in P x [] all h = absurd h
 each_in P x (y ∷ xs) all (inl is) = subst P is all.0
 each_in P x (y ∷ xs) all (inr h) = each_in P x xs all.1 h

@@ -3,6 +3,7 @@ use Rattle.std.proofs.Common.{◌≡◌, inl, inr, ℕ, List, [], ◌∷◌, ◌
 use Rattle.std.specs.Prelude.{None, Some, ◌&&◌, option_map, option_and_then}
 use Rattle.std.specs.List.{AllByRecursion}
 use Rattle.std.proofs.lemmas.Bool.{cond_both}
+use Rattle.std.proofs.lemmas.List.{map-append}
 use Rattle.std.proofs.lemmas.Option.{same_Some}
 use Rattle.semiring_laws.specs.Semiring.{Operations, IsSemiring, Fits, Below}
 use Rattle.semiring_laws.proofs.CallerLemmas.{below_zero}
@@ -52,16 +53,12 @@ module _ {S W Map : Type 0} {s : Operations W Map} (laws : IsSemiring s) (side :
   weights_fit [] there = tt
   weights_fit (t ∷ path) there = (fits t there.0, weights_fit path there.1)
 
-  map_more : {X Y : Type 0} (f : X → Y) (xs : List X) (x : X) → map f (xs ++ x ∷ []) ≡ map f xs ++ f x ∷ []
-  map_more f [] x = refl
-  map_more f (y ∷ xs) x = ap (λ ys. f y ∷ ys) (map_more f xs x)
-
   -- one transition more
   further : (i j : ℕ) (t : Entry S W Map) → Present ts t → Moves ways.edges i t.place.label j → (path : List (Entry S W Map)) → IsHead i t.place.from path → IsHead j t.place.to (path ++ t ∷ [])
   further i j t there moves path head = record {
     present = all_append (Present ts) path (t ∷ []) head.present (there, tt);
     word = head.word ++ symbols_of t.place.label;
-    reads = subst (λ xs. IsPath xs ways.control (head.word ++ symbols_of t.place.label) t.place.to) (sym (map_more place_of path t))
+    reads = subst (λ xs. IsPath xs ways.control (head.word ++ symbols_of t.place.label) t.place.to) (sym (map-append place_of path (t ∷ [])))
         (path_more (map place_of path) t.place ways.control head.word t.place.from head.reads refl);
     matches = read_more ways.edges 0 head.word i t.place.label j head.matches moves;
   }
@@ -74,7 +71,7 @@ module _ {S W Map : Type 0} {s : Operations W Map} (laws : IsSemiring s) (side :
       let ws = map entry_weight path in
       let fws = weights_fit path head.present in
       let is : product_of s side (path ++ t ∷ []) ≡ in_order s side (product_of s side path) t.weight =
-      ap (along s side) (map_more entry_weight path t) ∙ along_more laws side ws t.weight fws ft in
+      ap (along s side) (map-append entry_weight path (t ∷ [])) ∙ along_more laws side ws t.weight fws ft in
       subst (Below s a) (ap (λ x. in_order s side x z) is ∙ order_assoc laws side (product_of s side path) t.weight z (along_fit laws side ws fws) ft fz)
       (each (path ++ t ∷ []) (further i j t there moves path head))))
 

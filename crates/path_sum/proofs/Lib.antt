@@ -26,4 +26,8 @@ mod WalkLemmas
 mod SplitLemmas
 mod SettlingLemmas
 mod HeadLemmas
+mod WalkedLemmas
+mod ValueLemmas
 mod ThroughLemmas
+mod OverLemmas
+mod TopLemmas

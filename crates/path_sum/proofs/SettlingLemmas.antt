@@ -1,8 +1,8 @@
 -- Weights of what leads on to final states, as they settle, and when they have.
 use Rattle.std.proofs.Common.{◌≡◌, ◌⊎◌, inl, inr, ℕ, zero, suc, true, false, replicate, ◌<◌, ◌≤◌, List, [], ◌∷◌, ◌++◌, length, map, set, refl, sym, ap, ◌∙◌, subst}
-use Rattle.std.specs.Prelude.{All, Bool, IsTrue, not, cond, nat_eq, Option, None, Some, option_map, slice_get, slice_index_or}
+use Rattle.std.specs.Prelude.{All, IsTrue, cond, nat_eq, Option, None, Some, option_map, slice_get, slice_index_or}
 use Rattle.std.specs.List.{AllByRecursion}
-use Rattle.std.proofs.lemmas.Bool.{cases_Bool, eq-eqb, eqb-true, false≢true}
+use Rattle.std.proofs.lemmas.Bool.{cases_Bool, eq-eqb, eqb-true}
 use Rattle.std.proofs.lemmas.List.Elements.{recursion_from_All}
 use Rattle.std.proofs.lemmas.List.{get_or-set_same, get_or-set_other, length-set}
 use Rattle.std.proofs.lemmas.Option.{same_Some}
@@ -23,6 +23,7 @@ use Rattle.witness_graph.specs.declared.node.Side.TheVariants.{Pre, Post}
 use Rattle.wpds_base.specs.Lists.{IsIn}
 use Rattle.path_sum.specs.Tails.{is_read, some_weight, tail_at, product_of, IsTail, AreTails}
 use Rattle.path_sum.specs.private.Settling.{lowered_at, AreSettling, IsSettled}
+use Rattle.path_sum.proofs.FollowedLemmas.{each_in}
 use Rattle.path_sum.proofs.OrderLemmas.{order_fits, order_assoc, along_fit}
 use Rattle.path_sum.proofs.SplitLemmas.{order_combine_right, order_zero_right}
 
@@ -73,10 +74,6 @@ module _ {W Map : Type 0} (s : Operations W Map) where
         | Some v ↦ λ h. cc
       ] is
 
-pub not_true : (b : Bool) → not b ≡ true → b ≡ false
-not_true false h = refl
-not_true true h = absurd (false≢true h)
-
 -- no weight at all
 pub none_at : {W : Type 0} (n q : ℕ) → slice_index_or (replicate {A = Option W} n None) q None ≡ None
 none_at zero q = refl
@@ -84,12 +81,7 @@ none_at (suc n) zero = refl
 none_at (suc n) (suc q) = none_at n q
 
 pub each_within : {X : Type 0} (P : X → Type 0) (xs : List X) → All P xs → (x : X) → IsIn x xs → P x
-each_within P xs all x h = go xs (recursion_from_All P xs all) h
-  where
-    go : (ys : List _) → AllByRecursion P ys → IsIn x ys → P x
-    go [] each there = absurd there
-    go (y ∷ ys) each (inl is) = subst P is each.0
-    go (y ∷ ys) each (inr there) = go ys each.1 there
+each_within P xs all x h = each_in P x xs (recursion_from_All P xs all) h
 
 -- ---- what a label reads
 
@@ -113,7 +105,7 @@ numbered x t (u ∷ ts) there =
       | inr past ↦ let rest = numbered x t ts (sym (ap (λ b. cond b (Some u) (entry_at x ts)) past) ∙ there) in (suc rest.0, rest.1)
     ]
 
-same_or_not : (q f : ℕ) → (q ≡ f) ⊎ (q ≡ f → ⊥)
+pub same_or_not : (q f : ℕ) → (q ≡ f) ⊎ (q ≡ f → ⊥)
 same_or_not q f = elim (cases_Bool (nat_eq q f)) [ inl is ↦ inl (eqb-true q f is) | inr is ↦ inr (λ e. let no : true ≡ false = sym (eq-eqb q f e) ∙ is in cc) ]
 
 -- the final states get the weight of the empty run

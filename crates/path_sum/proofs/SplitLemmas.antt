@@ -33,14 +33,14 @@ any_skips set test [] h = h
 any_skips set test (g ∷ stack) h = or_left (test (g ∷ stack)) (has_symbol g set && takes_any set test stack) h
 
 -- a starred item alone takes symbols of its set
-any_symbols : (set : List ℕ) (stack : List ℕ) → IsTrue (takes_any set (items_match []) stack) → AllByRecursion (λ g. IsTrue (has_symbol g set)) stack
+pub any_symbols : (set : List ℕ) (stack : List ℕ) → IsTrue (takes_any set (items_match []) stack) → AllByRecursion (λ g. IsTrue (has_symbol g set)) stack
 any_symbols set [] h = tt
 any_symbols set (g ∷ stack) h = elim (or_cases false (has_symbol g set && takes_any set (items_match []) stack) h) [
   | inl skips ↦ absurd (false≢true skips)
   | inr takes ↦ let parts = and_parts (has_symbol g set) (takes_any set (items_match []) stack) takes in (parts.0, any_symbols set stack parts.1)
 ]
 
-symbols_any : (set : List ℕ) (stack : List ℕ) → AllByRecursion (λ g. IsTrue (has_symbol g set)) stack → IsTrue (takes_any set (items_match []) stack)
+pub symbols_any : (set : List ℕ) (stack : List ℕ) → AllByRecursion (λ g. IsTrue (has_symbol g set)) stack → IsTrue (takes_any set (items_match []) stack)
 symbols_any set [] all = refl
 symbols_any set (g ∷ stack) all =
     or_right false (has_symbol g set && takes_any set (items_match []) stack)

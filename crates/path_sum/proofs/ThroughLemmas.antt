@@ -1,65 +1,53 @@
 -- What goes through the pairs of a head, and on, is the value of a sum over the whole pattern.
 use Rattle.std.proofs.Common.{◌≡◌, inl, inr, IsTrue, ℕ, zero, suc, ◌+◌, ◌<◌, ◌≤◌, true, false, List, [], ◌∷◌, ◌++◌, cond, map, length, refl, sym, ap, ◌∙◌, subst, arith}
 use Rattle.std.specs.Prelude.{Option, None, Some, nat_eq, option_map, slice_get, slice_index_or, take}
+use Rattle.std.proofs.Math.Seq.{take-length}
 use Rattle.std.specs.List.{AllByRecursion}
-use Rattle.std.proofs.lemmas.Bool.{cases_Bool, and_parts, and_from, eq-eqb, eqb-true}
+use Rattle.std.proofs.lemmas.Bool.{and_parts, and_from, eq-eqb, eqb-true}
 use Rattle.std.proofs.lemmas.Option.{same_Some}
 use Rattle.semiring_laws.specs.Semiring.{Operations, IsSemiring, Fits, Below}
 use Rattle.semiring_laws.specs.Combination.{combination}
-use Rattle.semiring_laws.proofs.CallerLemmas.{fits, below_combination, below_each_other, below_itself, below_trans, below_zero}
+use Rattle.semiring_laws.proofs.CallerLemmas.{fits, below_combination, below_itself, below_trans, below_zero}
 use Rattle.config_patterns.specs.Edges.{is_final_of}
 use Rattle.config_patterns.specs.Membership.{PatternValue, has_member, items_match}
 use Rattle.config_patterns.specs.declared.item.Item.{Item}
 use Rattle.pushdown_rules.specs.Configuration.{Configuration}
 use Rattle.pushdown_rules.specs.Pushdown.{Pushdown, IsSystem}
-use Rattle.pushdown_rules.specs.Values.{value_of}
 use Rattle.weighted_automata.specs.declared.place.Place.{Place}
 use Rattle.weighted_automata.specs.declared.place.Label.{Label}
 use Rattle.weighted_automata.specs.declared.place.Label.TheVariants.{Symbol, Empty}
 use Rattle.weighted_automata.specs.declared.transitions.Entry.{Entry}
 use Rattle.weighted_automata.specs.Entries.{entry_at, Present}
 use Rattle.weighted_automata.proofs.CallerLemmas.{entry_at-place}
-use Rattle.witness_graph.specs.Runs.{runs_of}
 use Rattle.witness_graph.specs.declared.node.Node.{Node}
 use Rattle.witness_graph.specs.declared.node.Side.{Side}
 use Rattle.saturation_laws.specs.declared.opening.Opening.{Opening}
 use Rattle.saturation_laws.specs.Jobs.{place_of}
-use Rattle.saturation_laws.specs.Paths.{IsPath, IsMet, IsSaturated, Reads, entry_weight, in_order}
+use Rattle.saturation_laws.specs.Paths.{IsPath, IsMet, Reads, in_order}
 use Rattle.saturation_laws.specs.States.{CoreState, weight_of, weight_at}
-use Rattle.saturation_laws.specs.Ways.{Way, start_of, HasPathSums}
+use Rattle.saturation_laws.specs.Ways.{Way, HasPathSums}
 use Rattle.saturation_laws.proofs.CallerLemmas.{in_present}
 use Rattle.wpds_base.specs.Lists.{IsIn}
 use Rattle.path_sum.specs.Answers.{IsValueOf}
 use Rattle.path_sum.specs.Results.{IsSumOver}
 use Rattle.path_sum.specs.Saturated.{IsSaturatedAutomaton}
-use Rattle.path_sum.specs.Sums.{ways_of, pair_place, answer_place}
+use Rattle.path_sum.specs.Sums.{ways_of, pair_place}
 use Rattle.path_sum.specs.Tails.{some_weight, tail_at, product_of, IsTail, AreTails}
 use Rattle.path_sum.specs.private.Heads.{IsHeadOf, through_pair, through}
-use Rattle.path_sum.specs.private.Inputs.{SumInputValue}
-use Rattle.path_sum.specs.private.Paths.{AnswerRun, SumRun, IsSummable}
 use Rattle.path_sum.specs.private.Rounds.{IsWalked}
-use Rattle.path_sum.specs.private.Work.{IsSummed}
-use Rattle.path_sum.proofs.BookLemmas.{saturated}
 use Rattle.path_sum.proofs.EndsLemmas.{below_each}
-use Rattle.path_sum.proofs.EntryLemmas.{entry_in, present_here}
-use Rattle.path_sum.proofs.ExistLemmas.{Ends, answer_at, ending}
-use Rattle.path_sum.proofs.FinishedLemmas.{input, summable}
-use Rattle.path_sum.proofs.GrowingLemmas.{IsSum}
-use Rattle.path_sum.proofs.HeadLemmas.{AreAbove, grown_above}
+use Rattle.path_sum.proofs.EntryLemmas.{entry_in}
+use Rattle.path_sum.proofs.HeadLemmas.{AreAbove}
 use Rattle.path_sum.proofs.MemberLemmas.{members_way}
-use Rattle.path_sum.proofs.OrderLemmas.{along_fit, order_below, order_fits, order_one_left, order_zero_left}
-use Rattle.path_sum.proofs.PairLemmas.{met_below, way_below}
-use Rattle.path_sum.proofs.RoundLemmas.{ended, sum_good}
+use Rattle.path_sum.proofs.OrderLemmas.{order_below, order_fits, order_zero_left}
 use Rattle.path_sum.proofs.SettlingLemmas.{order_below_right}
+use Rattle.path_sum.proofs.ValueLemmas.{value_is}
+use Rattle.path_sum.proofs.WalkedLemmas.{above as walked_above, full, good, paths_fit, product_fits, walk_below}
 use Rattle.path_sum.proofs.SplitLemmas.{along_both, match_join, match_split, order_zero_right, path_cut, path_join, present_cut, present_join}
 
 -- ---- lists
 
 module _ {S W Map : Type 0} (s : Operations W Map) (side : Side) (items : List Item) (tails : List (Option W)) where
-  each_of : (P : Entry S W Map → Type 0) (us : List (Entry S W Map)) → ((u : Entry S W Map) → IsIn u us → P u) → AllByRecursion P us
-  each_of P [] all = tt
-  each_of P (u ∷ us) all = (all u (inl refl), each_of P us (λ v h. all v (inr h)))
-
   -- what holds of what goes through each holds of all
   pub all_through : (P : W → Type 0) (us : List (Entry S W Map)) → ((u : Entry S W Map) (w : W) → IsIn u us → through_pair s side items tails u ≡ Some w → P w) → AllByRecursion P (through s side items tails us)
   all_through P [] all = tt
@@ -126,12 +114,8 @@ take_more (y ∷ xs) (suc k) x at =
     let next : suc k + 1 ≡ suc (k + 1) = omega arith in
     ap (λ n. take n (y ∷ xs)) next ∙ ap (λ ys. y ∷ ys) (take_more xs k x at)
 
-take_all : {X : Type 0} (xs : List X) → take (length xs) xs ≡ xs
-take_all [] = refl
-take_all (y ∷ xs) = ap (λ ys. y ∷ ys) (take_all xs)
-
 pub last_item : {X : Type 0} (xs : List X) (k : ℕ) (x : X) → slice_get xs k ≡ Some x → length xs ≡ k + 1 → xs ≡ take k xs ++ x ∷ []
-last_item xs k x at count = sym (take_all xs) ∙ ap (λ n. take n xs) count ∙ take_more xs k x at
+last_item xs k x at count = sym (take-length xs) ∙ ap (λ n. take n xs) count ∙ take_more xs k x at
 
 -- a path that has a transition ends where transitions may lead
 path_enters : {S W Map : Type 0} (ts : List (Entry S W Map)) (low : ℕ) (enters : (t : Entry S W Map) → Present ts t → low ≤ t.place.to) (t : Entry S W Map) (path : List (Entry S W Map)) (from : ℕ) (word : List ℕ) (to : ℕ)
@@ -154,42 +138,11 @@ module _ {S W Map D : Type 0} {operations : S → Operations W Map} (laws : (x :
   abbrev law : IsSemiring s
   law = laws p.semiring
 
-  abbrev value : List ℕ → W
-  value = value_of s p
-
   abbrev last : Item
   last = record { set = set; star = true }
 
-  full : IsSaturated s (way.tables d p) (start_of operations way d p o).transitions ts
-  full = saturated operations laws way p valid d o ts nodes is
-
-  paths_fit : (path : List (Entry S W Map)) → AllByRecursion (Present ts) path → AllByRecursion (λ t. Fits s t.weight) path
-  paths_fit [] there = tt
-  paths_fit (t ∷ path) there = (full.fit t there.0, paths_fit path there.1)
-
-  weights_fit : (path : List (Entry S W Map)) → AllByRecursion (Present ts) path → AllByRecursion (Fits s) (map entry_weight path)
-  weights_fit [] there = tt
-  weights_fit (t ∷ path) there = (full.fit t there.0, weights_fit path there.1)
-
-  product_fits : (path : List (Entry S W Map)) → AllByRecursion (Present ts) path → Fits s (product_of s side path)
-  product_fits path there = along_fit law side (map entry_weight path) (weights_fit path there)
-
-  -- ---- the pairs of the head
-
-  abbrev over : SumInputValue S W Map
-  over = input laws valid is sums head control
-
-  abbrev at : IsSummable s value p (way.runs d p o) over nodes
-  at = summable laws valid is sums head control
-
-  good : IsSum s value (SumRun p side o (ways_of head) (way.runs d p o)) side (ways_of head) nodes st
-  good = sum_good law value p (way.runs d p o) over nodes at st walked.under_way.grown
-
-  summed : IsSummed s side o ts (ways_of head) st.transitions
-  summed = ended law value p (way.runs d p o) over nodes at st walked.under_way walked.ended
-
-  above : AreAbove law side o ts (ways_of head) nodes full.fit st
-  above = grown_above law side o ts (ways_of head) nodes full.fit st walked.under_way.grown
+  above : AreAbove law side o ts (ways_of head) nodes (full laws valid is).fit st
+  above = walked_above laws valid is sums head control st walked
 
   abbrev pair : ℕ → ℕ → W
   pair i q = weight_at s (pair_place i q) st.transitions
@@ -201,7 +154,7 @@ module _ {S W Map D : Type 0} {operations : S → Operations W Map} (laws : (x :
   total = combination s all
 
   entry_there : (u : Entry S W Map) → IsIn u st.transitions → entry_at u.place st.transitions ≡ Some u
-  entry_there u h = in_present st.transitions u good.sound.shape.places h
+  entry_there u h = in_present st.transitions u (good laws valid is sums head control st walked).sound.shape.places h
 
   entry_fit : (u : Entry S W Map) → IsIn u st.transitions → Fits s u.weight
   entry_fit u h = subst (Fits s) (ap (weight_of s) (entry_there u h)) (above.fit u.place)
@@ -244,10 +197,10 @@ module _ {S W Map D : Type 0} {operations : S → Operations W Map} (laws : (x :
         let present = present_cut ts halves.front halves.back (subst (AllByRecursion (Present ts)) halves.whole met.present) in
         let front = product_of s side halves.front in
         let back = product_of s side halves.back in
-        let ff = product_fits halves.front present.0 in
-        let fb = product_fits halves.back present.1 in
+        let ff = product_fits laws valid is halves.front present.0 in
+        let fb = product_fits laws valid is halves.back present.1 in
         let whole : product_of s side met.path ≡ in_order s side front back =
-        ap (product_of s side) halves.whole ∙ along_both law side halves.front halves.back (paths_fit halves.front present.0) (paths_fit halves.back present.1) in
+        ap (product_of s side) halves.whole ∙ along_both law side halves.front halves.back (paths_fit laws valid is halves.front present.0) (paths_fit laws valid is halves.back present.1) in
         -- the head reads the first part
         let first : Configuration = record { control = head.control; stack = words.one } in
         let way = (members_way head first).0 (and_from (nat_eq head.control head.control) (items_match head.items words.one) (eq-eqb head.control head.control refl) words.matches) in
@@ -255,11 +208,7 @@ module _ {S W Map D : Type 0} {operations : S → Operations W Map} (laws : (x :
         let q = halves.mid in
         let from_head = subst (λ n. IsPath (map place_of halves.front) n words.one q) same halves.first in
         let fp = above.fit (pair_place i q) in
-        let f0 = above.fit (pair_place 0 head.control) in
-        let walk : Below s (pair i q) front =
-        below_trans law (pair i q) (in_order s side (pair 0 head.control) front) front fp (order_fits law side (pair 0 head.control) front f0 ff) ff
-        (way_below law side o ts (ways_of head) st.transitions full.fit above.fit good.opens summed halves.front present.0 0 head.control words.one q i from_head way.2)
-        (subst (Below s (in_order s side (pair 0 head.control) front)) (order_one_left law side front ff) (order_below law side (pair 0 head.control) s.one front f0 law.fits-one ff good.opens)) in
+        let walk : Below s (pair i q) front = walk_below laws valid is sums head control st walked halves.front present.0 words.one i q from_head way.2 in
         -- and from there on the last item the rest
         let past : p.controls ≤ q =
         elim halves.front as (λ xs. AllByRecursion (Present ts) xs → IsPath (map place_of xs) head.control words.one q → p.controls ≤ q) [
@@ -282,8 +231,8 @@ module _ {S W Map D : Type 0} {operations : S → Operations W Map} (laws : (x :
     -- what lies below the product along each path that reads a member lies below the total
     pub total_above : (a : W) → Fits s a → ((c : Configuration) (v : W) → Fits s v → IsTrue (has_member pattern c) → IsMet s side o.finals ts c v → Below s a v) → Below s a total
     total_above a fa each =
-        below_combination law a all fa all_fit (all_through s side head.items tails (Below s a) st.transitions (λ u w h is.
-        let made = through_is s side head.items tails u w is in
+        below_combination law a all fa all_fit (all_through s side head.items tails (Below s a) st.transitions (λ u w h goes.
+        let made = through_is s side head.items tails u w goes in
         let i = u.place.from in
         let q = u.place.to in
         let place : u.place ≡ pair_place i q = ap (λ l. let x : Place = record { from = i; label = l; to = q } in x) made.label in
@@ -291,12 +240,12 @@ module _ {S W Map D : Type 0} {operations : S → Operations W Map} (laws : (x :
         let t = tail_at s tails q in
         let ft = are.fit q in
         subst (Below s a) (ap (λ x. in_order s side x t) weight ∙ sym made.weight) (above.above i q t a ft fa (λ front hd.
-        are.above q (product_of s side front) a (product_fits front hd.present) fa (λ back tl.
+        are.above q (product_of s side front) a (product_fits laws valid is front hd.present) fa (λ back tl.
         let c : Configuration = record { control = head.control; stack = hd.word ++ tl.word } in
         let whole : product_of s side (front ++ back) ≡ in_order s side (product_of s side front) (product_of s side back) =
-        along_both law side front back (paths_fit front hd.present) (paths_fit back tl.present) in
+        along_both law side front back (paths_fit laws valid is front hd.present) (paths_fit laws valid is back tl.present) in
         let present = present_join ts front back hd.present tl.present in
-        let fw = product_fits (front ++ back) present in
+        let fw = product_fits laws valid is (front ++ back) present in
         let matches : IsTrue (items_match head.items hd.word) =
         (and_parts (nat_eq head.control head.control) (items_match head.items hd.word)
         ((members_way head (record { control = head.control; stack = hd.word })).1 (refl, i, hd.matches, made.final))).1 in
@@ -312,70 +261,5 @@ module _ {S W Map D : Type 0} {operations : S → Operations W Map} (laws : (x :
           below = below_itself law (product_of s side (front ++ back)) fw;
         })))))))
 
-    -- ---- the answer
-
-    same_control : pattern.control < p.controls
-    same_control = subst (λ n. n < p.controls) (sym cut.control) control
-
-    abbrev over_all : SumInputValue S W Map
-    over_all = input laws valid is sums pattern same_control
-
-    abbrev at_all : IsSummable s value p (way.runs d p o) over_all nodes
-    at_all = summable laws valid is sums pattern same_control
-
-    abbrev end : Ends law value p (way.runs d p o) over_all nodes at_all
-    end = ending laws valid is sums pattern same_control
-
-    good_all : IsSum s value (SumRun p side o (ways_of pattern) (way.runs d p o)) side (ways_of pattern) nodes end.state
-    good_all = sum_good law value p (way.runs d p o) over_all nodes at_all end.state end.now.grown
-
-    above_all : AreAbove law side o ts (ways_of pattern) nodes full.fit end.state
-    above_all = grown_above law side o ts (ways_of pattern) nodes full.fit end.state end.now.grown
-
-    abbrev answer : W
-    answer = weight_at s answer_place end.state.transitions
-
-    answer_fits : Fits s answer
-    answer_fits = above_all.fit answer_place
-
-    answer_below : Below s answer total
-    answer_below = total_above answer answer_fits (λ c v fv member met.
-        met_below law side o ts (ways_of pattern) end.state.transitions full.fit above_all.fit good_all.opens
-        (ended law value p (way.runs d p o) over_all nodes at_all end.state end.now end.empty) c v fv ((members_way pattern c).0 member) met)
-
-    -- the total lies below the value of each run of the answer
-    run_below : (run : List ℕ) → AnswerRun p side o (ways_of pattern) (way.runs d p o) run → Below s total (value run)
-    run_below run leads =
-        let c = leads.0 in
-        let far = leads.1 in
-        let v = value run in
-        let fv = at_all.fits run in
-        let decides = law.same_is_equal v s.zero fv law.fits-zero in
-        let low : c.control < p.controls = subst (λ n. n < p.controls) (sym leads.2.0) same_control in
-        elim (cases_Bool (s.same v s.zero)) [
-          | inl e ↦ subst (Below s total) (sym (decides.0 e)) (below_zero law total total_fits)
-          | inr e ↦ total_below c v fv ((members_way pattern c).1 leads.2)
-              (sums.met ts full run c far low leads.4 leads.5 leads.3 (λ z. let f : true ≡ false = sym (decides.1 z) ∙ e in cc))
-        ]
-
-    runs_below : (zs : List (List ℕ)) → AllByRecursion (AnswerRun p side o (ways_of pattern) (way.runs d p o)) zs → AllByRecursion (Fits s) (map value zs) × AllByRecursion (Below s total) (map value zs)
-    runs_below [] each = (tt, tt)
-    runs_below (z ∷ zs) each = let rest = runs_below zs each.1 in ((at_all.fits z, rest.0), (run_below z each.0, rest.1))
-
-    below_answer : Below s total answer
-    below_answer =
-        elim (entry_at answer_place end.state.transitions) as (λ e. entry_at answer_place end.state.transitions ≡ e → Below s total (weight_of s e)) [
-          | None ↦ λ e. below_zero law total total_fits
-          | Some t ↦ λ e.
-              let place : t.place ≡ answer_place = entry_at-place answer_place end.state.transitions t e in
-              let runs = (good_all.sound.sound t (present_here answer_place end.state.transitions t e)).are_runs in
-              let zs = runs_of side end.state.nodes t.node in
-              let each = subst (λ x. AllByRecursion (SumRun p side o (ways_of pattern) (way.runs d p o) x) zs) place runs.each in
-              let both = runs_below zs each in
-              subst (Below s total) (sym runs.weight) (below_combination law total (map value zs) total_fits both.0 both.1)
-        ] refl
-
     pub total_is_value : IsValueOf (IsSumOver operations way p d o ts nodes pattern) total
-    total_is_value =
-        let a = answer_at laws valid is sums pattern same_control end in
-        (a.0, a.1, below_each_other law total answer total_fits answer_fits below_answer answer_below ∙ sym a.2)
+    total_is_value = value_is laws valid is sums pattern (subst (λ n. n < p.controls) (sym cut.control) control) total total_fits total_below total_above

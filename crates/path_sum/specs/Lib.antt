@@ -5,4 +5,5 @@ pub mod Pairs
 pub mod Results
 pub mod Values
 pub mod Tails
+pub mod Tops
 pub mod private

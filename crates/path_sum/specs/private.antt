@@ -8,3 +8,4 @@ pub mod Ends
 pub mod Rounds
 pub mod Settling
 pub mod Heads
+pub mod Over

@@ -11,6 +11,7 @@ mod sum_input;
 mod summing;
 mod tails;
 mod through;
+mod tops;
 mod values;
 mod waiting;
 
@@ -19,4 +20,5 @@ pub use laws::sums_have_answers;
 pub use summing::{sum, sum_parts, sum_value};
 pub use tails::{Tails, tails_over};
 pub use through::sum_value_by_tails;
+pub use tops::{Tops, tops_over};
 pub use values::sum_values;

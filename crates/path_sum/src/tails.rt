@@ -24,11 +24,11 @@ use weighted_automata::{Entry, Label, Place, Transitions};
 use witness_graph::{Graph, Side};
 use wpds_base::OutOfMemory;
 
-// How many states may have a weight, each at its number.
-const MOST_STATES: u32 = 1 << 20;
+/// How many states or symbols may have a weight, each at its number.
+pub(crate) const MOST_NUMBERS: u32 = 1 << 20;
 
-// How often a state's weight may come to be lowered on average. Weights that have not settled then are not used.
-const MOST_TURNS: usize = 16;
+// How often a transition may be taken on average. Weights that have not settled then are not used.
+const MOST_TURNS: u64 = 16;
 
 /// Weights of what leads on from the states of a finished saturation to its final states, over symbols of one set. They serve
 /// all patterns that end in a starred item with this set.
@@ -103,8 +103,8 @@ fn lowered_from<S: Semiring>(
     }
 }
 
-// Lowers a weight at its place by another, and says whether that changes it.
-fn lower_at<S: Semiring>(
+/// Lowers a weight at its place by another, and says whether that changes it.
+pub(crate) fn lower_at<S: Semiring>(
     alloc: Global,
     semiring: &S,
     weights: &mut [Option<S::W>],
@@ -138,7 +138,7 @@ fn count_left<S: Semiring>(transitions: &Transitions<S>, low: u32) -> Option<u32
     let mut count = 0u32;
     for k in 0..transitions.len() {
         let place = transitions.entry(k).place;
-        if place.to < low || place.from >= MOST_STATES {
+        if place.to < low || place.from >= MOST_NUMBERS {
             return None;
         }
         count = count.max(place.from + 1);
@@ -153,7 +153,7 @@ fn count_all(states: &[u32], count: u32) -> Option<u32>
 {
     let mut all = count;
     for state in states {
-        if *state >= MOST_STATES {
+        if *state >= MOST_NUMBERS {
             return None;
         }
         all = all.max(*state + 1);
@@ -161,8 +161,11 @@ fn count_all(states: &[u32], count: u32) -> Option<u32>
     Some(all)
 }
 
-// So many states, none with a weight.
-fn no_weights<S: Semiring>(alloc: Global, count: u32) -> Result<Vec<Option<S::W>>, OutOfMemory>
+/// So many places, none with a weight.
+pub(crate) fn no_weights<S: Semiring>(
+    alloc: Global,
+    count: u32,
+) -> Result<Vec<Option<S::W>>, OutOfMemory>
     ensures { IfOk result (λ ws. ws.items ≡ replicate count None) }
 {
     let mut weights = Vec::with_capacity(alloc, count as usize)?;
@@ -289,7 +292,7 @@ impl<'a, S: Semiring> TailInput<'a, S> {
         Ok(changed)
     }
 
-    // Settles the transitions that lead to a state, and has the states wait whose weights that changes.
+    // Settles the transitions that lead to a state, and has the states wait whose weights that changes. Says how many it took.
     fn settle_into(
         &self,
         alloc: Global,
@@ -298,7 +301,7 @@ impl<'a, S: Semiring> TailInput<'a, S> {
         finals: &[u32],
         weights: &mut [Option<S::W>],
         waiting: &mut Waiting,
-    ) -> Result<(), OutOfMemory>
+    ) -> Result<u64, OutOfMemory>
         requires fit { (t : EntryValue S S.W S.Ret) → Present self.now.transitions t →
             Fits (S.operations self.now.semiring) t.weight }
         requires places { (t : EntryValue S S.W S.Ret) → Present self.now.transitions t →
@@ -310,9 +313,9 @@ impl<'a, S: Semiring> TailInput<'a, S> {
             self.now.transitions finals.now self.now.set weights.new) }
     {
         let mut number = rows.last_into(state);
-        for _ in 0..self.transitions.len() {
+        for taken in 0..self.transitions.len() {
             if number == 0 || u64::from(number) > self.transitions.len() {
-                return Ok(());
+                return Ok(taken);
             }
             let transition = self.transitions.entry(u64::from(number) - 1);
             if self.settle(alloc, transition, finals, weights)? {
@@ -320,7 +323,7 @@ impl<'a, S: Semiring> TailInput<'a, S> {
             }
             number = rows.before(number);
         }
-        Ok(())
+        Ok(self.transitions.len())
     }
 
     // Settles what leads to states whose weights changed, one after the other, from the final states back.
@@ -343,11 +346,18 @@ impl<'a, S: Semiring> TailInput<'a, S> {
         let count = weights.len();
         let rows = Rows::of(alloc, self.transitions, self.low, count)?;
         let mut waiting = Waiting::of(alloc, finals, count)?;
-        for _ in 0..count.saturating_mul(MOST_TURNS) {
+        let most = self.transitions.len().saturating_mul(MOST_TURNS);
+        let mut taken = 0u64;
+        // A state waits once in the beginning, and once for a transition that was taken.
+        for _ in 0..most.saturating_add(count as u64) {
+            if taken > most {
+                return Ok(());
+            }
             let Some(state) = waiting.next() else {
                 return Ok(());
             };
-            self.settle_into(alloc, &rows, state, finals, weights, &mut waiting)?;
+            let more = self.settle_into(alloc, &rows, state, finals, weights, &mut waiting)?;
+            taken = taken.saturating_add(more);
         }
         Ok(())
     }
@@ -375,15 +385,17 @@ impl<'a, S: Semiring> TailInput<'a, S> {
     }
 }
 
-// What stands for weights that were not found.
-fn unsettled<S: Semiring>(alloc: Global, set: &[u32]) -> Result<Tails<S>, OutOfMemory>
-    ensures { IfOk result (λ t. IsFalse t.settled) }
-{
-    Ok(Tails {
-        set: set.to_vec(alloc)?,
-        weights: Vec::new(alloc),
-        settled: false,
-    })
+impl<S: Semiring> Tails<S> {
+    /// What stands for weights that were not found: it serves no pattern.
+    pub fn none(alloc: Global) -> Tails<S>
+        ensures { IsFalse result.settled }
+    {
+        Tails {
+            set: Vec::new(alloc),
+            weights: Vec::new(alloc),
+            settled: false,
+        }
+    }
 }
 
 // What leads on from each state to one of the final states, over symbols of a set, where all transitions lead to states from a
@@ -403,10 +415,10 @@ fn find_tails<S: Semiring>(
         transitions.now.transitions finals.now low) }
 {
     let Some(left) = count_left(transitions, low) else {
-        return unsettled(alloc, set);
+        return Ok(Tails::none(alloc));
     };
     let Some(count) = count_all(finals, left) else {
-        return unsettled(alloc, set);
+        return Ok(Tails::none(alloc));
     };
     let mut weights = no_weights::<S>(alloc, count)?;
     end_all(alloc, semiring, finals, &mut weights)?;

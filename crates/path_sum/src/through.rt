@@ -6,13 +6,16 @@ ghost use Rattle.path_sum.specs.Answers.{IsValueOf};
 ghost use Rattle.path_sum.specs.Results.{IsSumOver};
 ghost use Rattle.path_sum.specs.Saturated.{IsSaturatedAutomaton};
 ghost use Rattle.path_sum.specs.Tails.{tail_at, AreKeptTails};
+ghost use Rattle.path_sum.specs.Tops.{AreKeptTops};
 ghost use Rattle.path_sum.specs.private.Heads.{IsHeadOf, through, through_pair};
+ghost use Rattle.path_sum.specs.private.Over.{IsTotalOf};
 ghost use Rattle.saturation_laws.specs.Openings.{AreKept};
 ghost use Rattle.semiring_laws.specs.Semiring.{Fits};
 
 use crate::growing::product;
 use crate::summing::{sum_parts, walk};
 use crate::tails::Tails;
+use crate::tops::{Tops, asked_tops, weights_of};
 use config_patterns::{Pattern, PatternFault};
 use pushdown_rules::System;
 use saturation_laws::{Direction, Opening};
@@ -40,7 +43,8 @@ fn first_items(alloc: Global, pattern: &Pattern, count: u32) -> Result<Option<Pa
     Ok(Some(head))
 }
 
-fn same_symbols(one: &[u32], other: &[u32]) -> bool
+/// Whether these are the same symbols in the same order.
+pub(crate) fn same_symbols(one: &[u32], other: &[u32]) -> bool
     ensures { IsTrue result ↔ (one.now ≡ other.now) }
 {
     one == other
@@ -170,8 +174,29 @@ fn value_through<S: Semiring, D: Direction<S>>(
     Ok(Some(combine_all(alloc, semiring, &weights)?))
 }
 
-/// The value that [`sum_parts`] answers, without a listing, with what leads on from the states over a set of symbols. Where the
-/// pattern ends in a starred item with this set, a walk over its other items is enough. Refused only when out of memory.
+// The value of a sum over a pattern that asks for tops alone, if it does.
+fn value_of_tops<S: Semiring>(
+    alloc: Global,
+    semiring: &S,
+    tops: &Tops<S>,
+    set: &[u32],
+    pattern: &Pattern,
+) -> Result<Option<S::W>, OutOfMemory>
+    requires { (g : ℕ) → let s = S.operations semiring.now in
+        Fits s (tail_at s tops.now.weights g) }
+    ensures { let s = S.operations semiring.now in IfOk result (λ o. IfSome o (IsTotalOf s
+        tops.now set.now pattern.now)) }
+{
+    let Some(asked) = asked_tops(pattern, tops.control, set) else {
+        return Ok(None);
+    };
+    let weights = weights_of(alloc, semiring, &tops.weights, asked)?;
+    Ok(Some(combine_all(alloc, semiring, &weights)?))
+}
+
+/// The value that [`sum_parts`] answers, without a listing, with what leads on from the states over a set of symbols, and what
+/// is met from one control. Where the pattern asks for tops of this control alone, these weights are enough, and where it ends
+/// in a starred item with this set, a walk over its other items. Refused only when out of memory.
 pub fn sum_value_by_tails<S: Semiring, D: Direction<S>>(
     alloc: Global,
     system: &System<S>,
@@ -180,6 +205,7 @@ pub fn sum_value_by_tails<S: Semiring, D: Direction<S>>(
     transitions: &Transitions<S>,
     graph: &Graph,
     tails: &Tails<S>,
+    tops: Option<&Tops<S>>,
     pattern: &Pattern,
 ) -> Result<S::W, OutOfMemory>
     requires automaton { IsSaturatedAutomaton S.operations D.way system.now direction.now
@@ -188,10 +214,19 @@ pub fn sum_value_by_tails<S: Semiring, D: Direction<S>>(
     requires tails { AreKeptTails (S.operations system.now.semiring)
         (D.way.tables direction.now system.now).side transitions.now.transitions
         opening.now.finals system.now.controls tails.now }
+    requires tops { IfSome tops (λ t. AreKeptTops (S.operations system.now.semiring)
+        (D.way.tables direction.now system.now).side transitions.now.transitions
+        opening.now.finals tails.now.set t.now) }
     requires pattern { pattern.now.control < system.now.controls }
     ensures { IfOk result (IsValueOf (IsSumOver S.operations D.way system.now direction.now
         opening.now transitions.now.transitions graph.now.nodes pattern.now)) }
 {
+    if let Some(tops) = tops {
+        let value = value_of_tops(alloc, system.semiring(), tops, &tails.set, pattern)?;
+        if let Some(value) = value {
+            return Ok(value);
+        }
+    }
     if let Some(head) = head_before(alloc, pattern, &tails.set)? {
         let value = value_through(
             alloc,
