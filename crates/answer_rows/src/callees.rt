@@ -1,7 +1,7 @@
 use crate::answers::{Query, Row};
 use cost_weights::Cost;
 use pushdown_rules::{RuleFault, System};
-use query_answers::value;
+use query_answers::{saturate, value_over};
 use row_systems::{A, B, C, D, pattern_over};
 use std::alloc::Global;
 use std::sync::Wait;
@@ -13,27 +13,43 @@ use wpds_port::OpenGate;
 // The fifth symbol.
 const E: (&[u32], bool) = (&[4], false);
 
-// The cost of a query, forwards. Each system here has twice as many push rules as callees, so it goes through each once.
+// The cost of a query, forwards, as one of so many over one search. Each system here has twice as many push rules as callees, so
+// it goes through each once.
 fn forward_cost(
     rt: &(impl Threads + Wait + Sync + AllocGlobal),
     system: &System<Cost>,
     query: Query,
+    queries: usize,
 ) -> Result<Option<u64>, Fail> {
     let (start, start_items, end, end_items) = query;
     let from = pattern_over(rt.alloc(), system, start, start_items)?;
     let to = pattern_over(rt.alloc(), system, end, end_items)?;
-    Ok(value(rt, rt.alloc(), system, Side::Post, 1, &from, &to, &OpenGate)?)
+    let side = Side::Post;
+    let search = saturate(
+        rt,
+        rt.alloc(),
+        system,
+        side,
+        false,
+        1,
+        &from,
+        queries,
+        &OpenGate,
+    )?;
+    Ok(value_over(rt.alloc(), &search, &to)?)
 }
 
-// The first row whose query has another cost, forwards.
+// The first row whose query has another cost, forwards: alone, or as one of many, for which what they have in common is found.
 pub(crate) fn wrong_row(
     rt: &(impl Threads + Wait + Sync + AllocGlobal),
     system: &System<Cost>,
     rows: &[Row],
 ) -> Result<Option<usize>, Fail> {
     for (k, (query, cost)) in rows.iter().enumerate() {
-        if forward_cost(rt, system, *query)? != *cost {
-            return Ok(Some(k));
+        for queries in [1, 100] {
+            if forward_cost(rt, system, *query, queries)? != *cost {
+                return Ok(Some(k));
+            }
         }
     }
     Ok(None)

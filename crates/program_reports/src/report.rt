@@ -25,12 +25,13 @@ use witness_graph::Side;
 use wpds_base::OutOfMemory;
 use wpds_port::{Gate, Text};
 
-// The saturation for a point.
+// The saturation for a point, of which so many queries are asked.
 fn saturation_for<'s, H: Threads + Wait + Sync, G: Gate>(
     rt: &H,
     alloc: Global,
     asked: &'s Asked<'_>,
     point: Point,
+    queries: usize,
     gate: &G,
 ) -> Result<Saturation<'s, Relations>, OutOfMemory>
     requires asked { IsAsked asked.now }
@@ -47,6 +48,7 @@ fn saturation_for<'s, H: Threads + Wait + Sync, G: Gate>(
         asked.options.lists(),
         asked.options.workers,
         &pattern,
+        queries,
         gate,
     )
 }
@@ -67,7 +69,10 @@ fn shared_saturation<'s, H: Threads + Wait + Sync, G: Gate>(
 {
     match asked.options.by {
         Side::Pre => Ok(None),
-        Side::Post => Ok(Some(saturation_for(rt, alloc, asked, asked.entry(), gate)?)),
+        Side::Post => {
+            let queries = asked.program.queries.as_slice().len();
+            Ok(Some(saturation_for(rt, alloc, asked, asked.entry(), queries, gate)?))
+        }
     }
 }
 
@@ -117,7 +122,7 @@ fn lines_of<H: Threads + Wait + Sync, G: Gate>(
     match shared {
         Some(saturation) => lines_over(alloc, asked, saturation, number, point),
         None => {
-            let saturation = saturation_for(rt, alloc, asked, point, gate)?;
+            let saturation = saturation_for(rt, alloc, asked, point, 1, gate)?;
             lines_over(alloc, asked, &saturation, number, point)
         }
     }

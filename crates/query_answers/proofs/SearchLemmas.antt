@@ -1,6 +1,6 @@
 -- The values of queries over searches forwards.
 use Rattle.std.proofs.Common.{◌≡◌, ◌↔◌, Bool, true, ℕ, ◌<◌, ◌≤◌, List, [], length, IsTrue, refl, sym, ◌∙◌, subst}
-use Rattle.std.specs.Prelude.{Result, Ok, Err, IfOk}
+use Rattle.std.specs.Prelude.{All, Result, Ok, Err, IfOk, slice_index_or}
 use Rattle.wpds_base.specs.Limits.{most_items}
 use Rattle.semiring_laws.specs.Semiring.{Operations, IsSemiring}
 use Rattle.weighted_automata.specs.declared.transitions.Entry.{Entry}
@@ -55,6 +55,10 @@ pub same_parts : {S W Map D : Type 0} (P : Pushdown S W Map → D → Opening �
     {ts us : List (Entry S W Map)} {ns ms : List Node} → p ≡ q → d ≡ e → o ≡ u → ts ≡ us → ns ≡ ms → P p d o ts ns → P q e u us ms
 same_parts P {p} {q} {d} {e} {o} {u} {ts} {us} {ns} {ms} ps ds os tss nss at =
     subst (λ x. P x e u us ms) ps (subst (λ x. P p x u us ms) ds (subst (λ x. P p d x us ms) os (subst (λ x. P p d o x ms) tss (subst (P p d o ts) nss at))))
+
+-- what holds of all holds of the one at a place
+pub at_place : {X : Type 0} (P : X → Type 0) (xs : List X) (place : ℕ) → All P xs → (x : X) → ((d : X) → (place < length xs) × (x ≡ slice_index_or xs place d)) → P x
+at_place P xs place all x at = let here = at x in subst P (sym here.1) (all place x here.0)
 
 -- ---- searches to their ends
 

@@ -40,7 +40,8 @@ fn by_side<'p>(side: Side, from: &'p Pattern, to: &'p Pattern) -> (&'p Pattern, 
 /// The finished saturation from a pattern, by so many workers: backwards from where runs end, or forwards from where they
 /// begin. Forwards, where no listing is asked for, one worker makes a search, whatever their number, and calls the gate before
 /// each turn. Otherwise two workers or more have a thread each, and each worker calls the gate between taking a transition and
-/// settling it. Refused only when out of memory.
+/// settling it. How many queries are asked of it says what is worth finding for all of them: no answer depends on it. Refused only
+/// when out of memory.
 pub fn saturate<
     's,
     H: Threads + Wait + Sync,
@@ -54,6 +55,7 @@ pub fn saturate<
     listed: bool,
     workers: u32,
     opened: &Pattern,
+    queries: usize,
     gate: &G,
 ) -> Result<Saturation<'s, S>, OutOfMemory>
     requires opened { IsOver system.now.controls system.now.symbols opened.now }
@@ -70,7 +72,7 @@ pub fn saturate<
         }
         Side::Post => {
             if !listed {
-                return saturate_for_values(alloc, system, opened, gate);
+                return saturate_for_values(alloc, system, opened, queries, gate);
             }
             let book = post_opening(alloc, system, opened)?;
             Ok(Saturation::Forward(saturate_book(rt, alloc, book, workers, gate)?))
@@ -150,7 +152,7 @@ pub fn answer<
     ensures { IfOk result (IsAnswer S.operations system.now side workers from.now to.now) }
 {
     let (opened, summed) = by_side(side, from, to);
-    let saturation = saturate(rt, alloc, system, side, true, workers, opened, gate)?;
+    let saturation = saturate(rt, alloc, system, side, true, workers, opened, 1, gate)?;
     answer_over(alloc, &saturation, summed)
 }
 
@@ -178,6 +180,6 @@ pub fn value<
         IfOk result (IsValueOf asked) }
 {
     let (opened, summed) = by_side(side, from, to);
-    let saturation = saturate(rt, alloc, system, side, false, workers, opened, gate)?;
+    let saturation = saturate(rt, alloc, system, side, false, workers, opened, 1, gate)?;
     value_over(alloc, &saturation, summed)
 }

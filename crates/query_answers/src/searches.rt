@@ -69,11 +69,13 @@ fn through_callees<'s, S: Semiring, G: Gate>(
 }
 
 /// The finished saturation forwards from a pattern for values alone: through each callee once, where several rules call one.
-/// One worker makes it, and calls the gate before each turn. Refused only when out of memory.
+/// One worker makes it, and calls the gate before each turn. What several queries have in common is found with it, where that many
+/// are asked. Refused only when out of memory.
 pub(crate) fn saturate_for_values<'s, S: Semiring, G: Gate>(
     alloc: Global,
     system: &'s System<S>,
     opened: &Pattern,
+    queries: usize,
     gate: &G,
 ) -> Result<Saturation<'s, S>, OutOfMemory>
     requires { IsOver system.now.controls system.now.symbols opened.now }
@@ -84,10 +86,10 @@ pub(crate) fn saturate_for_values<'s, S: Semiring, G: Gate>(
 {
     if shares_callees(alloc, system, opened)? {
         let through = through_callees(alloc, system, opened, gate)?;
-        return Ok(Saturation::Callees(ForwardSearch::of(alloc, through)?));
+        return Ok(Saturation::Callees(ForwardSearch::of(alloc, through, queries)?));
     }
     let search = searched_forward(alloc, system, opened, gate)?;
-    Ok(Saturation::Values(ForwardSearch::of(alloc, search)?))
+    Ok(Saturation::Values(ForwardSearch::of(alloc, search, queries)?))
 }
 
 /// What a sum over a search forwards gives is the value of an answer: values are unique, and each query has an answer.

@@ -47,6 +47,34 @@ fn sets_and_symbols(rt: HostRuntime) -> Result<(), OutOfMemory> {
     Ok(())
 }
 
+// Queries that begin alike, so many that forwards what is met by the top of the stack is found for all at once.
+const TOPS: &str = "query p: a* b => p: a .*
+query p: a* b => p: b .*
+query p: a* b => p: c .*
+query p: a* b => p: {b c} .*
+query p: a* b => p: . .*
+query p: a* b => q: b .*
+query p: a* b => p: a* .*
+query p: a* b => p: a a .*
+query p: a* b => p: b b .*
+----
+query 1: reachable
+query 2: reachable
+query 3: unreachable
+query 4: reachable
+query 5: reachable
+query 6: unreachable
+query 7: reachable
+query 8: reachable
+query 9: unreachable
+";
+
+#[test]
+fn tops_of_stacks(rt: HostRuntime) -> Result<(), OutOfMemory> {
+    assert_eq!(rt; first_wrong(&rt, HEAD, TOPS)?, None);
+    Ok(())
+}
+
 const STARS: &str = "query p: a b b => p: a {a b}*
 query p: a* b => p: b
 query p: . . => p: b

@@ -132,6 +132,17 @@ pub(crate) fn keep(kept: &mut [Option<Text>], place: usize, lines: Text)
     kept[place] = Some(lines);
 }
 
+// How many queries from a place on start from this pattern.
+fn count_alike(queries: &[QueryLine], by: Side, opened: &PatternText, place: usize) -> usize {
+    let mut count = 0usize;
+    for k in place..queries.len() {
+        if same_pattern(opened_text(by, &queries[k]), opened) {
+            count = count.saturating_add(1);
+        }
+    }
+    count
+}
+
 // Keeps the lines of each query from a place on that starts from this pattern.
 fn keep_alike<S: DocumentWeights>(
     alloc: Global,
@@ -200,6 +211,7 @@ fn lines_by_saturation<
     let query = &document.queries.as_slice()[place];
     let opened = opened_text(options.by, query);
     let pattern = pattern_from(alloc, system, opened)?;
+    let count = count_alike(document.queries.as_slice(), options.by, opened, place);
     let saturation = saturate(
         crew.rt,
         alloc,
@@ -208,6 +220,7 @@ fn lines_by_saturation<
         options.lists(),
         options.workers,
         &pattern,
+        count,
         crew.gate,
     )?;
     let number = place as u64 + 1;
