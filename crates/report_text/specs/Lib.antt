@@ -1,3 +1,4 @@
 pub mod Listings
 pub mod Reports
 pub mod Traces
+pub mod private

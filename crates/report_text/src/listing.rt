@@ -1,103 +1,150 @@
-ghost use Rattle.std.specs.Prelude.{◌≡◌, ◌++◌, map, IfOk, OnOk};
+ghost use Rattle.std.specs.Prelude.{◌≡◌, ◌||◌, ◌++◌, decimal, is_some, IfOk, OnOk};
 ghost use Rattle.std.specs.String.{string_bytes};
 ghost use Rattle.report_text.specs.Listings as listings;
+ghost use Rattle.report_text.specs.private.{behind_text, then_text};
 
-use std::alloc::{AllocError, Global};
+use itoa::Buffer;
+use std::alloc::Global;
 use witness_graph::{Listing, Node, Side};
 use wpds_base::OutOfMemory;
 use wpds_port::Text;
 
-// Adds a rule by its number in the text, if there is one.
-fn add_rule(alloc: Global, texts: &mut Vec<String>, rule: Option<u32>) -> Result<(), OutOfMemory>
-    ensures { let before = map string_bytes texts.old.items in
-        OnOk result (map string_bytes texts.new.items ≡ before ++ listings.rule_part rule) }
+// Adds a number.
+fn add_number(text: &mut String, number: u64) -> Result<(), OutOfMemory>
+    ensures { OnOk result (string_bytes text.new ≡ string_bytes text.old ++ decimal number) }
 {
-    if let Some(rule) = rule {
-        let counted = rule as u64 + 1;
-        texts.push(format!(in alloc; "rule {counted}")?)?;
+    let mut buffer = Buffer::new();
+    text.push_str(buffer.format(number))?;
+    Ok(())
+}
+
+/// Adds a rule by its number in the text.
+pub(crate) fn add_rule(text: &mut String, rule: u32) -> Result<(), OutOfMemory>
+    ensures { let before = string_bytes text.old in
+        OnOk result (string_bytes text.new ≡ before ++ listings.rule_text rule) }
+{
+    text.push_str("rule ")?;
+    add_number(text, rule as u64 + 1)
+}
+
+// Adds a set of runs by its number.
+fn add_set(text: &mut String, set: u64) -> Result<(), OutOfMemory>
+    ensures { let before = string_bytes text.old in
+        OnOk result (string_bytes text.new ≡ before ++ listings.set_text set) }
+{
+    text.push_str("set ")?;
+    add_number(text, set)
+}
+
+// Adds what stands between a part and those before it, if there are some.
+fn add_then(text: &mut String, behind: bool) -> Result<(), OutOfMemory>
+    ensures { let before = string_bytes text.old in
+        OnOk result (string_bytes text.new ≡ before ++ then_text behind) }
+{
+    if behind {
+        text.push_str(" then ")?;
     }
     Ok(())
 }
 
-// Adds a set of runs, if there is one.
-fn add_set(alloc: Global, texts: &mut Vec<String>, set: Option<u64>) -> Result<(), OutOfMemory>
-    ensures { let before = map string_bytes texts.old.items in
-        OnOk result (map string_bytes texts.new.items ≡ before ++ listings.set_part set) }
+// Adds a rule, if there is one, behind other parts, if there are some, and says whether there are some now.
+fn add_rule_part(text: &mut String, behind: bool, rule: Option<u32>) -> Result<bool, OutOfMemory>
+    ensures text { let before = string_bytes text.old in OnOk result (string_bytes text.new
+        ≡ before ++ behind_text behind (listings.rule_part rule)) }
+    ensures behind { IfOk result (λ b. b ≡ (behind || is_some rule)) }
 {
-    if let Some(set) = set {
-        texts.push(format!(in alloc; "set {set}")?)?;
-    }
-    Ok(())
+    let Some(rule) = rule else {
+        return Ok(behind);
+    };
+    add_then(text, behind)?;
+    add_rule(text, rule)?;
+    Ok(true)
 }
 
-// The parts of a node that are there, in the order of its runs.
-fn parts(
-    alloc: Global,
+// The same for a set of runs.
+fn add_set_part(text: &mut String, behind: bool, set: Option<u64>) -> Result<bool, OutOfMemory>
+    ensures text { let before = string_bytes text.old in OnOk result (string_bytes text.new
+        ≡ before ++ behind_text behind (listings.set_part set)) }
+    ensures behind { IfOk result (λ b. b ≡ (behind || is_some set)) }
+{
+    let Some(set) = set else {
+        return Ok(behind);
+    };
+    add_then(text, behind)?;
+    add_set(text, set)?;
+    Ok(true)
+}
+
+// Adds the parts of a node that are there, in the order of its runs.
+fn add_parts(
+    text: &mut String,
     side: Side,
     rule: Option<u32>,
     first: Option<u64>,
     second: Option<u64>,
-) -> Result<Vec<String>, OutOfMemory>
-    ensures { IfOk result (λ v. map string_bytes v.items ≡ listings.parts side rule first second) }
+) -> Result<(), OutOfMemory>
+    ensures { let before = string_bytes text.old in OnOk result (string_bytes text.new
+        ≡ before ++ listings.parts_text side rule first second) }
 {
-    let mut texts = Vec::new(alloc);
     match side {
         Side::Pre => {
-            add_rule(alloc, &mut texts, rule)?;
-            add_set(alloc, &mut texts, first)?;
-            add_set(alloc, &mut texts, second)?;
+            let behind = add_rule_part(text, false, rule)?;
+            let behind = add_set_part(text, behind, first)?;
+            add_set_part(text, behind, second)?;
         }
         Side::Post => {
-            add_set(alloc, &mut texts, first)?;
-            add_set(alloc, &mut texts, second)?;
-            add_rule(alloc, &mut texts, rule)?;
+            let behind = add_set_part(text, false, first)?;
+            let behind = add_set_part(text, behind, second)?;
+            add_rule_part(text, behind, rule)?;
         }
     }
-    Ok(texts)
+    Ok(())
 }
 
-fn before_text(alloc: Global, before: Option<u64>) -> Result<String, AllocError>
-    ensures { IfOk result (λ t. string_bytes t ≡ listings.before_text before) }
+// Adds the set before the parts of a node, if there is one.
+fn add_before(text: &mut String, before: Option<u64>) -> Result<(), OutOfMemory>
+    ensures { let old = string_bytes text.old in
+        OnOk result (string_bytes text.new ≡ old ++ listings.before_text before) }
 {
-    match before {
-        Some(set) => format!(in alloc; "set {set} or "),
-        None => Ok(String::new(alloc)),
+    if let Some(set) = before {
+        add_set(text, set)?;
+        text.push_str(" or ")?;
     }
+    Ok(())
 }
 
-// The runs of a node, by the sets that it names.
-fn node_text(alloc: Global, side: Side, node: Node) -> Result<String, OutOfMemory>
-    ensures { IfOk result (λ t. string_bytes t ≡ listings.node_text side node) }
+// Adds the runs of a node, by the sets that it names.
+fn add_node(text: &mut String, side: Side, node: Node) -> Result<(), OutOfMemory>
+    ensures { let before = string_bytes text.old in
+        OnOk result (string_bytes text.new ≡ before ++ listings.node_text side node) }
 {
     match node {
-        Node::Start => Ok(String::from_str(alloc, "empty")?),
+        Node::Start => {
+            text.push_str("empty")?;
+            Ok(())
+        }
         Node::Lower {
             before,
             rule,
             first,
             second,
         } => {
-            let parts = parts(alloc, side, rule, first, second)?;
-            let mut text = before_text(alloc, before)?;
-            text.push_str(parts.join(alloc, " then ")?.as_str())?;
-            Ok(text)
+            add_before(text, before)?;
+            add_parts(text, side, rule, first, second)
         }
     }
 }
 
 // Adds the line of a node.
-fn add_line(
-    alloc: Global,
-    text: &mut String,
-    side: Side,
-    number: usize,
-    node: Node,
-) -> Result<(), OutOfMemory>
+fn add_line(text: &mut String, side: Side, number: u64, node: Node) -> Result<(), OutOfMemory>
     ensures { let line = listings.set_line side number node in
         OnOk result (string_bytes text.new ≡ string_bytes text.old ++ line) }
 {
-    let runs = node_text(alloc, side, node)?;
-    text.push_str(format!(in alloc; "  set {number} = {runs}\n")?.as_str())?;
+    text.push_str("  ")?;
+    add_set(text, number)?;
+    text.push_str(" = ")?;
+    add_node(text, side, node)?;
+    text.push_str("\n")?;
     Ok(())
 }
 
@@ -109,10 +156,12 @@ pub fn listing_text(alloc: Global, listing: &Listing) -> Result<String, OutOfMem
     let nodes = listing.nodes.as_slice();
     let mut text = String::new(alloc);
     for (number, node) in nodes.iter().enumerate() {
-        add_line(alloc, &mut text, listing.side, number, *node)?;
+        add_line(&mut text, listing.side, number as u64, *node)?;
     }
     let last = nodes.len() - 1;
-    text.push_str(format!(in alloc; "  answer set {last}\n")?.as_str())?;
+    text.push_str("  answer ")?;
+    add_set(&mut text, last as u64)?;
+    text.push_str("\n")?;
     Ok(text)
 }
 

@@ -3,23 +3,14 @@ ghost use Rattle.std.specs.String.{string_bytes};
 ghost use Rattle.report_text.specs.Listings as listings;
 ghost use Rattle.report_text.specs.Traces as traces;
 
+use crate::listing::add_rule;
 use std::alloc::Global;
 use trace_printer::{Expanded, Run, expand};
 use witness_graph::Listing;
 use wpds_base::OutOfMemory;
 
-// Adds a rule by its number in the text.
-fn add_rule(alloc: Global, text: &mut String, rule: u32) -> Result<(), OutOfMemory>
-    ensures { let before = string_bytes text.old in
-        OnOk result (string_bytes text.new ≡ before ++ listings.rule_text rule) }
-{
-    let counted = rule as u64 + 1;
-    text.push_str(format!(in alloc; "rule {counted}")?.as_str())?;
-    Ok(())
-}
-
 // Adds the rules of a run.
-fn add_run(alloc: Global, text: &mut String, run: &[u32]) -> Result<(), OutOfMemory>
+fn add_run(text: &mut String, run: &[u32]) -> Result<(), OutOfMemory>
     ensures { let before = string_bytes text.old in
         OnOk result (string_bytes text.new ≡ before ++ traces.run_text run.now) }
 {
@@ -27,21 +18,21 @@ fn add_run(alloc: Global, text: &mut String, run: &[u32]) -> Result<(), OutOfMem
         text.push_str("empty")?;
         return Ok(());
     };
-    add_rule(alloc, text, *first)?;
+    add_rule(text, *first)?;
     for rule in rest {
         text.push_str(", ")?;
-        add_rule(alloc, text, *rule)?;
+        add_rule(text, *rule)?;
     }
     Ok(())
 }
 
 // Adds the line of a run.
-fn add_line(alloc: Global, text: &mut String, run: &Run) -> Result<(), OutOfMemory>
+fn add_line(text: &mut String, run: &Run) -> Result<(), OutOfMemory>
     ensures { let before = string_bytes text.old in
         OnOk result (string_bytes text.new ≡ before ++ traces.run_line run.now) }
 {
     text.push_str("  run: ")?;
-    add_run(alloc, text, run.as_slice())?;
+    add_run(text, run.as_slice())?;
     text.push_str("\n")?;
     Ok(())
 }
@@ -55,7 +46,7 @@ pub fn traces_text(alloc: Global, listing: &Listing, limit: u64) -> Result<Strin
     match expand(alloc, listing, limit)? {
         Expanded::Runs(runs) => {
             for run in runs.as_slice() {
-                add_line(alloc, &mut text, run)?;
+                add_line(&mut text, run)?;
             }
         }
         Expanded::TooLong => text.push_str("  traces: too long\n")?,
