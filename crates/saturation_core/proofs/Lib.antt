@@ -15,5 +15,6 @@ mod SettleBook
 mod TurnBook
 mod SearchTurns
 mod AllPush
+mod SeenLemmas
 mod Examples
 pub mod CallerLemmas

@@ -3,7 +3,7 @@ use Rattle.std.proofs.Common.{◌≡◌, ◌<◌, inl, inr, ℕ, ◌+◌, List, 
 use Rattle.std.specs.Prelude.{◌↔◌, All, Bool, Result, Ok, Err, OnErr, Option, None, Some, IfSome, IsTrue, option_map, slice_set}
 use Rattle.std.specs.List.{AllByRecursion}
 use Rattle.std.proofs.lemmas.Option.{same_Some}
-use Rattle.std.proofs.lemmas.List.{length-map}
+use Rattle.std.proofs.lemmas.List.{get_or-set_same, length-map}
 use Rattle.std.proofs.lemmas.List.Elements.{All-from_recursion, recursion_from_All}
 use Rattle.semiring_laws.specs.Semiring.{Operations, IsSemiring, Fits}
 use Rattle.weighted_automata.specs.declared.transitions.Entry.{Entry}
@@ -15,7 +15,9 @@ use Rattle.saturation_laws.specs.declared.holding.Holding.{Holding}
 use Rattle.saturation_core.specs.declared.found.Found.{Found}
 use Rattle.saturation_core.specs.declared.plan.Planned.{Planned}
 use Rattle.saturation_laws.specs.declared.event.Event.{Event}
-use Rattle.saturation_laws.specs.declared.event.Event.TheVariants.{Settle}
+use Rattle.saturation_laws.specs.declared.event.Event.TheVariants.{Settle, Take}
+use Rattle.weighted_automata.specs.declared.place.Place.{Place}
+use Rattle.witness_graph.specs.declared.node.Node.{Node}
 use Rattle.saturation_laws.specs.Jobs.{Tables, InputsFit}
 use Rattle.wpds_base.specs.Lists.{IsIn}
 use Rattle.saturation_laws.specs.States.{CoreState, Change, hand_at, change_of, apply_jobs, free, settle}
@@ -26,10 +28,11 @@ use Rattle.saturation_core.specs.Seats.{hands_out}
 use Rattle.saturation_core.specs.private.Plans.{changes_with, put_all, AreNodesFrom, plan_of}
 use Rattle.saturation_core.specs.private.Steps.{with_hands, Becomes, IsFitChange}
 use Rattle.saturation_core.specs.DoneValue.{DoneValue}
+use Rattle.saturation_core.specs.Goals.{StillTell}
 use Rattle.saturation_core.specs.Settled.{jobs_of, jobs_out, IsWorked, CanSettle}
-use Rattle.saturation_laws.proofs.CallerLemmas.{worth_fits, change_fits, job_sound, opening_fits, book_works}
+use Rattle.saturation_laws.proofs.CallerLemmas.{worth_fits, change_fits, job_sound, opening_fits, book_works, event_keeps}
 use Rattle.saturation_core.proofs.PutPlan.{nodes_added, plan_is, apply_jobs_is, plan_nodes}
-use Rattle.saturation_core.proofs.HandLemmas.{hands_out-freed, seat_within}
+use Rattle.saturation_core.proofs.HandLemmas.{hands_out-freed, moved, seat_within}
 use Rattle.saturation_laws.specs.Ways.{Way, IsLawful, HasOneCandidate}
 
 -- what holds anyway holds on a refusal
@@ -64,16 +67,21 @@ module _ {S W Map : Type 0} where
   same_worths p q d e same side (j ∷ js) agree = ap₂ (λ w ws. w ∷ ws) (sym (same j side agree.0)) (same_worths p q d e same side js agree.1)
 
 module _ {S W Map D : Type 0} (way : Way S W Map D) (b : BookValue S W Map D) (w : DoneValue S W Map D) where
-  -- a test of the hand decides, where the rest is met
+  -- the test of what was seen decides, where the rest is met
   pub decides : (seat : ℕ) (hands : List (Option (Holding S W Map))) (jobs : List (Job S W Map)) → seat ≡ w.seat → hands ≡ b.state.hands → jobs ≡ w.jobs
       → (way.tables w.direction w.system).side ≡ (way.tables b.direction b.system).side → b.system.semiring ≡ w.system.semiring → All (AgreeOn b.system w.system) jobs
-      → (r : Bool) → IsTrue r ↔ (jobs_out seat hands ≡ Some jobs) → IsTrue r ↔ CanSettle way b w
-  decides seat hands jobs at out same side semiring agree r test =
+      → jobs_out seat hands ≡ Some jobs
+      → (r : Bool) → IsTrue r ↔ StillTell b.state.transitions w.jobs w.goals → IsTrue r ↔ CanSettle way b w
+  decides seat hands jobs at out same side semiring agree listed r test =
       let there : jobs_out seat hands ≡ jobs_out w.seat b.state.hands = ap (λ k. jobs_out k hands) at ∙ ap (jobs_out w.seat) out in
       let P : List (Job S W Map) → Type 0 = All (AgreeOn b.system w.system) in (
-        λ true'. record { hand = sym there ∙ test.0 true' ∙ ap Some same; side = side; semiring = semiring; rules = subst P same agree },
-        λ can. test.1 (there ∙ can.hand ∙ ap Some (sym same)),
+        λ true'. record { hand = sym there ∙ listed ∙ ap Some same; side = side; semiring = semiring; rules = subst P same agree; goals = test.0 true' },
+        λ can. test.1 can.goals,
       )
+
+  -- the hand that it can settle is listed
+  pub lists_it : (seat : ℕ) (hands : List (Option (Holding S W Map))) (jobs : List (Job S W Map)) → seat ≡ w.seat → hands ≡ b.state.hands → jobs ≡ w.jobs → CanSettle way b w → jobs_out seat hands ≡ Some jobs
+  lists_it seat hands jobs at out same can = ap (λ k. jobs_out k hands) at ∙ ap (jobs_out w.seat) out ∙ can.hand ∙ ap Some (sym same)
 
   -- and where it is not, the answer is no
   pub refuses : (CanSettle way b w → ⊥) → IsTrue false ↔ CanSettle way b w
@@ -186,6 +194,16 @@ module _ {S W Map D : Type 0} (operations : S → Operations W Map) (laws : (x :
           let P : List (Planned S W Map) → Type 0 = AreNodesFrom m in
           let same : plan ≡ plan_of s cs m b.state.transitions = planned ∙ ap (λ vs. plan_of s (changes_with js vs) n b.state.transitions) worths ∙ ap (λ k. plan_of s cs k b.state.transitions) count in
           subst P (sym same) (plan_nodes (laws b.system.semiring) m cs m b.state.transitions (omega arith) (book_keeps b is) jobs_fit)
+
+  -- the worths of a hand that was just taken are weights
+  pub taken_worths : (b : BookValue S W Map D) → IsBook operations way b → (seat : ℕ) (x : Place) (ts : List (Entry S W Map)) (ns : List Node) (queue : List Place) (hands : List (Option (Holding S W Map))) (journal : List Event)
+      → Makes operations way b (Take seat x) (moved b ts ns queue hands journal) → seat < length b.state.hands → (js ks : List (Job S W Map)) → hands ≡ slice_set b.state.hands seat (Some (record { place = x; jobs = js })) → ks ≡ js
+      → All (Fits (operations b.system.semiring)) (map (way.tables b.direction b.system).candidate ks)
+  taken_worths b is seat x ts ns queue hands journal made within js ks put same =
+      let h : Holding S W Map = record { place = x; jobs = js } in
+      let out : hand_at seat hands ≡ Some h = ap (hand_at seat) put ∙ get_or-set_same b.state.hands seat (Some h) None within in
+      let new = moved b ts ns queue hands journal in
+      worths_fit new (event_keeps operations laws way direction b is (Take seat x) new made) seat ks (ap (option_map jobs_of) out ∙ ap Some (sym same)) (map (way.tables b.direction b.system).candidate ks) refl
 
   -- the inputs of the jobs of a hand that is out fit
   pub out_fits : (b : BookValue S W Map D) → IsBook operations way b → (seat : ℕ) → IfSome (jobs_out seat b.state.hands) (All (InputsFit (operations b.system.semiring)))

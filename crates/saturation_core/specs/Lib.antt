@@ -4,6 +4,7 @@ pub mod QueuedList
 pub mod JournalEvents
 pub mod BookView
 pub mod SearchView
+pub mod Goals
 pub mod DoneValue
 pub mod Settled
 pub mod private

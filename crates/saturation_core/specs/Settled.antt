@@ -3,6 +3,7 @@ use Rattle.std.specs.Prelude.{◌≡◌, ℕ, List, Option, Some, option_map, Al
 use Rattle.saturation_laws.specs.declared.job.Job.{Job}
 use Rattle.saturation_laws.specs.declared.holding.Holding.{Holding}
 use Rattle.saturation_core.specs.DoneValue.{DoneValue}
+use Rattle.saturation_core.specs.Goals.{StillTell}
 use Rattle.saturation_laws.specs.States.{hand_at}
 use Rattle.saturation_laws.specs.Directions.{AgreeOn}
 use Rattle.saturation_laws.specs.Books.{BookValue}
@@ -29,3 +30,5 @@ module _ {S W Map D : Type 0} (way : Way S W Map D) where
     -- the semirings are equal, and so is each rule that a job names
     pub semiring : b.system.semiring ≡ w.system.semiring
     pub rules : All (AgreeOn b.system w.system) w.jobs
+    -- where a goal has the node that was seen, it has the transition that was seen
+    pub goals : StillTell b.state.transitions w.jobs w.goals

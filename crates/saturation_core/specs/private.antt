@@ -7,3 +7,4 @@ pub mod Queued
 pub mod GoalRows
 pub mod Records
 pub mod Written
+pub mod Worked

@@ -1,4 +1,4 @@
-ghost use Rattle.std.specs.Prelude.{◌≡◌, ◌≢◌, ◌↔◌, ◌<◌, ◌+◌, [], ◌∷◌, ◌++◌, IsTrue, IfOk, IfErr, OnOk, OnErr, IsSome, is_some, length};
+ghost use Rattle.std.specs.Prelude.{ℕ, ◌≡◌, ◌≢◌, ◌↔◌, ◌<◌, ◌+◌, [], ◌∷◌, ◌++◌, IsTrue, IfOk, IfErr, OnOk, OnErr, IsSome, is_some, length};
 ghost use Rattle.wpds_base.specs.Limits.{most_seats};
 ghost use Rattle.saturation_laws.specs.declared.event.Event.TheVariants.{Take, Settle, GiveBack};
 ghost use Rattle.saturation_laws.specs.States.{hand_at};
@@ -9,6 +9,7 @@ ghost use Rattle.saturation_core.specs.Calls.{AnswersTake, HandWorks, TakesAndSe
 ghost use Rattle.saturation_core.specs.Settled.{CanSettle};
 
 use crate::found::Found;
+use crate::goals::{list_goals, still_tell};
 use crate::hands::{no_hands, none_out, place_out, put, seats_out};
 use crate::journal::Journal;
 use crate::plan::plan_jobs;
@@ -172,7 +173,8 @@ impl<'s, S: Semiring, D: Direction<S>> Book<'s, S, D> {
         }
     }
 
-    /// The transition that waits longest, with its jobs, as the seat's hand. It is refused only when out of memory.
+    /// The transition that waits longest, with its jobs, and what is at their goals, as the seat's hand. It is refused only
+    /// when out of memory.
     pub fn take(&mut self, alloc: Global, seat: u32) -> Result<Taken<S>, OutOfMemory>
         requires seat { seat < most_seats }
         requires free { hand_at seat self.old.state.hands ≡ None }
@@ -182,11 +184,12 @@ impl<'s, S: Semiring, D: Direction<S>> Book<'s, S, D> {
     {
         let transitions = &self.found.transitions;
         match transitions.front() {
-            None if none_out(&self.out) => Ok(Taken::Closed),
-            None => Ok(Taken::Idle(seats_out(&self.out))),
+            None => Ok(self.at_rest()),
             Some(next) => {
                 let (direction, system) = (&self.direction, self.system);
                 let listed = list_jobs(alloc, direction, system, transitions, next)?;
+                let (semiring, places) = (system.semiring(), transitions.list());
+                let goals = list_goals(alloc, semiring, places, listed.as_slice())?;
                 let jobs = SharedJobs::new(alloc, listed)?;
                 let kept = jobs.share()?;
                 let place = next.place;
@@ -197,9 +200,21 @@ impl<'s, S: Semiring, D: Direction<S>> Book<'s, S, D> {
                     seat as usize,
                     Some(Holding { place, jobs: kept }),
                 );
-                Ok(Taken::Hand(Hand { seat, jobs }))
+                Ok(Taken::Hand(Hand { seat, jobs, goals }))
             }
         }
+    }
+
+    // What a seat is answered where nothing waits.
+    fn at_rest(&self) -> Taken<S>
+        requires { self.now.state.queue ≡ [] }
+        ensures taken { (seat : ℕ) → AnswersTake S.operations D.way self.now seat result self.now }
+        ensures works { HandWorks S.operations D.way self.now result }
+    {
+        if none_out(&self.out) {
+            return Taken::Closed;
+        }
+        Taken::Idle(seats_out(&self.out))
     }
 
     /// Takes the transition that waits longest, works out its jobs, and settles them in place, all for one seat: the same
@@ -228,8 +243,8 @@ impl<'s, S: Semiring, D: Direction<S>> Book<'s, S, D> {
     }
 
     /// Whether the book can settle this hand: the seat's hand lists its jobs, its side is the book's, and so are the
-    /// semiring and each rule that a job names. Nothing more is asked to settle it. No other rule is compared, and no memory is
-    /// taken.
+    /// semiring and each rule that a job names, and each goal that has the node that was seen has the transition that was seen.
+    /// Nothing more is asked to settle it. No other rule is compared, and no memory is taken.
     pub fn holds(&self, done: &Done<'_, S, D>) -> bool
         ensures { IsTrue result ↔ CanSettle D.way self.now done.now }
     {
@@ -244,12 +259,17 @@ impl<'s, S: Semiring, D: Direction<S>> Book<'s, S, D> {
         if !agree(one, other, jobs) {
             return false;
         }
-        lists(one.semiring(), &self.out, done.seat() as usize, jobs)
+        let (semiring, seat) = (one.semiring(), done.seat() as usize);
+        if !lists(semiring, &self.out, seat, jobs) {
+            return false;
+        }
+        let transitions = self.found.transitions.list();
+        still_tell(semiring, transitions, jobs, done.goals().as_slice())
     }
 
     /// Applies the jobs of a hand, in order: each goal's weight is combined with what the job is worth, and where that
-    /// changes the weight, the goal gets a new node and waits, last. Then the hand goes. It is refused only when out
-    /// of memory.
+    /// changes the weight, the goal gets a new node and waits, last. Then the hand goes. Where a goal still has the node that was
+    /// seen, what was worked out without the book is taken. It is refused only when out of memory.
     pub fn settle<'d>(
         &mut self,
         alloc: Global,
@@ -280,8 +300,8 @@ impl<'s, S: Semiring, D: Direction<S>> Book<'s, S, D> {
     {
         let seat = done.seat();
         let semiring = self.system.semiring();
-        let (jobs, worths) = (done.jobs().as_slice(), done.candidates().as_slice());
-        let plan = plan_jobs(alloc, semiring, &self.found, jobs, worths)?;
+        done.candidates();
+        let plan = plan_jobs(alloc, semiring, &self.found, done)?;
         let found = &mut *self.found;
         found.make_room(alloc, &plan)?;
         let count = plan.len() as u64;

@@ -1,6 +1,5 @@
 ghost use Rattle.std.specs.Prelude.{◌≡◌, ◌<◌, ℕ, IfOk, IfSome, length, option_and_then, option_map, slice_get};
 ghost use Rattle.semiring_laws.specs.Semiring.{Fits};
-ghost use Rattle.weighted_automata.specs.Entries.{entry_at};
 ghost use Rattle.saturation_laws.specs.Jobs.{node_of};
 ghost use Rattle.saturation_laws.specs.States.{weight_at, weight_of};
 ghost use Rattle.saturation_laws.specs.Openings.{AreKept, changed_weight};
@@ -27,16 +26,6 @@ pub fn weight_now<S: Semiring>(
     }
 }
 
-/// The node at a place.
-pub(crate) fn node_now<S: Semiring>(transitions: &Transitions<S>, place: Place) -> Option<u64>
-    ensures { result ≡ option_map node_of (entry_at place transitions.now.transitions) }
-{
-    match transitions.find(place) {
-        Some(k) => Some(transitions.entry(k).node),
-        None => None,
-    }
-}
-
 /// What a weight makes of the one that is there, where it changes it.
 pub(crate) fn weight_after<S: Semiring>(
     alloc: Global,
@@ -49,6 +38,20 @@ pub(crate) fn weight_after<S: Semiring>(
     ensures { IfOk result (λ o. o ≡ changed_weight (S.operations semiring.now) old.now weight.now) }
 {
     semiring.lowered(alloc, old, weight)
+}
+
+/// What a weight makes of zero, where it changes it.
+pub(crate) fn weight_from_zero<S: Semiring>(
+    alloc: Global,
+    semiring: &S,
+    weight: &S::W,
+) -> Result<Option<S::W>, OutOfMemory>
+    requires { Fits (S.operations semiring.now) weight.now }
+    ensures { let s = S.operations semiring.now in
+        IfOk result (λ o. o ≡ changed_weight s s.zero weight.now) }
+{
+    let zero = semiring.zero(alloc)?;
+    weight_after(alloc, semiring, &zero, weight)
 }
 
 /// What a weight makes of that of the transition with a number, as [`Transitions::find`] gives it, and of zero where there is
@@ -69,10 +72,7 @@ pub fn changed_at<S: Semiring>(
 {
     match at {
         Some(k) => weight_after(alloc, semiring, &transitions.entry(k).weight, weight),
-        None => {
-            let zero = semiring.zero(alloc)?;
-            weight_after(alloc, semiring, &zero, weight)
-        }
+        None => weight_from_zero(alloc, semiring, weight),
     }
 }
 

@@ -6,6 +6,7 @@
 mod book;
 mod change;
 mod found;
+mod goals;
 mod hand;
 mod hands;
 mod journal;
@@ -21,6 +22,7 @@ mod work;
 
 pub use book::Book;
 pub use change::{changed_at, node_at, weight_now};
+pub use goals::GoalList;
 pub use hand::{Done, Hand, Lowered, SeatSet, SettleFault, Taken, WeightList, WorkFault};
 pub use journal::Journal;
 pub use laws::bits_are_seats;

@@ -3,17 +3,19 @@ ghost use Rattle.semiring_laws.specs.Semiring.{Fits};
 ghost use Rattle.weighted_automata.specs.declared.transitions.Entry.{Entry as EntryValue};
 ghost use Rattle.weighted_automata.specs.Entries.{entry_at, index_where};
 ghost use Rattle.weighted_automata.specs.Places.{same_place, AreAmong};
-ghost use Rattle.saturation_laws.specs.Jobs.{node_of};
-ghost use Rattle.saturation_laws.specs.States.{weight_at};
 ghost use Rattle.saturation_laws.specs.Openings.{AreKept};
 ghost use Rattle.saturation_core.specs.private.Plans.{change_with, changes_with, put_from, lowering_of, plan_of, goal_of};
+ghost use Rattle.saturation_core.specs.Goals.{StillTell, StillTells};
 ghost use Rattle.saturation_core.specs.private.Steps.{IsKept};
+ghost use Rattle.saturation_core.specs.private.Worked.{IsChanged, IsSummed};
 ghost use Rattle.saturation_core.specs.private.Finding.{found_at};
 
-use crate::change::{node_now, weight_after, weight_now};
+use crate::change::{changed_at, node_at, weight_after};
 use crate::found::Found;
+use crate::goals::node_seen;
+use crate::hand::{Done, Worked};
 use key_rows::KeyRows;
-use saturation_laws::Job;
+use saturation_laws::Direction;
 use semiring_laws::Semiring;
 use std::alloc::Global;
 use std::marker::Model;
@@ -130,97 +132,146 @@ impl<S: Semiring> Plan<S> {
     }
 }
 
-// The weight at a place after a plan, and zero where there is none.
-fn weight_in<S: Semiring>(
+// What a job makes of its goal: the node that is there, and the new weight, where the job changes it.
+#[derive(Drop)]
+struct Changed<S: Semiring> {
+    before: Option<u64>,
+    weight: Option<S::W>,
+}
+
+// What was made of a weight that was seen, once more.
+fn copied<S: Semiring>(
+    alloc: Global,
+    semiring: &S,
+    sum: &Option<S::W>,
+) -> Result<Option<S::W>, OutOfMemory>
+    requires { IfSome sum.now (Fits (S.operations semiring.now)) }
+    ensures { IfOk result (λ o. o ≡ sum.now) }
+{
+    match sum {
+        Some(weight) => Ok(Some(semiring.copy(alloc, weight)?)),
+        None => Ok(None),
+    }
+}
+
+// What a job makes of the transition at its goal. What was made of that transition as it was seen is taken, where the goal has
+// the same node still.
+fn changed_now<S: Semiring>(
     alloc: Global,
     semiring: &S,
     transitions: &Transitions<S>,
-    plan: &Plan<S>,
-    place: Place,
-) -> Result<S::W, OutOfMemory>
-    requires now { (n : ℕ) × AreKept (S.operations semiring.now) transitions.now.transitions n }
-    requires then { (n : ℕ) × AreKept (S.operations semiring.now)
-        (put_from n plan.now transitions.now.transitions) (n + length plan.now) }
-    ensures { (n : ℕ) → IfOk result (λ w. w ≡ weight_at (S.operations semiring.now) place
-        (put_from n plan.now transitions.now.transitions)) }
+    worked: &Worked<'_, S>,
+) -> Result<Changed<S>, OutOfMemory>
+    requires kept { (n : ℕ) × AreKept (S.operations semiring.now) transitions.now.transitions n }
+    requires sums { IsSummed (S.operations semiring.now) worked.now }
+    requires tells { StillTells transitions.now.transitions worked.now.job.now.goal
+        worked.now.seen.now }
+    ensures { IfOk result (IsChanged (S.operations semiring.now) transitions.now.transitions
+        worked.now) }
 {
-    match plan.last_at(place) {
-        Some(k) => semiring.copy(alloc, &plan.step(k).weight),
-        None => weight_now(alloc, semiring, transitions, place),
-    }
+    let at = transitions.find(worked.job.goal);
+    let before = node_at(transitions, at);
+    let weight = if before == node_seen(worked.seen) {
+        copied(alloc, semiring, worked.sum)?
+    } else {
+        changed_at(alloc, semiring, transitions, at, worked.worth)?
+    };
+    Ok(Changed { before, weight })
 }
 
-// The node at a place after a plan, whose nodes are numbered from `nodes` on.
-fn node_in<S: Semiring>(
+// What a job makes of its goal after a plan, whose nodes are numbered from `nodes` on.
+fn changed_after<S: Semiring>(
+    alloc: Global,
+    semiring: &S,
     transitions: &Transitions<S>,
     nodes: u64,
     plan: &Plan<S>,
-    place: Place,
-) -> Option<u64>
-    requires { nodes < 2 ^ 63 }
-    ensures { result ≡ option_map node_of (entry_at place
-        (put_from nodes plan.now transitions.now.transitions)) }
+    worked: &Worked<'_, S>,
+) -> Result<Changed<S>, OutOfMemory>
+    requires few { nodes < 2 ^ 63 }
+    requires now { AreKept (S.operations semiring.now) transitions.now.transitions nodes }
+    requires then { AreKept (S.operations semiring.now)
+        (put_from nodes plan.now transitions.now.transitions) (nodes + length plan.now) }
+    requires sums { IsSummed (S.operations semiring.now) worked.now }
+    requires tells { StillTells transitions.now.transitions worked.now.job.now.goal
+        worked.now.seen.now }
+    ensures { IfOk result (IsChanged (S.operations semiring.now)
+        (put_from nodes plan.now transitions.now.transitions) worked.now) }
 {
-    match plan.last_at(place) {
-        Some(k) => Some(nodes + k),
-        None => node_now(transitions, place),
+    match plan.last_at(worked.job.goal) {
+        Some(k) => {
+            let old = &plan.step(k).weight;
+            let weight = weight_after(alloc, semiring, old, worked.worth)?;
+            Ok(Changed {
+                before: Some(nodes + k),
+                weight,
+            })
+        }
+        None => changed_now(alloc, semiring, transitions, worked),
     }
 }
 
-// What a job of this worth lowers after a plan, whose nodes are numbered from `nodes` on.
+// What a job that was worked out lowers after a plan, whose nodes are numbered from `nodes` on.
 fn lowering<S: Semiring>(
     alloc: Global,
     semiring: &S,
     transitions: &Transitions<S>,
     nodes: u64,
     plan: &Plan<S>,
-    job: &Job<S>,
-    worth: &S::W,
+    worked: &Worked<'_, S>,
 ) -> Result<Option<Planned<S>>, OutOfMemory>
     requires few { nodes < 2 ^ 63 }
-    requires worth { Fits (S.operations semiring.now) worth.now }
     requires now { AreKept (S.operations semiring.now) transitions.now.transitions nodes }
     requires then { AreKept (S.operations semiring.now)
         (put_from nodes plan.now transitions.now.transitions) (nodes + length plan.now) }
+    requires sums { IsSummed (S.operations semiring.now) worked.now }
+    requires tells { StillTells transitions.now.transitions worked.now.job.now.goal
+        worked.now.seen.now }
     ensures { IfOk result (λ o. o ≡ lowering_of (S.operations semiring.now)
-        (change_with job.now worth.now) (put_from nodes plan.now transitions.now.transitions)) }
+        (change_with worked.now.job.now worked.now.worth.now)
+        (put_from nodes plan.now transitions.now.transitions)) }
 {
-    let goal = job.goal;
-    let old = weight_in(alloc, semiring, transitions, plan, goal)?;
-    let Some(weight) = weight_after(alloc, semiring, &old, worth)? else {
+    let changed = changed_after(alloc, semiring, transitions, nodes, plan, worked)?;
+    let Changed { before, weight } = changed;
+    let Some(weight) = weight else {
         return Ok(None);
     };
-    let view = job.view();
+    let view = worked.job.view();
     let node = Node::Lower {
-        before: node_in(transitions, nodes, plan, goal),
+        before,
         rule: view.named_rule(),
         first: view.first_node(),
         second: view.second_node(),
     };
-    Ok(Some(Planned { goal, weight, node }))
+    Ok(Some(Planned {
+        goal: worked.job.goal,
+        weight,
+        node,
+    }))
 }
 
-/// What jobs of these worths lower, one after the other, where the first new node stands next in the graph.
-pub(crate) fn plan_jobs<S: Semiring>(
+/// What the jobs of a hand that was worked out lower, one after the other, where the first new node stands next in the graph.
+pub(crate) fn plan_jobs<S: Semiring, D: Direction<S>>(
     alloc: Global,
     semiring: &S,
     found: &Found<S>,
-    jobs: &[Job<S>],
-    worths: &[S::W],
+    done: &Done<'_, S, D>,
 ) -> Result<Plan<S>, OutOfMemory>
-    requires len { length worths.now ≡ length jobs.now }
-    requires worths { All (Fits (S.operations semiring.now)) worths.now }
+    requires semiring { semiring.now ≡ done.now.system.semiring }
+    requires len { length done.now.candidates ≡ length done.now.jobs }
+    requires worths { All (Fits (S.operations semiring.now)) done.now.candidates }
     requires kept { IsKept (S.operations semiring.now) found.now }
+    requires tell { StillTell found.now.transitions.transitions done.now.jobs done.now.goals }
     ensures { IfOk result (λ v. v ≡ plan_of (S.operations semiring.now)
-        (changes_with jobs.now worths.now) (length found.now.graph.nodes)
+        (changes_with done.now.jobs done.now.candidates) (length found.now.graph.nodes)
         found.now.transitions.transitions) }
 {
     let transitions = found.transitions.list();
     let nodes = found.graph.len();
     let mut plan = Plan::new(alloc);
-    for i in 0..jobs.len() {
-        let (job, worth) = (&jobs[i], &worths[i]);
-        let step = lowering(alloc, semiring, transitions, nodes, &plan, job, worth)?;
+    for k in 0..done.jobs().len() {
+        let worked = done.worked(k);
+        let step = lowering(alloc, semiring, transitions, nodes, &plan, &worked)?;
         plan.add(step)?;
     }
     Ok(plan)

@@ -3,6 +3,7 @@ use Rattle.std.specs.Prelude.{All}
 use Rattle.semiring_laws.specs.Semiring.{Fits}
 use Rattle.saturation_laws.specs.declared.event.Event.TheVariants.{Settle}
 use Rattle.saturation_laws.specs.Books.{BookValue, Makes, IsBook}
+use Rattle.saturation_core.specs.Goals.{StillTell}
 use Rattle.saturation_core.specs.Seats.{hands_out}
 use Rattle.saturation_core.specs.declared.found.Found.{Found}
 use Rattle.saturation_core.specs.private.Plans.{changes_with, AreNodesFrom, plan_of}
@@ -18,17 +19,17 @@ use Rattle.saturation_core.proofs.book.Book.apply.Goals as goal
 pub plan_jobs-requires-clause-worths : goal.plan_jobs-requires-clause-worths
 plan_jobs-requires-clause-worths g c =
     let r = ready g.S.Semiring.operations g.D.Direction.way g.met.D.Direction.same_candidate (book_view c.self.inside) c.args.self.now c.self.view_is c.args.done.now c.requires c.candidates.ensures.worked
-    c.seat-seat.result c.as_slice-jobs.result.now c.as_slice-worths.result.now c.seat-seat.ensures (c.as_slice-jobs.ensures ∙ c.jobs.ensures.value) (c.as_slice-worths.ensures ∙ c.candidates.ensures.value) in
-    subst (λ z. All (Fits (g.S.Semiring.operations z)) c.as_slice-worths.result.now) (sym c.semiring-semiring.ensures.value)
+    c.seat-seat.result c.args.done.now.jobs c.args.done.now.candidates c.seat-seat.ensures refl refl in
+    subst (λ z. All (Fits (g.S.Semiring.operations z)) c.args.done.now.candidates) (sym c.semiring-semiring.ensures.value)
     (worths_fit g.S.Semiring.operations g.S.Semiring.laws g.D.Direction.way g.met.D.Direction.laws
-    (book_view c.self.inside) c.self.invariant.0 c.seat-seat.result c.as_slice-jobs.result.now r.out c.as_slice-worths.result.now r.worths)
+    (book_view c.self.inside) c.self.invariant.0 c.seat-seat.result c.args.done.now.jobs r.out c.args.done.now.candidates r.worths)
 
 pub plan_jobs-requires-clause-len : goal.plan_jobs-requires-clause-len
 plan_jobs-requires-clause-len g c =
     let r = ready g.S.Semiring.operations g.D.Direction.way g.met.D.Direction.same_candidate (book_view c.self.inside) c.args.self.now c.self.view_is c.args.done.now c.requires c.candidates.ensures.worked
-    c.seat-seat.result c.as_slice-jobs.result.now c.as_slice-worths.result.now c.seat-seat.ensures (c.as_slice-jobs.ensures ∙ c.jobs.ensures.value) (c.as_slice-worths.ensures ∙ c.candidates.ensures.value) in
+    c.seat-seat.result c.args.done.now.jobs c.args.done.now.candidates c.seat-seat.ensures refl refl in
     worths_long g.S.Semiring.operations g.S.Semiring.laws g.D.Direction.way g.met.D.Direction.laws
-    (book_view c.self.inside) c.self.invariant.0 c.seat-seat.result c.as_slice-jobs.result.now r.out c.as_slice-worths.result.now r.worths
+    (book_view c.self.inside) c.self.invariant.0 c.seat-seat.result c.args.done.now.jobs r.out c.args.done.now.candidates r.worths
 
 pub plan_jobs-requires-clause-kept : goal.plan_jobs-requires-clause-kept
 plan_jobs-requires-clause-kept g c =
@@ -59,28 +60,28 @@ returns-in_err-make_room-clause-err g c =
 pub lower_all-requires-clause-nodes : goal.lower_all-requires-clause-nodes
 lower_all-requires-clause-nodes g c =
     let r = ready g.S.Semiring.operations g.D.Direction.way g.met.D.Direction.same_candidate (book_view c.self.inside) c.args.self.now c.self.view_is c.args.done.now c.requires c.candidates.ensures.worked
-    c.seat-seat.result c.as_slice-jobs.result.now c.as_slice-worths.result.now c.seat-seat.ensures (c.as_slice-jobs.ensures ∙ c.jobs.ensures.value) (c.as_slice-worths.ensures ∙ c.candidates.ensures.value) in
-    let planned = planned_is g.S.Semiring.operations g.D.Direction.way c.self.inside.system.now.semiring c.semiring-semiring.result.now (changes_with c.as_slice-jobs.result.now c.as_slice-worths.result.now) (length c.self.inside.found.value.graph.nodes)
+    c.seat-seat.result c.args.done.now.jobs c.args.done.now.candidates c.seat-seat.ensures refl refl in
+    let planned = planned_is g.S.Semiring.operations g.D.Direction.way c.self.inside.system.now.semiring c.semiring-semiring.result.now (changes_with c.args.done.now.jobs c.args.done.now.candidates) (length c.self.inside.found.value.graph.nodes)
     c.self.inside.found.value.transitions.transitions c.in_ok-plan.plan
-    (c.in_ok-plan.ensures ∙ ap (λ (f : Found _ _ _). plan_of (g.S.Semiring.operations c.semiring-semiring.result.now) (changes_with c.as_slice-jobs.result.now c.as_slice-worths.result.now) (length f.graph.nodes) f.transitions.transitions) c.deref.ensures)
+    (c.in_ok-plan.ensures ∙ ap (λ (f : Found _ _ _). plan_of (g.S.Semiring.operations c.semiring-semiring.result.now) (changes_with c.args.done.now.jobs c.args.done.now.candidates) (length f.graph.nodes) f.transitions.transitions) c.deref.ensures)
     c.semiring-semiring.ensures.value in
     subst (λ ns. AreNodesFrom (length ns) c.in_ok-plan.plan) (sym (ap (λ st. st.nodes) (c.make_room.ensures.state []) ∙ ap (λ (f : Found _ _ _). f.graph.nodes) c.deref_mut-found.ensures.value))
     (nodes_next g.S.Semiring.operations g.S.Semiring.laws g.D.Direction.way g.met.D.Direction.laws
-    (book_view c.self.inside) c.self.invariant.0 c.seat-seat.result c.as_slice-jobs.result.now r.out c.as_slice-worths.result.now r.worths
+    (book_view c.self.inside) c.self.invariant.0 c.seat-seat.result c.args.done.now.jobs r.out c.args.done.now.candidates r.worths
     (length c.self.inside.found.value.graph.nodes) c.in_ok-plan.plan refl planned)
 
 pub settle-requires-clause-seat : goal.settle-requires-clause-seat
 settle-requires-clause-seat g c =
     let r = ready g.S.Semiring.operations g.D.Direction.way g.met.D.Direction.same_candidate (book_view c.self.inside) c.args.self.now c.self.view_is c.args.done.now c.requires c.candidates.ensures.worked
-    c.seat-seat.result c.as_slice-jobs.result.now c.as_slice-worths.result.now c.seat-seat.ensures (c.as_slice-jobs.ensures ∙ c.jobs.ensures.value) (c.as_slice-worths.ensures ∙ c.candidates.ensures.value) in
+    c.seat-seat.result c.args.done.now.jobs c.args.done.now.candidates c.seat-seat.ensures refl refl in
     let seats : length c.self.inside.out.items ≡ 64 = c.self.invariant.0.lock.shape.seats in
-    omega (arith, seats, seat_out c.self.inside.out.items c.seat-seat.result c.as_slice-jobs.result.now r.out)
+    omega (arith, seats, seat_out c.self.inside.out.items c.seat-seat.result c.args.done.now.jobs r.out)
 
 pub settle-requires-clause-room : goal.settle-requires-clause-room
 settle-requires-clause-room g c =
     let r = ready g.S.Semiring.operations g.D.Direction.way g.met.D.Direction.same_candidate (book_view c.self.inside) c.args.self.now c.self.view_is c.args.done.now c.requires c.candidates.ensures.worked
-    c.seat-seat.result c.as_slice-jobs.result.now c.as_slice-worths.result.now c.seat-seat.ensures (c.as_slice-jobs.ensures ∙ c.jobs.ensures.value) (c.as_slice-worths.ensures ∙ c.candidates.ensures.value) in
-    omega (arith, one_out c.self.inside.out.items c.seat-seat.result c.as_slice-jobs.result.now r.out, c.self.invariant.1.journal)
+    c.seat-seat.result c.args.done.now.jobs c.args.done.now.candidates c.seat-seat.ensures refl refl in
+    omega (arith, one_out c.self.inside.out.items c.seat-seat.result c.args.done.now.jobs r.out, c.self.invariant.1.journal)
 
 -- room alone changes nothing that was found
 roomy : (g : _) (c : goal.After-put g) → Becomes c.self.inside.found.value (λ st. st) c.make_room.new.self
@@ -93,13 +94,13 @@ made : (g : _) (c : goal.After-put g) → Makes g.S.Semiring.operations g.D.Dire
     })
 made g c =
     let r = ready g.S.Semiring.operations g.D.Direction.way g.met.D.Direction.same_candidate (book_view c.self.inside) c.args.self.now c.self.view_is c.args.done.now c.requires c.candidates.ensures.worked
-    c.seat-seat.result c.as_slice-jobs.result.now c.as_slice-worths.result.now c.seat-seat.ensures (c.as_slice-jobs.ensures ∙ c.jobs.ensures.value) (c.as_slice-worths.ensures ∙ c.candidates.ensures.value) in
-    let planned = planned_is g.S.Semiring.operations g.D.Direction.way c.self.inside.system.now.semiring c.semiring-semiring.result.now (changes_with c.as_slice-jobs.result.now c.as_slice-worths.result.now) (length c.self.inside.found.value.graph.nodes)
+    c.seat-seat.result c.args.done.now.jobs c.args.done.now.candidates c.seat-seat.ensures refl refl in
+    let planned = planned_is g.S.Semiring.operations g.D.Direction.way c.self.inside.system.now.semiring c.semiring-semiring.result.now (changes_with c.args.done.now.jobs c.args.done.now.candidates) (length c.self.inside.found.value.graph.nodes)
     c.self.inside.found.value.transitions.transitions c.in_ok-plan.plan
-    (c.in_ok-plan.ensures ∙ ap (λ (f : Found _ _ _). plan_of (g.S.Semiring.operations c.semiring-semiring.result.now) (changes_with c.as_slice-jobs.result.now c.as_slice-worths.result.now) (length f.graph.nodes) f.transitions.transitions) c.deref.ensures)
+    (c.in_ok-plan.ensures ∙ ap (λ (f : Found _ _ _). plan_of (g.S.Semiring.operations c.semiring-semiring.result.now) (changes_with c.args.done.now.jobs c.args.done.now.candidates) (length f.graph.nodes) f.transitions.transitions) c.deref.ensures)
     c.semiring-semiring.ensures.value in
     let b = book_view c.self.inside in
-    settled g.S.Semiring.operations g.D.Direction.way b c.seat-seat.result c.as_slice-jobs.result.now c.as_slice-worths.result.now (length c.self.inside.found.value.graph.nodes) c.in_ok-plan.plan
+    settled g.S.Semiring.operations g.D.Direction.way b c.seat-seat.result c.args.done.now.jobs c.args.done.now.candidates (length c.self.inside.found.value.graph.nodes) c.in_ok-plan.plan
     r.out r.worths refl planned
     c.lower_all.new.self c.put.new.out.items (events_at c.lower_all.new.self.transitions.transitions c.settle.new.self.events)
     (put_on c.in_ok-plan.plan c.self.inside.found.value c.make_room.new.self c.lower_all.new.self (roomy g c) c.lower_all.ensures.state c.self.inside.out.items)
@@ -110,9 +111,9 @@ made g c =
 pub invariant_of-self-2 : goal.invariant_of-self-2
 invariant_of-self-2 g c =
     let r = ready g.S.Semiring.operations g.D.Direction.way g.met.D.Direction.same_candidate (book_view c.self.inside) c.args.self.now c.self.view_is c.args.done.now c.requires c.candidates.ensures.worked
-    c.seat-seat.result c.as_slice-jobs.result.now c.as_slice-worths.result.now c.seat-seat.ensures (c.as_slice-jobs.ensures ∙ c.jobs.ensures.value) (c.as_slice-worths.ensures ∙ c.candidates.ensures.value) in
+    c.seat-seat.result c.args.done.now.jobs c.args.done.now.candidates c.seat-seat.ensures refl refl in
     let seats : length c.self.inside.out.items ≡ 64 = c.self.invariant.0.lock.shape.seats in
-    let one = one_out c.self.inside.out.items c.seat-seat.result c.as_slice-jobs.result.now r.out in
+    let one = one_out c.self.inside.out.items c.seat-seat.result c.args.done.now.jobs r.out in
     let now = ap hands_out c.put.ensures in
     let few = hands_out-seats c.self.inside.out.items c.put.new.out.items c.seat-seat.result _ c.put.ensures in (
       event_keeps g.S.Semiring.operations g.S.Semiring.laws g.D.Direction.way g.met.D.Direction.laws
@@ -142,3 +143,12 @@ returns-clause-count g c =
     let all = settled_nodes g.S.Semiring.operations g.D.Direction.way b c.in_ok-plan.plan c.lower_all.new.self
     (put_on c.in_ok-plan.plan c.self.inside.found.value c.make_room.new.self c.lower_all.new.self (roomy g c) c.lower_all.ensures.state c.self.inside.out.items) in
     omega (arith, was, all)
+
+pub plan_jobs-requires-clause-semiring : goal.plan_jobs-requires-clause-semiring
+plan_jobs-requires-clause-semiring g c =
+    c.semiring-semiring.ensures.value ∙ ap (λ (b : BookValue _ _ _ _). b.system.semiring) c.self.view_is ∙ c.requires.semiring
+
+pub plan_jobs-requires-clause-tell : goal.plan_jobs-requires-clause-tell
+plan_jobs-requires-clause-tell g c =
+    subst (λ (f : Found _ _ _). StillTell f.transitions.transitions c.args.done.now.jobs c.args.done.now.goals) (sym c.deref.ensures)
+    (subst (λ (b : BookValue _ _ _ _). StillTell b.state.transitions c.args.done.now.jobs c.args.done.now.goals) (sym c.self.view_is) c.requires.goals)

@@ -1,14 +1,16 @@
-use Rattle.std.proofs.Common.{◌≡◌, ◌<◌, ◌≤◌, ◌+◌, [], ◌∷◌, sym, ap, ◌∙◌, subst, length, drop, List, arith}
-use Rattle.std.specs.Prelude.{MatchOption, IfSome, Some}
+use Rattle.std.proofs.Common.{◌≡◌, ◌<◌, ◌≤◌, ◌+◌, [], ◌∷◌, sym, ap, ap₂, ◌∙◌, subst, length, drop, List, arith}
+use Rattle.std.specs.Prelude.{MatchOption, IfSome, Option, Some}
 use Rattle.weighted_automata.specs.declared.transitions.Entry.{Entry}
-use Rattle.weighted_automata.specs.Entries.{entry_at, index_at}
+use Rattle.weighted_automata.specs.Entries.{index_at}
 use Rattle.witness_graph.specs.declared.node.Node.{Node}
 use Rattle.saturation_laws.specs.declared.event.Event.TheVariants.{Take}
 use Rattle.saturation_laws.specs.declared.job.Job.{Job}
 use Rattle.saturation_core.specs.declared.hand.Hand.{Hand}
-use Rattle.saturation_laws.specs.States.{hand_at, jobs_at}
+use Rattle.saturation_laws.specs.States.{hand_at}
 use Rattle.saturation_laws.specs.Books.{BookValue, Makes, CanWork}
-use Rattle.saturation_laws.specs.Ways.{HaveFitWeights, jobs_of_place}
+use Rattle.saturation_laws.specs.Openings.{AreKept}
+use Rattle.saturation_laws.specs.Ways.{HaveFitWeights, jobs_of_place, worths_of}
+use Rattle.saturation_core.specs.Goals.{goals_of, CanSum}
 use Rattle.saturation_core.specs.declared.found.Found.{Found}
 use Rattle.saturation_core.specs.BookView.{book_view}
 use Rattle.saturation_laws.proofs.CallerLemmas.{book_fits, event_keeps, taken_works, taken}
@@ -16,6 +18,8 @@ use Rattle.saturation_core.specs.declared.queued.NumberedPlace.{NumberedPlace}
 use Rattle.saturation_core.specs.private.Written.{AreThere, events_at}
 use Rattle.saturation_core.proofs.JournalLemmas.{take_then, take_there}
 use Rattle.saturation_core.proofs.HandLemmas.{hands_out-seats, hands_out-set, moved, popped}
+use Rattle.saturation_core.proofs.SeenLemmas.{sums_begin}
+use Rattle.saturation_core.proofs.SettleBook.{book_keeps, on_refusal, taken_worths}
 use Rattle.saturation_core.proofs.book.Book.take.Goals as goal
 
 -- no transition changes
@@ -82,15 +86,29 @@ invariant_of-self-in-Some g c =
           (take_there c.self.inside.found.value.transitions.transitions c.self.inside.journal.events c.take.new.self.events c.args.seat c.in-Some.next.number c.in-Some.next.place (at g c) c.in_ok-take-in-Some.ensures.ok c.self.invariant.3),
     )
 
+-- what is listed is what the place gives
+listed_at : (g : _) (c : goal.After-put g) → c.as_slice.result.now
+    ≡ jobs_of_place g.S.Semiring.operations g.D.Direction.way c.self.inside.direction c.self.inside.system.now c.in-Some.next.place c.self.inside.found.value.transitions.transitions
+listed_at g c = c.as_slice.ensures ∙ listed g c
+
+-- and what was seen at the goals is what is there
+seen : (g : _) (c : goal.After-put g) → c.in_ok-goals-in-Some.goals
+    ≡ goals_of (jobs_of_place g.S.Semiring.operations g.D.Direction.way c.self.inside.direction c.self.inside.system.now c.in-Some.next.place c.self.inside.found.value.transitions.transitions) c.self.inside.found.value.transitions.transitions
+seen g c =
+    c.in_ok-goals-in-Some.ensures
+    ∙ ap (λ js. goals_of js c.list-places.result.now.transitions) (listed_at g c)
+    ∙ ap (goals_of (jobs_of_place g.S.Semiring.operations g.D.Direction.way c.self.inside.direction c.self.inside.system.now c.in-Some.next.place c.self.inside.found.value.transitions.transitions))
+    (c.list-places.ensures ∙ ap (λ (f : Found _ _ _). f.transitions.transitions) c.deref.ensures)
+
 pub returns-in_ok-take-in-Some-clause-taken : goal.returns-in_ok-take-in-Some-clause-taken
 returns-in_ok-take-in-Some-clause-taken g c =
     let new = moved (book_view c.self.inside) c.pop.new.self.transitions c.deref_mut.result.now.graph.nodes c.pop.new.self.queue c.put.new.out.items (events_at c.pop.new.self.transitions c.take.new.self.events) in
-    let hand : List (Job g.row.S.Denot g.row.S-W.Denot g.row.S-Ret.Denot) → Hand g.row.S.Denot g.row.S-W.Denot g.row.S-Ret.Denot = λ js. record { seat = c.args.seat; jobs = js } in
+    let hand : List (Job _ _ _) → List (Option (Entry _ _ _)) → Hand g.row.S.Denot g.row.S-W.Denot g.row.S-Ret.Denot = λ js gs. record { seat = c.args.seat; jobs = js; goals = gs } in
     let jobs : BookValue g.row.S.Denot g.row.S-W.Denot g.row.S-Ret.Denot g.row.D.Denot → List (Job g.row.S.Denot g.row.S-W.Denot g.row.S-Ret.Denot) =
-    λ b. jobs_at (g.S.Semiring.operations b.system.semiring) (g.D.Direction.way.tables b.direction b.system) (entry_at c.in-Some.next.place b.state.transitions) b.state.transitions in (
+    λ b. jobs_of_place g.S.Semiring.operations g.D.Direction.way b.direction b.system c.in-Some.next.place b.state.transitions in (
       c.in-Some.next.place,
       subst (λ b. Makes g.S.Semiring.operations g.D.Direction.way b (Take c.args.seat c.in-Some.next.place) new) c.self.view_is (made g c),
-      ap hand (c.in_ok-jobs-in-Some.ensures ∙ listed g c ∙ ap jobs c.self.view_is),
+      ap₂ hand (c.in_ok-jobs-in-Some.ensures ∙ listed g c) (seen g c) ∙ ap (λ b. hand (jobs b) (goals_of (jobs b) b.state.transitions)) c.self.view_is,
     )
 
 pub list_jobs-requires-clause-weights : goal.list_jobs-requires-clause-weights
@@ -99,16 +117,42 @@ list_jobs-requires-clause-weights g c =
     (book_fits g.S.Semiring.operations g.S.Semiring.laws g.D.Direction.way g.met.D.Direction.laws
     (book_view c.self.inside) c.self.invariant.0)
 
+pub list_goals-requires : goal.list_goals-requires
+list_goals-requires g c =
+    let n = length c.self.inside.found.value.graph.nodes in (
+      n,
+      subst (λ z. AreKept (g.S.Semiring.operations z) c.list-places.result.now.transitions n) (sym c.semiring-semiring.ensures.value)
+          (subst (λ ts. AreKept (g.S.Semiring.operations c.self.inside.system.now.semiring) ts n) (sym (c.list-places.ensures ∙ ap (λ (f : Found _ _ _). f.transitions.transitions) c.deref.ensures))
+          (book_keeps g.S.Semiring.operations g.S.Semiring.laws g.D.Direction.way g.met.D.Direction.laws (book_view c.self.inside) c.self.invariant.0)),
+    )
+
 pub returns-in_ok-take-in-Some-clause-works : goal.returns-in_ok-take-in-Some-clause-works
 returns-in_ok-take-in-Some-clause-works g c =
     let seats : length c.self.inside.out.items ≡ 64 = c.self.invariant.0.lock.shape.seats in
     let seat : c.args.seat < 64 = c.requires.seat in
     let b = book_view c.self.inside in
+    let s = g.S.Semiring.operations b.system.semiring in
+    let js = c.in_ok-jobs-in-Some.jobs in
     let Made : List (Entry _ _ _) → List Node → Type 0 = λ ts ns. Makes g.S.Semiring.operations g.D.Direction.way b (Take c.args.seat c.in-Some.next.place)
     (moved b ts ns c.pop.new.self.queue c.put.new.out.items (events_at ts c.take.new.self.events)) in
-    subst (λ b. CanWork g.S.Semiring.operations g.D.Direction.way b c.in_ok-jobs-in-Some.jobs) c.self.view_is
-    (taken_works g.S.Semiring.operations g.S.Semiring.laws g.D.Direction.way g.met.D.Direction.laws
+    let stays = subst (Made b.state.transitions) (ap (λ (f : Found _ _ _). f.graph.nodes) c.deref_mut.ensures.value)
+    (subst (λ ts. Made ts c.deref_mut.result.now.graph.nodes) (stay g c) (made g c)) in
+    let within : c.args.seat < length b.state.hands = omega (arith, seats, seat) in
+    let works = taken_works g.S.Semiring.operations g.S.Semiring.laws g.D.Direction.way g.met.D.Direction.laws
     b c.self.invariant.0 c.args.seat c.in-Some.next.place c.pop.new.self.queue c.put.new.out.items (events_at c.self.inside.found.value.transitions.transitions c.take.new.self.events)
-    (subst (Made b.state.transitions) (ap (λ (f : Found _ _ _). f.graph.nodes) c.deref_mut.ensures.value)
-    (subst (λ ts. Made ts c.deref_mut.result.now.graph.nodes) (stay g c) (made g c))) (omega (arith, seats, seat)) c.in_ok-kept-in-Some.kept c.in_ok-jobs-in-Some.jobs c.put.ensures
-    (sym c.in_ok-kept-in-Some.ensures))
+    stays within c.in_ok-kept-in-Some.kept js c.put.ensures (sym c.in_ok-kept-in-Some.ensures) in
+    let worths = taken_worths g.S.Semiring.operations g.S.Semiring.laws g.D.Direction.way g.met.D.Direction.laws
+    b c.self.invariant.0 c.args.seat c.in-Some.next.place b.state.transitions b.state.nodes c.pop.new.self.queue c.put.new.out.items (events_at c.self.inside.found.value.transitions.transitions c.take.new.self.events)
+    stays within c.in_ok-kept-in-Some.kept js c.put.ensures (sym c.in_ok-kept-in-Some.ensures) in
+    let goals = seen g c ∙ ap (λ ks. goals_of ks b.state.transitions) (sym (c.in_ok-jobs-in-Some.ensures ∙ listed g c)) in
+    let sums = sums_begin (g.S.Semiring.laws b.system.semiring) b.state.transitions (length b.state.nodes)
+    (book_keeps g.S.Semiring.operations g.S.Semiring.laws g.D.Direction.way g.met.D.Direction.laws b c.self.invariant.0) js c.in_ok-goals-in-Some.goals
+    (worths_of g.D.Direction.way b.direction b.system js) goals worths in
+    subst (λ (x : BookValue _ _ _ _). CanWork g.S.Semiring.operations g.D.Direction.way x js
+    × CanSum (g.S.Semiring.operations x.system.semiring) js c.in_ok-goals-in-Some.goals (worths_of g.D.Direction.way x.direction x.system js)) c.self.view_is (works, sums)
+
+pub returns-in_err-take-in-Some-clause-err : goal.returns-in_err-take-in-Some-clause-err
+returns-in_err-take-in-Some-clause-err g c =
+    let b = book_view c.self.inside in
+    on_refusal c.from_residual-in_err-take-in-Some.result
+    (ap (λ es. record b { journal = events_at c.self.inside.found.value.transitions.transitions es }) c.in_err-take-in-Some.ensures.err ∙ c.self.view_is)

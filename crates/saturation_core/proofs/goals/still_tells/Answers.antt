@@ -1,0 +1,9 @@
+use Rattle.std.proofs.Common.{sym, ◌∙◌}
+use Rattle.std.proofs.lemmas.Option.{slice_get_within}
+use Rattle.saturation_laws.proofs.CallerLemmas.{indexed}
+use Rattle.saturation_core.proofs.goals.still_tells.Goals as goal
+
+pub entry-entry-requires : goal.entry-entry-requires
+entry-entry-requires g c =
+    let there = indexed c.args.place c.args.transitions.now.transitions c.in-Some-Some.k (sym c.find.ensures.index ∙ c.in-Some-Some.is-0) in
+    slice_get_within c.args.transitions.now.transitions c.in-Some-Some.k there.0 there.1
