@@ -1,4 +1,5 @@
 mod AnswerLemmas
+mod ServeLemmas
 pub mod CallerLemmas
 mod ValueLemmas
 mod SharedLemmas

@@ -1,5 +1,5 @@
 -- What an answer to a query is, with the saturation that it comes from.
-use Rattle.std.specs.Prelude.{◌≡◌, ◌↔◌, ℕ, Bool, IsFalse, List, None, Some, IfSome, length, slice_get}
+use Rattle.std.specs.Prelude.{◌≡◌, ◌⊎◌, ◌↔◌, ℕ, Bool, IsFalse, List, None, Some, IfSome, length, slice_get}
 use Rattle.semiring_laws.specs.Semiring.{Operations}
 use Rattle.pushdown_rules.specs.Pushdown.{Pushdown}
 use Rattle.pushdown_rules.specs.Values.{value_of}
@@ -28,6 +28,10 @@ use Rattle.path_sum.specs.Sums.{ways_of}
 use Rattle.worker_pool.specs.Alone.{IsAlone}
 use Rattle.worker_pool.specs.Errands.{IsWorkedBySeats}
 use Rattle.worker_pool.specs.Workers.{IsWorkerCount}
+
+-- one worker, or as many as were asked for
+abbrev pub IsOneOrAll : ℕ → ℕ → Type 0
+IsOneOrAll workers count = (count ≡ 1) ⊎ (count ≡ workers)
 
 -- of the patterns where runs begin and where they end, the one that a saturation starts from
 abbrev pub opened_of : Side → PatternValue → PatternValue → PatternValue

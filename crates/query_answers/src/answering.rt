@@ -6,7 +6,7 @@ ghost use Rattle.pushdown_rules.specs.Pushdown.{Pushdown};
 ghost use Rattle.witness_graph.specs.declared.node.Side.{Side as SideValue};
 ghost use Rattle.worker_pool.specs.Workers.{IsWorkerCount};
 ghost use Rattle.query_answers.specs.Answering.{opened_of, summed_of, saturated_system};
-ghost use Rattle.query_answers.specs.Answering.{IsFinished, IsSaturated, IsAnswer};
+ghost use Rattle.query_answers.specs.Answering.{IsFinished, IsOneOrAll, IsSaturated, IsAnswer};
 
 use crate::Saturation;
 use crate::searches::{callees_have_values, saturate_for_values, searches_have_values};
@@ -37,9 +37,18 @@ fn by_side<'p>(side: Side, from: &'p Pattern, to: &'p Pattern) -> (&'p Pattern, 
     }
 }
 
+// How many workers saturate: one alone, where no listing is asked for.
+fn hired(listed: bool, workers: u32) -> u32
+    requires { IsWorkerCount workers }
+    ensures count { IsWorkerCount result }
+    ensures asked { IsOneOrAll workers result }
+{
+    if listed { workers } else { 1 }
+}
+
 /// The finished saturation from a pattern, by so many workers: backwards from where runs end, or forwards from where they
-/// begin. Forwards, where no listing is asked for, one worker makes a search, whatever their number, and calls the gate before
-/// each turn. Otherwise two workers or more have a thread each, and each worker calls the gate between taking a transition and
+/// begin. Where no listing is asked for one worker saturates, whatever their number, and calls the gate before each turn; forwards
+/// it makes a search. Otherwise two workers or more have a thread each, and each worker calls the gate between taking a transition and
 /// settling it. How many queries are asked of it says what is worth finding for all of them: no answer depends on it. Refused only
 /// when out of memory.
 pub fn saturate<
@@ -68,7 +77,8 @@ pub fn saturate<
     match side {
         Side::Pre => {
             let book = pre_opening(alloc, system, opened)?;
-            Ok(Saturation::Backward(saturate_book(rt, alloc, book, workers, gate)?))
+            let count = hired(listed, workers);
+            Ok(Saturation::Backward(saturate_book(rt, alloc, book, count, gate)?))
         }
         Side::Post => {
             if !listed {

@@ -3,6 +3,7 @@
 
 mod answering;
 mod forward;
+mod laws;
 mod reach;
 mod saturation;
 mod searches;
@@ -10,5 +11,6 @@ mod values;
 
 pub use answering::{answer, answer_over, saturate, value, value_over};
 pub use forward::ForwardSearch;
+pub use laws::one_worker_serves;
 pub use saturation::Saturation;
 pub use values::SharedSearch;

@@ -1,5 +1,6 @@
 mod AloneLemmas
 mod TurnLemmas
+mod SeenLemmas
 mod ReplayLemmas
 mod StepLemmas
 mod PassLemmas

@@ -1,6 +1,7 @@
 -- What a pass knows after a turn at a shared book.
 use Rattle.std.proofs.Common.{◌≡◌, ℕ, ◌<◌, List, [], ◌++◌, length, sym, ap, ap₂, ◌∙◌, subst}
-use Rattle.std.specs.Prelude.{Some}
+use Rattle.std.specs.Prelude.{Option, Some}
+use Rattle.weighted_automata.specs.declared.transitions.Entry.{Entry}
 use Rattle.std.proofs.lemmas.Option.{same_Some}
 use Rattle.std.proofs.lemmas.List.{append-nil, append_cancel_left}
 use Rattle.std.proofs.lemmas.List.Elements.{filter-append}
@@ -19,7 +20,7 @@ use Rattle.seat_lock.specs.Passes.{own_number, own_entries, joined_in, Grown, Ga
 use Rattle.seat_lock.proofs.CallerLemmas.{own-after, gave-new, each-own, grown-by, seen-grows}
 use Rattle.worker_pool.specs.declared.shared.Origin.{Origin}
 use Rattle.worker_pool.specs.Origins.{origin_of, state_after, IsClosedAfter}
-use Rattle.worker_pool.specs.Steps.{HasOut, IsOverBook}
+use Rattle.worker_pool.specs.Steps.{AreSeen, HasOut, IsOverBook}
 use Rattle.worker_pool.proofs.ReplayLemmas.{are_of_others}
 use Rattle.worker_pool.specs.Turns.{Keeps, HasMore, HoldsHand, IsOver}
 use Rattle.saturation_laws.specs.Ways.{Way}
@@ -43,8 +44,8 @@ module _ {S W Map D : Type 0} (v : View (Origin S D W Map) Event) (b : BookValue
 module _ {S W Map D : Type 0} (operations : S → Operations W Map) (way : Way S W Map D)
     (v : View (Origin S D W Map) Event) (b : BookValue S W Map D) (some : 0 < length v.claims) (fits : FitsView seat_of v (origin_of b) b.journal) where
   -- the next turn of a pass finds its hand
-  pub finds : (jobs : List (Job S W Map)) → HoldsHand operations way v jobs → HasOut operations way b (own_number v.claims) jobs
-  finds jobs k =
+  pub finds : (jobs : List (Job S W Map)) (goals : List (Option (Entry S W Map))) → HoldsHand operations way v jobs goals → HasOut operations way b (own_number v.claims) jobs goals
+  finds jobs goals k =
       let n = own_number v.claims in
       let rest = fits.1.0 in
       let same : k.origin ≡ origin_of b = same_Some k.origin (origin_of b) (sym k.based ∙ fits.0) in
@@ -58,6 +59,7 @@ module _ {S W Map D : Type 0} (operations : S → Operations W Map) (way : Way S
             (ap (λ es. es ++ of_pass seat_of n rest) (sym k.own) ∙ sym (filter-append (λ e. eqb (seat_of e) n) v.seen rest) ∙ ap (of_pass seat_of n) fits.1.1 ∙ own_of v b some fits));
         replays = ap (λ o. state_after operations way o v.seen) (sym same) ∙ k.replays;
         out = k.out;
+        seen = k.seen;
       }
 
 -- A turn of a pass, in which the book gets these events.
@@ -104,14 +106,15 @@ module _ {S W Map D : Type 0} (v h : View (Origin S D W Map) Event) (t : ℕ) (b
       replays_seen = ap (state_after operations way (origin_of b1)) gave.1 ∙ replays
 
       -- the hand that is out is the pass's
-      pub holds_hand : (jobs : List (Job S W Map)) → jobs_out (own_number v.claims) b1.state.hands ≡ Some jobs → HoldsHand operations way w jobs
-      holds_hand jobs out = record {
+      pub holds_hand : (jobs : List (Job S W Map)) (goals : List (Option (Entry S W Map))) → jobs_out (own_number v.claims) b1.state.hands ≡ Some jobs → AreSeen b1.state jobs goals → HoldsHand operations way w jobs goals
+      holds_hand jobs goals out seen = record {
         origin = origin_of b1;
         state = b1.state;
         based = gave.0 ∙ based;
         own = own_is;
         replays = replays_seen;
         out = ap (λ n. jobs_out n b1.state.hands) number_kept ∙ out;
+        seen = seen;
       }
 
       -- what was seen leads to a closed book

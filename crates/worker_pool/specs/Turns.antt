@@ -1,8 +1,9 @@
 -- What a turn of a worker makes of its pass.
-use Rattle.std.specs.Prelude.{◌≡◌, List, [], ◌∷◌, ◌++◌, Some, Bool, true, false}
+use Rattle.std.specs.Prelude.{◌≡◌, List, [], ◌∷◌, ◌++◌, Option, Some, Bool, true, false}
 use mathlib.Core.List.{IsPrefix}
 use Rattle.semiring_laws.specs.Semiring.{Operations}
 use Rattle.weighted_automata.specs.declared.place.Place.{Place}
+use Rattle.weighted_automata.specs.declared.transitions.Entry.{Entry}
 use Rattle.pushdown_rules.specs.Pushdown.{Pushdown}
 use Rattle.saturation_laws.specs.declared.event.Event.{Event}
 use Rattle.saturation_laws.specs.declared.event.Event.TheVariants.{Take, Settle, GiveBack}
@@ -17,7 +18,7 @@ use Rattle.worker_pool.specs.declared.asked.Asked.{Asked}
 use Rattle.worker_pool.specs.declared.asked.Asked.TheVariants.{Idle, Closed, Memory}
 use Rattle.worker_pool.specs.declared.asked.Asked.TheVariants.{Hand as InHand}
 use Rattle.worker_pool.specs.Origins.{state_after, IsClosedAfter}
-use Rattle.worker_pool.specs.Steps.{WorkFits}
+use Rattle.worker_pool.specs.Steps.{AreSeen, WorkFits}
 use Rattle.saturation_laws.specs.Ways.{Way}
 
 module _ {B E : Type 0} where
@@ -33,14 +34,15 @@ module _ {B E : Type 0} where
   HasMore es old new = own_entries new.claims ≡ own_entries old.claims ++ es
 
 module _ {S W Map D : Type 0} (operations : S → Operations W Map) (way : Way S W Map D) where
-  -- After what the pass has seen, with its own events and no others of its seat, its seat has a hand with these jobs.
-  pub record HoldsHand (v : View (Origin S D W Map) Event) (jobs : List (Job S W Map)) : Type 0 where
+  -- After what the pass has seen, with its own events and no others of its seat, its seat has a hand with these jobs, at whose goals this was seen.
+  pub record HoldsHand (v : View (Origin S D W Map) Event) (jobs : List (Job S W Map)) (goals : List (Option (Entry S W Map))) : Type 0 where
     pub origin : Origin S D W Map
     pub state : CoreState S W Map
     pub based : v.base ≡ Some origin
     pub own : of_pass seat_of (own_number v.claims) v.seen ≡ own_entries v.claims
     pub replays : state_after operations way origin v.seen ≡ Some state
     pub out : jobs_out (own_number v.claims) state.hands ≡ Some jobs
+    pub seen : AreSeen state jobs goals
 
 module _ {S W Map D : Type 0} where
   -- the system and the direction of the pass's base are these
@@ -52,7 +54,7 @@ module _ {S W Map D : Type 0} (operations : S → Operations W Map) (way : Way S
   abbrev pub HasAsked : Asked S D W Map → View (Origin S D W Map) Event → View (Origin S D W Map) Event → Type 0
   HasAsked (InHand hand system direction) old new =
       ((x : Place) × HasMore (Take (own_number old.claims) x ∷ []) old new)
-      × (hand.seat ≡ own_number old.claims) × HoldsHand operations way new hand.jobs × WorkFits operations way system.now direction hand.jobs × IsOver old system.now direction
+      × (hand.seat ≡ own_number old.claims) × HoldsHand operations way new hand.jobs hand.goals × WorkFits operations way system.now direction hand × IsOver old system.now direction
   HasAsked Idle old new = HasMore [] old new
   HasAsked Closed old new = HasMore [] old new × ((o : Origin S D W Map) → old.base ≡ Some o → IsClosedAfter operations way o new.seen)
   HasAsked Memory old new = HasMore [] old new

@@ -1,8 +1,8 @@
 //! What a worker does at a book, whoever lends it.
-ghost use Rattle.std.specs.Prelude.{◌≡◌, ◌<◌, true, List, Some, MatchBool};
+ghost use Rattle.std.specs.Prelude.{◌≡◌, ◌<◌, true, Some, MatchBool};
 ghost use Rattle.wpds_base.specs.Limits.{most_seats};
 ghost use Rattle.saturation_laws.specs.declared.event.Event.TheVariants.{Settle, GiveBack};
-ghost use Rattle.saturation_laws.specs.declared.job.Job.{Job};
+ghost use Rattle.saturation_core.specs.declared.hand.Hand.{Hand as HandValue};
 ghost use Rattle.saturation_laws.specs.Books.{Makes, replayed};
 ghost use Rattle.seat_lock.specs.Queue.{of_pass};
 ghost use Rattle.saturation_laws.specs.States.{seat_of};
@@ -66,7 +66,7 @@ pub(crate) fn settle<'s, S: Semiring, D: Direction<S>>(
     done: Done<'s, S, D>,
     wake: &mut u32,
 ) -> bool
-    requires out { HasOut S.operations D.way book.old done.seat done.jobs }
+    requires out { HasOut S.operations D.way book.old done.seat done.jobs done.goals }
     requires over { IsOverBook book.old done.system done.direction }
     ensures { MatchBool result
         (Makes S.operations D.way book.old (Settle done.entry.seat) book.new)
@@ -89,7 +89,8 @@ pub(crate) fn settle<'s, S: Semiring, D: Direction<S>>(
 
 /// Gives a hand back.
 pub(crate) fn give_back<S: Semiring, D: Direction<S>>(book: &mut Book<'_, S, D>, seat: u32)
-    requires out { (jobs : List (Job S S.W S.Ret)) × HasOut S.operations D.way book.old seat jobs }
+    requires out { (hand : HandValue S S.W S.Ret)
+        × HasOut S.operations D.way book.old seat hand.jobs hand.goals }
     ensures { Makes S.operations D.way book.old (GiveBack seat) book.new }
 {
     book.system();

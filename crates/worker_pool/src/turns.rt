@@ -1,6 +1,6 @@
 //! The turns that a worker takes at a book under a lock.
-ghost use Rattle.std.specs.Prelude.{◌≡◌, true, false, List};
-ghost use Rattle.saturation_laws.specs.declared.job.Job.{Job};
+ghost use Rattle.std.specs.Prelude.{◌≡◌, true, false};
+ghost use Rattle.saturation_core.specs.declared.hand.Hand.{Hand as HandValue};
 ghost use Rattle.seat_lock.specs.Words.{mine, IsOf};
 ghost use Rattle.worker_pool.specs.Events.{is_ended};
 ghost use Rattle.worker_pool.specs.Turns.{Keeps, HoldsHand, IsOver, HasAsked, HasSettled};
@@ -45,7 +45,7 @@ pub(crate) fn settle<'s, H: Wait, S: Semiring, D: Direction<S>>(
     done: Done<'s, S, D>,
 ) -> (Pass<Shared<'s, S, D>>, bool)
     requires lock { IsOf pass lock.now }
-    requires hand { HoldsHand S.operations D.way pass.seat.me.0 done.jobs }
+    requires hand { HoldsHand S.operations D.way pass.seat.me.0 done.jobs done.goals }
     requires seat { done.seat ≡ pass.number }
     requires over { IsOver pass.seat.me.0 done.system done.direction }
     ensures pass { IsSame pass.entry result.0 }
@@ -65,8 +65,8 @@ pub(crate) fn give_back<'s, H: Wait, S: Semiring, D: Direction<S>>(
     pass: Pass<Shared<'s, S, D>>,
 ) -> Pass<Shared<'s, S, D>>
     requires lock { IsOf pass lock.now }
-    requires hand { (jobs : List (Job S S.W S.Ret))
-        × HoldsHand S.operations D.way pass.seat.me.0 jobs }
+    requires hand { (hand : HandValue S S.W S.Ret)
+        × HoldsHand S.operations D.way pass.seat.me.0 hand.jobs hand.goals }
     ensures pass { IsSame pass.entry result }
     ensures keeps { Keeps pass.entry.seat.me.0 result.seat.me.0 }
     ensures given { HasSettled false pass.entry.seat.me.0 result.seat.me.0 }

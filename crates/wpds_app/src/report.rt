@@ -8,7 +8,7 @@ ghost use Rattle.document_systems.specs.FactWeights.{genkill_kind};
 ghost use Rattle.document_systems.specs.RelationWeights.{relation_kind};
 ghost use Rattle.document_systems.specs.Systems.{system_of, side_of, AreTaken};
 ghost use Rattle.worker_pool.specs.Workers.{IsWorkerCount};
-ghost use Rattle.query_answers.specs.Answering.{IsFinished, IsSaturated, saturated_system};
+ghost use Rattle.query_answers.specs.Answering.{IsFinished, IsOneOrAll, IsSaturated, saturated_system};
 ghost use Rattle.query_answers.specs.Shared.{shared_system};
 ghost use Rattle.report_text.specs.Listings.{query_line as line_of_query};
 ghost use Rattle.report_text.specs.Reports.{lists, query_text as text_of_query};
@@ -25,7 +25,7 @@ use document_systems::{DocumentWeights, Names, pattern_from, system_from};
 use genkill_weights::with_width;
 use path_sum::Answer;
 use pushdown_rules::System;
-use query_answers::{Saturation, SharedSearch, answer_over, saturate, value_over};
+use query_answers::{Saturation, SharedSearch, answer_over, one_worker_serves, saturate, value_over};
 use relation_weights::Relations;
 use report_text::{Options, query_line, query_text};
 use semiring_laws::Reach;
@@ -181,6 +181,22 @@ fn keep_alike<S: DocumentWeights>(
     Ok(())
 }
 
+// How many workers saturate. Only relations are heavy enough: with other weights, to hand a transition over costs more than what
+// it gives, so one worker does all.
+fn hired(weights: &WeightsLine, workers: u32) -> u32
+    requires { IsWorkerCount workers }
+    ensures count { IsWorkerCount result }
+    ensures asked { IsOneOrAll workers result }
+{
+    match weights {
+        WeightsLine::Relation => workers,
+        WeightsLine::Reach
+        | WeightsLine::Cost { .. }
+        | WeightsLine::GenKill
+        | WeightsLine::Copy => 1,
+    }
+}
+
 // The lines of the query at a place. Those of the later queries that start from the same pattern are kept: one saturation
 // serves them all.
 fn lines_by_saturation<
@@ -212,13 +228,14 @@ fn lines_by_saturation<
     let opened = opened_text(options.by, query);
     let pattern = pattern_from(alloc, system, opened)?;
     let count = count_alike(document.queries.as_slice(), options.by, opened, place);
+    one_worker_serves::<S>();
     let saturation = saturate(
         crew.rt,
         alloc,
         system,
         options.by,
         options.lists(),
-        options.workers,
+        hired(&document.weights, options.workers),
         &pattern,
         count,
         crew.gate,

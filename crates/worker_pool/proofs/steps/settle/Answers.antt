@@ -9,9 +9,8 @@ use Rattle.worker_pool.proofs.steps.settle.Goals as goal
 
 pub settle-requires : goal.settle-requires
 settle-requires g c =
-    settles_out g.S.Semiring.operations g.D.Direction.way c.args.book.now c.args.done
-    (found_again g.S.Semiring.operations g.D.Direction.way c.args.book.now c.system.ensures.book.replays c.args.done.seat c.args.done.jobs c.requires.out)
-    c.requires.over.0 c.requires.over.1
+    let again = found_again g.S.Semiring.operations g.D.Direction.way c.args.book.now c.system.ensures.book.replays c.args.done.seat c.args.done.jobs c.args.done.goals c.requires.out in
+    settles_out g.S.Semiring.operations g.D.Direction.way c.args.book.now c.args.done again.0 again.1 c.requires.over.0 c.requires.over.1
 
 pub give_back-requires : goal.give_back-requires
 give_back-requires g c =
@@ -19,7 +18,7 @@ give_back-requires g c =
     record {
       out = subst (λ (b : _). IsSome (hand_at c.seat-seat.result b.state.hands)) (sym same)
           (subst (λ k. IsSome (hand_at k c.args.book.now.state.hands)) (sym c.seat-seat.ensures)
-          (can_give g.S.Semiring.operations g.D.Direction.way c.args.book.now c.system.ensures.book.replays c.args.done.seat c.args.done.jobs c.requires.out));
+          (can_give g.S.Semiring.operations g.D.Direction.way c.args.book.now c.system.ensures.book.replays c.args.done.seat c.args.done.jobs c.args.done.goals c.requires.out));
     }
 
 pub returns : goal.returns

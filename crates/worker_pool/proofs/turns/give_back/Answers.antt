@@ -9,12 +9,12 @@ use Rattle.worker_pool.proofs.turns.give_back.Goals as goal
 pub give_back-requires : goal.give_back-requires
 give_back-requires g c =
     let hand = c.requires.hand in
-    let out = finds g.S.Semiring.operations g.D.Direction.way c.args.pass.seat.me.0 c.turn-held.result.value.book c.args.pass.is.some_claim c.turn-held.ensures.fits hand.0 hand.1 in
+    let out = finds g.S.Semiring.operations g.D.Direction.way c.args.pass.seat.me.0 c.turn-held.result.value.book c.args.pass.is.some_claim c.turn-held.ensures.fits hand.0.jobs hand.0.goals hand.1 in
     record {
       out = (
         hand.0,
-        subst (λ z. HasOut g.S.Semiring.operations g.D.Direction.way z.book c.number-seat.result hand.0) (sym c.value.ensures.value)
-            (subst (λ (k : ℕ). HasOut g.S.Semiring.operations g.D.Direction.way c.turn-held.result.value.book k hand.0) (c.args.pass.is.names ∙ sym c.number-seat.ensures) out),
+        subst (λ z. HasOut g.S.Semiring.operations g.D.Direction.way z.book c.number-seat.result hand.0.jobs hand.0.goals) (sym c.value.ensures.value)
+            (subst (λ (k : ℕ). HasOut g.S.Semiring.operations g.D.Direction.way c.turn-held.result.value.book k hand.0.jobs hand.0.goals) (c.args.pass.is.names ∙ sym c.number-seat.ensures) out),
       );
     }
 

@@ -9,9 +9,9 @@ use Rattle.worker_pool.proofs.turns.settle.Goals as goal
 
 pub settle-settled-requires-clause-out : goal.settle-settled-requires-clause-out
 settle-settled-requires-clause-out g c =
-    let out = finds g.S.Semiring.operations g.D.Direction.way c.args.pass.seat.me.0 c.turn-held.result.value.book c.args.pass.is.some_claim c.turn-held.ensures.fits c.args.done.jobs c.requires.hand in
-    subst (λ z. HasOut g.S.Semiring.operations g.D.Direction.way z.book c.args.done.seat c.args.done.jobs) (sym c.value.ensures.value)
-    (subst (λ (k : ℕ). HasOut g.S.Semiring.operations g.D.Direction.way c.turn-held.result.value.book k c.args.done.jobs) (c.args.pass.is.names ∙ sym c.requires.seat) out)
+    let out = finds g.S.Semiring.operations g.D.Direction.way c.args.pass.seat.me.0 c.turn-held.result.value.book c.args.pass.is.some_claim c.turn-held.ensures.fits c.args.done.jobs c.args.done.goals c.requires.hand in
+    subst (λ z. HasOut g.S.Semiring.operations g.D.Direction.way z.book c.args.done.seat c.args.done.jobs c.args.done.goals) (sym c.value.ensures.value)
+    (subst (λ (k : ℕ). HasOut g.S.Semiring.operations g.D.Direction.way c.turn-held.result.value.book k c.args.done.jobs c.args.done.goals) (c.args.pass.is.names ∙ sym c.requires.seat) out)
 
 pub settle-settled-requires-clause-over : goal.settle-settled-requires-clause-over
 settle-settled-requires-clause-over g c =
