@@ -1,23 +1,17 @@
 -- One worker may do what was asked of many.
-use Rattle.std.proofs.Common.{◌≡◌, inl, inr, ℕ, ◌+◌, ◌<◌, ◌≤◌, Bool, List, [], ◌∷◌, refl, subst, sym, arith}
+use Rattle.std.proofs.Common.{◌≡◌, inl, inr, ℕ, ◌<◌, ◌≤◌, Bool, subst, arith}
 use Rattle.semiring_laws.specs.Semiring.{Operations}
 use Rattle.pushdown_rules.specs.Pushdown.{Pushdown}
 use Rattle.config_patterns.specs.Membership.{PatternValue}
 use Rattle.witness_graph.specs.declared.node.Side.{Side}
 use Rattle.witness_graph.specs.declared.node.Side.TheVariants.{Pre as Backward, Post as Forward}
-use Rattle.saturation_laws.specs.declared.event.Event.{Event}
-use Rattle.saturation_laws.specs.States.{seat_of}
 use Rattle.saturation_laws.specs.Books.{BookValue}
 use Rattle.saturation_laws.specs.Ways.{Way}
-use Rattle.seat_lock.specs.Queue.{Each}
 use Rattle.worker_pool.specs.Workers.{IsWorkerCount}
+use Rattle.worker_pool.proofs.CallerLemmas.{more_seats}
 use Rattle.query_answers.specs.declared.saturation.Saturation.{Saturation}
 use Rattle.query_answers.specs.declared.saturation.Saturation.TheVariants.{Backward as BackwardOf, Forward as ForwardOf, Values as ValuesOf, Callees as CalleesOf}
 use Rattle.query_answers.specs.Answering.{IsOneOrAll, IsSaturated, IsSaturatedFrom}
-
-seats_more : (m n : ℕ) → m ≤ n → (es : List Event) → Each (λ e. seat_of e < m) es → Each (λ e. seat_of e < n) es
-seats_more m n more [] each = tt
-seats_more m n more (e ∷ es) each = let here : seat_of e < m = each.0 in let there : seat_of e < n = omega (arith, here, more) in (there, seats_more m n more es each.1)
 
 module _ {S W Map D : Type 0} (operations : S → Operations W Map) (way : Way S W Map D) (p : Pushdown S W Map) where
   pub serves : (workers count : ℕ) (pattern : PatternValue) (b : BookValue S W Map D) → IsWorkerCount workers → IsOneOrAll workers count → IsSaturatedFrom operations way p count pattern b → IsSaturatedFrom operations way p workers pattern b
@@ -30,7 +24,7 @@ module _ {S W Map D : Type 0} (operations : S → Operations W Map) (way : Way S
           opening = is.opening;
           book = is.book;
           closed = is.closed;
-          seats = record { seats = seats_more count workers more b.journal is.seats.seats; each = is.seats.each };
+          seats = more_seats count workers more b.journal is.seats;
           alone = λ _. is.alone one;
         }
     | inr all ↦ subst (λ n. IsSaturatedFrom operations way p n pattern b) all is

@@ -9,4 +9,6 @@ mod DrivingLemmas
 mod ErrandLemmas
 mod GiveLemmas
 mod ClosingLemmas
+mod SeatLemmas
+pub mod CallerLemmas
 mod Examples
