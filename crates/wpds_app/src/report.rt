@@ -25,7 +25,9 @@ use document_systems::{DocumentWeights, Names, pattern_from, system_from};
 use genkill_weights::with_width;
 use path_sum::Answer;
 use pushdown_rules::System;
-use query_answers::{Saturation, SharedSearch, answer_over, one_worker_serves, saturate, value_over};
+use query_answers::{
+    Saturation, SharedSearch, answer_over, one_worker_serves, saturate, value_over,
+};
 use relation_weights::Relations;
 use report_text::{Options, query_line, query_text};
 use semiring_laws::Reach;
@@ -190,10 +192,8 @@ fn hired(weights: &WeightsLine, workers: u32) -> u32
 {
     match weights {
         WeightsLine::Relation => workers,
-        WeightsLine::Reach
-        | WeightsLine::Cost { .. }
-        | WeightsLine::GenKill
-        | WeightsLine::Copy => 1,
+        WeightsLine::Reach | WeightsLine::Cost { .. } | WeightsLine::GenKill | WeightsLine::Copy =>
+            1,
     }
 }
 
