@@ -97,21 +97,23 @@ fn one_worker(rt: HostRuntime) -> Result<(), OutOfMemory> {
     Ok(())
 }
 
+// No rule changes x, so that each run leads from a value to itself.
 const GROWTH: &str = "wpds 1
-weights cost 100
+weights relation
 controls p
 symbols a
-rule p a -> p a a : 1
-rule p a -> p : 0
+variables x
+rule p a -> p a a
+rule p a -> p
 query p: a => p: {a}*
 ";
 
-const GROWTH_REPORT: &str = "query 1: 0
+const GROWTH_REPORT: &str = "query 1: relation x' 1 0; x' 0 1; x 2 3
   set 0 = empty
   answer set 0
 ";
 
-// Two workers have hands out at once, where a listing is asked for. Without the workers, or with all their work on one thread, the gate
+// Two workers have hands out at once, where relations are listed. Without the workers, or with all their work on one thread, the gate
 // would hold the first of them in vain.
 #[test]
 fn two_workers_meet(rt: HostRuntime) -> Result<(), OutOfMemory> {
