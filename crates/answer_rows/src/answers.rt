@@ -8,7 +8,7 @@ use std::sync::Wait;
 use std::test::Fail;
 use std::thread::Threads;
 use witness_graph::{Listing, Node, Side};
-use wpds_port::OpenGate;
+use wpds_base::OpenGate;
 
 // A query: a control and items to start from, a control and items to end in.
 pub(crate) type Query = (u32, Items<'static>, u32, Items<'static>);

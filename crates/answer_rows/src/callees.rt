@@ -8,7 +8,7 @@ use std::sync::Wait;
 use std::test::Fail;
 use std::thread::Threads;
 use witness_graph::Side;
-use wpds_port::OpenGate;
+use wpds_base::OpenGate;
 
 // The fifth symbol.
 const E: (&[u32], bool) = (&[4], false);

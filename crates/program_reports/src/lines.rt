@@ -8,8 +8,7 @@ ghost use Rattle.program_reports.specs.private.Verdicts.{verdict};
 use report_text::{Options, listed, query_line};
 use std::alloc::Global;
 use witness_graph::Listing;
-use wpds_base::OutOfMemory;
-use wpds_port::Text;
+use wpds_base::{OutOfMemory, Text};
 
 // What is told of a point that is reached or not.
 fn verdict(alloc: Global, reached: bool) -> Result<Text, OutOfMemory>

@@ -22,8 +22,7 @@ use std::alloc::Global;
 use std::sync::Wait;
 use std::thread::Threads;
 use witness_graph::Side;
-use wpds_base::OutOfMemory;
-use wpds_port::{Gate, Text};
+use wpds_base::{Gate, OutOfMemory, Text};
 
 // The saturation for a point, of which so many queries are asked.
 fn saturation_for<'s, H: Threads + Wait + Sync, G: Gate>(

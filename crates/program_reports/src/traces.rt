@@ -14,8 +14,7 @@ use report_text::MOST_TRACED;
 use state_text::trace_text;
 use std::alloc::Global;
 use witness_graph::Listing;
-use wpds_base::OutOfMemory;
-use wpds_port::Text;
+use wpds_base::{OutOfMemory, Text};
 
 // How a trace is written, or that it is too long.
 fn shown(alloc: Global, asked: &Asked<'_>, trace: &FirstTrace) -> Result<Text, OutOfMemory>

@@ -23,8 +23,7 @@ use query_answers::SharedSearch;
 use relation_weights::{Relation, Relations};
 use semiring_laws::Semiring;
 use std::alloc::Global;
-use wpds_base::OutOfMemory;
-use wpds_port::{Gate, Text};
+use wpds_base::{Gate, OutOfMemory, Text};
 
 // How many queries are answered together at most, and how many edges their patterns may have.
 const MOST_QUERIES: u64 = 100;

@@ -22,8 +22,7 @@ use std::sync::Wait;
 use std::thread::Threads;
 use witness_graph::Side;
 use worker_pool::saturate as saturate_book;
-use wpds_base::OutOfMemory;
-use wpds_port::Gate;
+use wpds_base::{Gate, OutOfMemory};
 
 // Of the patterns where runs begin and where they end, the one that a saturation starts from, and the one that is summed
 // over.

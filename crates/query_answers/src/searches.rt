@@ -27,8 +27,7 @@ use saturation_core::Search;
 use semiring_laws::Semiring;
 use std::alloc::Global;
 use worker_pool::{one_worker_closes, search_alone};
-use wpds_base::OutOfMemory;
-use wpds_port::Gate;
+use wpds_base::{Gate, OutOfMemory};
 
 // The search forwards from a pattern, to its end.
 fn searched_forward<'s, S: Semiring, G: Gate>(

@@ -27,8 +27,7 @@ use semiring_laws::Semiring;
 use std::alloc::Global;
 use std::marker::Model;
 use worker_pool::{one_worker_closes, search_alone};
-use wpds_base::OutOfMemory;
-use wpds_port::Gate;
+use wpds_base::{Gate, OutOfMemory};
 
 // How many transitions may have come to a search for patterns when more patterns come, and how many states it may have. Past
 // these it is begun anew: more transitions do not stay in a processor's caches.

@@ -6,8 +6,7 @@ ghost use Rattle.report_text.specs.private.{behind_text, then_text};
 use itoa::Buffer;
 use std::alloc::Global;
 use witness_graph::{Listing, Node, Side};
-use wpds_base::OutOfMemory;
-use wpds_port::Text;
+use wpds_base::{OutOfMemory, Text};
 
 // Adds a number.
 fn add_number(text: &mut String, number: u64) -> Result<(), OutOfMemory>

@@ -4,8 +4,7 @@ ghost use Rattle.report_text.specs.Reports as reports;
 use crate::{Options, listing_text, query_line, traces_text};
 use std::alloc::Global;
 use witness_graph::Listing;
-use wpds_base::OutOfMemory;
-use wpds_port::Text;
+use wpds_base::{OutOfMemory, Text};
 
 /// The size up to which runs are written: of each the number of its rules, and one more.
 pub const MOST_TRACED: u64 = 100_000;

@@ -1,5 +1,5 @@
 use std::sync::atomic::{AtomicU64, Ordering};
-use wpds_port::Gate;
+use wpds_base::Gate;
 
 // How often the first caller looks for another.
 const MOST_LOOKS: u64 = 1_000_000_000;

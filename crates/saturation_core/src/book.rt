@@ -23,7 +23,7 @@ use std::alloc::Global;
 use std::marker::Model;
 use weighted_automata::Transitions;
 use witness_graph::Graph;
-use wpds_base::OutOfMemory;
+use wpds_base::{Gate, OutOfMemory};
 
 /// A saturation: what was found, what waits, which hands are out, and the events so far.
 #[derive(Drop)]
@@ -218,9 +218,14 @@ impl<'s, S: Semiring, D: Direction<S>> Book<'s, S, D> {
     }
 
     /// Takes the transition that waits longest, works out its jobs, and settles them in place, all for one seat: the same
-    /// as `take`, `work` and `settle`, but without a hand. It is refused only when out of memory, and then the book is
-    /// gone.
-    pub fn turn_alone(self, alloc: Global, seat: u32) -> Result<Book<'s, S, D>, OutOfMemory>
+    /// as `take`, `work` and `settle`, but without a hand. It calls the gate once, between taking the transition and
+    /// settling it. It is refused only when out of memory, and then the book is gone.
+    pub fn turn_alone<G: Gate>(
+        self,
+        alloc: Global,
+        seat: u32,
+        gate: &G,
+    ) -> Result<Book<'s, S, D>, OutOfMemory>
         requires seat { seat < most_seats }
         requires free { NoHand self }
         requires waits { self.state.queue ≢ [] }
@@ -234,6 +239,7 @@ impl<'s, S: Semiring, D: Direction<S>> Book<'s, S, D> {
             unreachable!()
         };
         book.journal.take(seat, next.number)?;
+        gate.between(seat);
         let mut changes = book.changes;
         found.apply_place(alloc, &direction, system, next, &mut changes)?;
         book.found = kept;

@@ -9,7 +9,7 @@ use std::alloc::Global;
 use std::marker::Model;
 use weighted_automata::{Place, Transitions};
 use witness_graph::Graph;
-use wpds_base::OutOfMemory;
+use wpds_base::{Gate, OutOfMemory};
 
 /// A saturation without events, by one worker: what was found, and what waits. Edges may be added to it at any time. It takes
 /// less memory than a book, which says who took what and when.
@@ -109,9 +109,10 @@ impl<'s, S: Semiring, D: Direction<S>> Search<'s, S, D> {
         self.found.transitions.front().is_none()
     }
 
-    /// Takes the transition that waits longest, works out its jobs, and settles them in place. It is refused only when out of
-    /// memory, and then the search is gone.
-    pub fn turn(self, alloc: Global) -> Result<Search<'s, S, D>, OutOfMemory>
+    /// Takes the transition that waits longest, works out its jobs, and settles them in place. It calls the gate once, as
+    /// seat 0, between taking the transition and settling it. It is refused only when out of memory, and then the search is
+    /// gone.
+    pub fn turn<G: Gate>(self, alloc: Global, gate: &G) -> Result<Search<'s, S, D>, OutOfMemory>
         requires waits { self.state.queue ≢ [] }
         ensures { IfOk result (TurnsTo S.operations D.way self.entry) }
     {
@@ -122,6 +123,7 @@ impl<'s, S: Semiring, D: Direction<S>> Search<'s, S, D> {
         let Some(next) = found.transitions.pop() else {
             unreachable!()
         };
+        gate.between(0);
         let mut changes = search.changes;
         found.apply_place(alloc, &direction, system, next, &mut changes)?;
         search.found = kept;

@@ -6,8 +6,7 @@ ghost use Rattle.boolean_meaning.specs.Bits.{bit_of};
 ghost use Rattle.state_text.specs.States.{bit_text, bits_text};
 
 use boolean_programs::Proc;
-use wpds_base::OutOfMemory;
-use wpds_port::Text;
+use wpds_base::{OutOfMemory, Text};
 
 // Adds a name with its bit.
 fn add_bit(text: &mut Vec<u8>, name: &Text, bit: bool) -> Result<(), OutOfMemory>

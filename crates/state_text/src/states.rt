@@ -16,8 +16,7 @@ use boolean_lowering::PointTable;
 use boolean_meaning::{Frame, State};
 use boolean_programs::{Point, Program};
 use std::alloc::Global;
-use wpds_base::OutOfMemory;
-use wpds_port::Text;
+use wpds_base::{OutOfMemory, Text};
 
 // Adds where a frame stands.
 fn add_place(alloc: Global, text: &mut Vec<u8>, point: Point) -> Result<(), OutOfMemory>

@@ -7,12 +7,11 @@ use saturation_core::{Book, Search};
 use saturation_laws::Direction;
 use semiring_laws::Semiring;
 use std::alloc::Global;
-use wpds_base::OutOfMemory;
-use wpds_port::Gate;
+use wpds_base::{Gate, OutOfMemory};
 
 /// Saturates a book by seat 0 alone, which settles what a transition gives before it takes the next, until nothing waits.
-/// It works in place, without hands, and calls the gate once for each transition. It is refused only when out of memory,
-/// and then the book is gone.
+/// It works in place, without hands, and calls the gate once for each transition, between taking and settling it. It is
+/// refused only when out of memory, and then the book is gone.
 pub fn saturate_alone<'s, S: Semiring, D: Direction<S>, G: Gate>(
     alloc: Global,
     book: Book<'s, S, D>,
@@ -27,14 +26,13 @@ pub fn saturate_alone<'s, S: Semiring, D: Direction<S>, G: Gate>(
     let mut book = book;
     book.system();
     'turns: while !book.is_closed() {
-        gate.between(0);
-        book = book.turn_alone(alloc, 0)?;
+        book = book.turn_alone(alloc, 0, gate)?;
     }
     Ok(book)
 }
 
-/// Takes what waits in a search and settles what it gives, until nothing waits. It calls the gate once for each transition. It
-/// is refused only when out of memory, and then the search is gone.
+/// Takes what waits in a search and settles what it gives, until nothing waits. It calls the gate once for each transition,
+/// between taking and settling it. It is refused only when out of memory, and then the search is gone.
 pub fn search_alone<'s, S: Semiring, D: Direction<S>, G: Gate>(
     alloc: Global,
     search: Search<'s, S, D>,
@@ -45,9 +43,8 @@ pub fn search_alone<'s, S: Semiring, D: Direction<S>, G: Gate>(
 {
     let mut search = search;
     'turns: while !search.is_done() {
-        gate.between(0);
         search.system();
-        search = search.turn(alloc)?;
+        search = search.turn(alloc, gate)?;
     }
     Ok(search)
 }

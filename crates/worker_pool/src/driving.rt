@@ -15,7 +15,7 @@ use seat_lock::{Pass, SeatLock};
 use semiring_laws::Semiring;
 use std::alloc::Global;
 use std::sync::Wait;
-use wpds_port::Gate;
+use wpds_base::Gate;
 
 // A worker takes a transition, calls the gate, works out what it gives without the lock, and settles that.
 fn one_round<'s, H: Wait, S: Semiring, D: Direction<S>, G: Gate>(

@@ -14,7 +14,7 @@ use std::alloc::Global;
 use std::sync::Wait;
 use std::thread;
 use std::thread::Threads;
-use wpds_port::Gate;
+use wpds_base::Gate;
 
 /// The lock, and a pass of it. One value, so that a closure names the book's lifetime once.
 #[derive(Drop)]

@@ -13,8 +13,7 @@ use semiring_laws::Semiring;
 use std::alloc::Global;
 use std::sync::Wait;
 use std::thread::Threads;
-use wpds_base::OutOfMemory;
-use wpds_port::Gate;
+use wpds_base::{Gate, OutOfMemory};
 
 // An errand for each worker, that of pass 0 last.
 fn split_all<'l, 's, S: Semiring, D: Direction<S>>(

@@ -14,8 +14,7 @@ use semiring_laws::Semiring;
 use std::alloc::Global;
 use std::sync::Wait;
 use std::thread::Threads;
-use wpds_base::OutOfMemory;
-use wpds_port::Gate;
+use wpds_base::{Gate, OutOfMemory};
 
 // Saturates a book by workers under a lock.
 fn saturate_shared<

@@ -6,7 +6,7 @@ use row_systems::{A, C, CountingGate, MeetingGate, Row, SOME_A, grows, has_rows,
 use std::alloc::Global;
 use std::test::Fail;
 use worker_pool::saturate;
-use wpds_port::OpenGate;
+use wpds_base::OpenGate;
 
 // What is found of growth for `p: a a a`.
 const THREE_GROWN: &[Row] = &[
