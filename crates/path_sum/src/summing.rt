@@ -115,15 +115,8 @@ pub(crate) fn walk<'g, S: Semiring, D: Direction<S>>(
     Ok(sum)
 }
 
-/// The weight of all runs between a pattern and an opening, from the pattern's members to what the opening reads where
-/// the direction goes backwards, and the other way round forwards: the combination, over the members and all paths of
-/// the transitions that read one to a final state, of the product along the path (Reps, Schwoon, Jha, Melski 2005). The
-/// transitions are those of a finished saturation from the opening, and the nodes theirs. What is listed are the sum's
-/// own nodes made shorter (`short_listings`). Refused only when out of memory. The graph is not copied; beside it at most
-/// so many nodes are made as there are pairs and one, times the top rank and one. Each time that a pair of its source waits a
-/// transition is looked at once, or not at all where the pattern can read one other symbol alone. Where no listing is asked for
-/// none is made.
-pub fn sum_parts<S: Semiring, D: Direction<S>>(
+/// The sum that [`sum_parts`] answers, with its listing where that is asked for.
+pub(crate) fn sum_shown<S: Semiring, D: Direction<S>>(
     alloc: Global,
     system: &System<S>,
     direction: &D,
@@ -157,6 +150,41 @@ pub fn sum_parts<S: Semiring, D: Direction<S>>(
     Ok(Answer { value, listing })
 }
 
+/// The weight of all runs between a pattern and an opening, from the pattern's members to what the opening reads where
+/// the direction goes backwards, and the other way round forwards: the combination, over the members and all paths of
+/// the transitions that read one to a final state, of the product along the path (Reps, Schwoon, Jha, Melski 2005). The
+/// transitions are those of a finished saturation from the opening, and the nodes theirs. What is listed are the sum's
+/// own nodes made shorter (`short_listings`). Refused only when out of memory. The graph is not copied; beside it at most
+/// so many nodes are made as there are pairs and one, times the top rank and one. Each time that a pair of its source waits a
+/// transition is looked at once, or not at all where the pattern can read one other symbol alone.
+pub fn sum_parts<S: Semiring, D: Direction<S>>(
+    alloc: Global,
+    system: &System<S>,
+    direction: &D,
+    opening: &Opening,
+    transitions: &Transitions<S>,
+    graph: &Graph,
+    pattern: &Pattern,
+) -> Result<Answer<S>, OutOfMemory>
+    requires automaton { IsSaturatedAutomaton S.operations D.way system.now direction.now
+        opening.now transitions.now.transitions graph.now.nodes }
+    requires side { graph.now.side ≡ (D.way.tables direction.now system.now).side }
+    requires pattern { pattern.now.control < system.now.controls }
+    ensures { IfOk result (IsSumOver S.operations D.way system.now direction.now
+        opening.now transitions.now.transitions graph.now.nodes pattern.now) }
+{
+    sum_shown(
+        alloc,
+        system,
+        direction,
+        opening,
+        transitions,
+        graph,
+        pattern,
+        true,
+    )
+}
+
 // The sum over a closed book, with its listing where that is asked for.
 fn sum_book<S: Semiring, D: Direction<S>>(
     alloc: Global,
@@ -173,7 +201,7 @@ fn sum_book<S: Semiring, D: Direction<S>>(
     let opening = book.opening();
     let transitions = book.transitions();
     let graph = book.graph();
-    sum_parts(
+    sum_shown(
         alloc,
         system,
         &direction,

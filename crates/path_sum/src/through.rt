@@ -13,7 +13,7 @@ ghost use Rattle.saturation_laws.specs.Openings.{AreKept};
 ghost use Rattle.semiring_laws.specs.Semiring.{Fits};
 
 use crate::growing::product;
-use crate::summing::{sum_parts, walk};
+use crate::summing::{sum_shown, walk};
 use crate::tails::Tails;
 use crate::tops::{Tops, asked_tops, weights_of};
 use config_patterns::{Pattern, PatternFault};
@@ -242,7 +242,7 @@ pub fn sum_value_by_tails<S: Semiring, D: Direction<S>>(
             return Ok(value);
         }
     }
-    let answer = sum_parts(
+    let answer = sum_shown(
         alloc,
         system,
         direction,

@@ -1,6 +1,6 @@
 -- The backward direction fits the opening of each pattern, and how many places it can reach from there.
 use Rattle.std.proofs.Common.{◌≡◌, inl, inr, ℕ, suc, ◌+◌, ◌*◌, ◌<◌, ◌≤◌, List, [], ◌∷◌, ◌++◌, map, length, refl, ap, ◌∙◌, subst, arith}
-use Rattle.std.specs.Prelude.{IsTrue, nat_le}
+use Rattle.std.specs.Prelude.{All, IsTrue, nat_le}
 use Rattle.std.proofs.lemmas.Bool.{and_from, le-leb}
 use Rattle.weighted_automata.specs.declared.place.Place.{Place}
 use Rattle.pushdown_rules.specs.Pushdown.{Pushdown}
@@ -10,7 +10,8 @@ use Rattle.config_patterns.specs.Edges.{edges_of}
 use Rattle.wpds_base.specs.Lists.{IsIn}
 use Rattle.saturation_laws.proofs.CallerLemmas.{in_append, in_right, in_map, from_map}
 use Rattle.pattern_openings.specs.PatternOpenings.{state_of, place_of_edge, finals_of_items, opening_of}
-use Rattle.pattern_openings.proofs.CallerLemmas.{opening_edge, edge_is, final_is_state, last_is_final}
+use Rattle.pattern_openings.specs.JointOpenings.{joint_edges, edges_alone}
+use Rattle.pattern_openings.proofs.CallerLemmas.{opening_edge, edge_is, final_is_state, last_is_final, later_edge}
 use Rattle.direction_parts.specs.Places.{reads_symbol}
 use Rattle.direction_parts.proofs.CallerLemmas.{all_from}
 use Rattle.prestar_laws.specs.Fitting.{is_item_edge, fits_pre, state_count, pre_places}
@@ -20,6 +21,13 @@ use Rattle.prestar_laws.proofs.CallerLemmas.{above_start, above_each, above_most
 pub pattern_fits : {S W Map : Type 0} (p : Pushdown S W Map) (pattern : PatternValue) → IsTrue (fits_pre p (opening_of p.controls pattern))
 pattern_fits p pattern = all_from (is_item_edge p.controls) (opening_of p.controls pattern).edges (λ x there.
     let is = opening_edge pattern p.controls x there in
+    and_from (reads_symbol x.label) (nat_le p.controls x.to) (ap reads_symbol is.reads.1) (le-leb p.controls x.to is.to_item))
+
+-- and of several together
+pub joint_fits : {S W Map : Type 0} (p : Pushdown S W Map) (patterns : List PatternValue) → All (λ (d : PatternValue). d.control < p.controls) patterns
+    → IsTrue (fits_pre p (edges_alone (joint_edges p.controls patterns)))
+joint_fits p patterns low = all_from (is_item_edge p.controls) (joint_edges p.controls patterns) (λ x there.
+    let is = later_edge p.controls p.controls (omega arith) patterns low x there in
     and_from (reads_symbol x.label) (nat_le p.controls x.to) (ap reads_symbol is.reads.1) (le-leb p.controls x.to is.to_item))
 
 module _ (controls : ℕ) (pattern : PatternValue) (low : pattern.control < controls) where

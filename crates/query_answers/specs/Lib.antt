@@ -1,3 +1,4 @@
 pub mod Answering
 pub mod Shared
+pub mod Values
 pub mod private

@@ -1,3 +1,4 @@
 -- What private functions cite.
+pub mod Begun
 pub mod Searched
 pub mod Shared

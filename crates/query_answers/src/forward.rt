@@ -1,13 +1,13 @@
 //! A search forwards that is done, for values alone, with what all queries over it have in common.
 
 ghost use Rattle.std.specs.Prelude.{◌≡◌, ◌<◌, All, IfOk, IfSome, length, slice_index_or};
-ghost use Rattle.path_sum.specs.Answers.{IsValueOf, Shows};
+ghost use Rattle.path_sum.specs.Answers.{IsValueOf};
 ghost use Rattle.saturation_laws.specs.Searches.{IsDone};
 ghost use Rattle.path_sum.specs.Tops.{KeptTops};
 ghost use Rattle.query_answers.specs.private.Searched.{AreSearchTails, AreSearchTops, IsSearchSum};
 
 use config_patterns::Pattern;
-use path_sum::{Answer, Tails, Tops, sum_parts, sum_value_by_tails, tails_over, tops_over};
+use path_sum::{Tails, Tops, sum_value_by_tails, tails_over, tops_over};
 use saturation_core::Search;
 use saturation_laws::Direction;
 use semiring_laws::Semiring;
@@ -159,38 +159,6 @@ impl<'s, S: Semiring, D: Direction<S>> ForwardSearch<'s, S, D> {
             tails,
             tops,
         })
-    }
-
-    /// The search itself.
-    pub(crate) fn search(&self) -> &Search<'s, S, D>
-        ensures { result.now ≡ self.now }
-    {
-        &self.search
-    }
-
-    /// The sum over the search, with its listing where that is asked for. Refused only when out of memory.
-    pub(crate) fn sum(
-        &self,
-        alloc: Global,
-        pattern: &Pattern,
-        listed: bool,
-    ) -> Result<Answer<S>, OutOfMemory>
-        requires done { IsDone self.now }
-        requires pattern { pattern.now.control < self.now.system.controls }
-        ensures { IfOk result (Shows listed
-            (IsSearchSum S.operations D.way self.now pattern.now)) }
-    {
-        let search = &self.search;
-        sum_parts(
-            alloc,
-            search.system(),
-            &search.direction(),
-            search.opening(),
-            search.transitions(),
-            search.graph(),
-            pattern,
-            listed,
-        )
     }
 
     /// The value of the sum over the search, without a listing. Refused only when out of memory.

@@ -1,16 +1,16 @@
-//! The answer to a query over a weighted pushdown system, backwards or forwards, with a listing of runs that show it.
+//! The answers to queries over a weighted pushdown system, backwards or forwards. There are two doors: `Saturation`, a book that
+//! workers close, of which answers with listings of runs are read off, and `Values`, which finds values alone.
 #![tactic(auto)]
 
 mod answering;
+mod begun;
 mod forward;
-mod laws;
+mod joint;
 mod reach;
 mod saturation;
-mod searches;
+mod shared;
 mod values;
 
-pub use answering::{answer, answer_over, saturate, value, value_over};
-pub use forward::ForwardSearch;
-pub use laws::one_worker_serves;
+pub use answering::{answer, answer_over, saturate};
 pub use saturation::Saturation;
-pub use values::SharedSearch;
+pub use values::{Values, value};

@@ -1,25 +1,20 @@
 ghost use Rattle.std.specs.Prelude.{◌≡◌};
 ghost use Rattle.query_answers.specs.Answering.{saturated_system};
 
-use crate::forward::ForwardSearch;
-use callee_post::CalleePost;
 use poststar::Post;
 use prestar::Pre;
 use pushdown_rules::System;
 use saturation_core::Book;
 use semiring_laws::Semiring;
 
-/// A finished saturation from a pattern: all queries that start or end there are answered over it.
+/// A finished saturation from a pattern, a book that its workers closed: all queries that start or end there are answered over it,
+/// with listings.
 #[derive(Drop)]
 pub enum Saturation<'s, S: Semiring> {
     /// Backwards, from where the runs of its queries end.
     Backward(Book<'s, S, Pre>),
     /// Forwards, from where they begin.
     Forward(Book<'s, S, Post>),
-    /// Forwards, without events: for values alone.
-    Values(ForwardSearch<'s, S, Post>),
-    /// Forwards, without events and through each callee once: for values alone.
-    Callees(ForwardSearch<'s, S, CalleePost>),
 }
 
 impl<'s, S: Semiring> Saturation<'s, S> {
@@ -30,8 +25,6 @@ impl<'s, S: Semiring> Saturation<'s, S> {
         match self {
             Saturation::Backward(book) => book.system(),
             Saturation::Forward(book) => book.system(),
-            Saturation::Values(values) => values.search().system(),
-            Saturation::Callees(values) => values.search().system(),
         }
     }
 }

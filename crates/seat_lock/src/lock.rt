@@ -331,12 +331,13 @@ impl<'a, T: Journaled> Held<'a, T> {
         ensures gave { Gave self.entry.seat.me.0 (T.journal self.entry.value) result.seat.me.0 }
         ensures pass { IsPassOf self.entry result }
     {
-        self.give_to(u32::MAX)
+        self.give_to(u32::MAX, true)
     }
 
-    /// Ends the turn as `give` does. At most so many of those that wait are woken; where that is not all of them, the pass takes
-    /// another turn soon or waits, since who wants a turn may be left asleep until then.
-    pub fn give_to(self, most: u32) -> Pass<T>
+    /// Ends the turn as `give` does. At most so many of those that wait are woken. Of those that want a turn one is called, if
+    /// that is asked for; otherwise the pass takes another turn soon or waits, since who wants a turn may be left asleep until
+    /// then. So a pass that stays away for long has one called.
+    pub fn give_to(self, most: u32, calls: bool) -> Pass<T>
         requires base { self.seat.me.0.base ≡ Some (T.base self.value) }
         requires grown { Grown T.number self.seat.me.0 (T.journal self.value) }
         ensures gave { Gave self.entry.seat.me.0 (T.journal self.entry.value) result.seat.me.0 }
@@ -358,7 +359,7 @@ impl<'a, T: Journaled> Held<'a, T> {
         // Before the turn ends, so that whoever takes a later turn has heard it.
         let heard = bell.ring(most);
         shared.fetch_add::<Serve>(&mut seat, 1, 1);
-        lock.door.leave(most < u32::MAX);
+        lock.door.leave(!calls);
         bell.wake(most);
         Pass {
             number,

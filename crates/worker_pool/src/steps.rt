@@ -49,6 +49,14 @@ pub(crate) fn woken_by<S: Semiring, D: Direction<S>>(asked: &Asked<'_, S, D>) ->
     }
 }
 
+/// Whether one that wants a turn is called after this answer: not where the worker comes back at once, to wait.
+pub(crate) fn calls_after<S: Semiring, D: Direction<S>>(asked: &Asked<'_, S, D>) -> bool {
+    match asked {
+        Asked::Hand { .. } | Asked::Closed | Asked::Memory => true,
+        Asked::Idle => false,
+    }
+}
+
 // How many of those that wait are to be woken after so many lowerings: all where nothing will come, and else one for each
 // transition that came to wait, but for the one that the settling worker takes next.
 fn woken_after<S: Semiring, D: Direction<S>>(book: &Book<'_, S, D>, count: u64) -> u32 {

@@ -15,7 +15,8 @@ use semiring_laws::Semiring;
 use std::alloc::Global;
 use std::sync::Wait;
 
-/// Takes the transition that waits longest, in a turn.
+/// Takes the transition that waits longest, in a turn. A worker that leaves with a hand stays away as long as the gate keeps it
+/// and the hand takes: it calls one that wants a turn.
 pub(crate) fn ask<'s, H: Wait, S: Semiring, D: Direction<S>>(
     rt: &H,
     alloc: Global,
@@ -32,7 +33,8 @@ pub(crate) fn ask<'s, H: Wait, S: Semiring, D: Direction<S>>(
     let mut held = lock.turn(rt, pass);
     let asked = steps::ask(alloc, &mut held.value().book, seat);
     let wake = steps::woken_by(&asked);
-    (held.give_to(wake), asked)
+    let calls = steps::calls_after(&asked);
+    (held.give_to(wake, calls), asked)
 }
 
 /// Settles a hand that was worked out, in a turn. Where there is no memory for it, the hand is given back in the same turn,
@@ -55,7 +57,7 @@ pub(crate) fn settle<'s, H: Wait, S: Semiring, D: Direction<S>>(
     let mut held = lock.turn(rt, pass);
     let mut wake = 0;
     let settled = steps::settle(alloc, &mut held.value().book, done, &mut wake);
-    (held.give_to(wake), settled)
+    (held.give_to(wake, wake == u32::MAX), settled)
 }
 
 /// Gives a hand back, in a turn.
