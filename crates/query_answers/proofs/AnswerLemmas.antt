@@ -82,43 +82,37 @@ module _ {S W Map D : Type 0} (operations : S → Operations W Map) (way : Way S
       }
 
 module _ {S W Map : Type 0} (operations : S → Operations W Map) (law : OpeningsReadMembers) (p : Pushdown S W Map) where
-  pub backward_is : (b : BookValue S W Map Pre) (a : Answer S W Map) (summed : PatternValue) (side : Side) (listed : Bool) (workers : ℕ) (from to : PatternValue)
+  pub backward_is : (b : BookValue S W Map Pre) (a : Answer S W Map) (summed : PatternValue) (side : Side) (workers : ℕ) (from to : PatternValue)
       → IsSumOf operations (pre_way operations) b summed a → (opened_of side from to).control < p.controls → summed_of side from to ≡ summed
-      → IsSaturated operations p side listed workers (opened_of side from to) (BackwardOf b) → IsAnswer operations p side workers from to a
-  backward_is b a summed Forward listed workers from to sums below same saturated = absurd saturated
-  backward_is b a summed Backward listed workers from to sums below same saturated =
+      → IsSaturated operations p side workers (opened_of side from to) (BackwardOf b) → IsAnswer operations p side workers from to a
+  backward_is b a summed Forward workers from to sums below same saturated = absurd saturated
+  backward_is b a summed Backward workers from to sums below same saturated =
       let x = shown operations (pre_way operations) law p Backward workers from to below b a refl saturated (subst (λ q. IsSumOf operations (pre_way operations) b q a) (sym same) sums) in
       record { shows = x.shows; grown = x.grown }
 
-  pub forward_is : (b : BookValue S W Map Post) (a : Answer S W Map) (summed : PatternValue) (side : Side) (listed : Bool) (workers : ℕ) (from to : PatternValue)
+  pub forward_is : (b : BookValue S W Map Post) (a : Answer S W Map) (summed : PatternValue) (side : Side) (workers : ℕ) (from to : PatternValue)
       → IsSumOf operations (forward_way operations) b summed a → (opened_of side from to).control < p.controls → summed_of side from to ≡ summed
-      → IsSaturated operations p side listed workers (opened_of side from to) (ForwardOf b) → IsAnswer operations p side workers from to a
-  forward_is b a summed Backward listed workers from to sums below same saturated = absurd saturated
-  forward_is b a summed Forward listed workers from to sums below same saturated =
+      → IsSaturated operations p side workers (opened_of side from to) (ForwardOf b) → IsAnswer operations p side workers from to a
+  forward_is b a summed Backward workers from to sums below same saturated = absurd saturated
+  forward_is b a summed Forward workers from to sums below same saturated =
       let x = shown operations (forward_way operations) law p Forward workers from to below b a refl saturated (subst (λ q. IsSumOf operations (forward_way operations) b q a) (sym same) sums) in
       record { shows = x.shows; grown = x.grown }
 
-  pub backward_answers : {E : Type 0} (b : BookValue S W Map Pre) (r : Result (Answer S W Map) E) (summed : PatternValue) (side : Side) (listed : Bool) (workers : ℕ) (from to : PatternValue)
+  pub backward_answers : {E : Type 0} (b : BookValue S W Map Pre) (r : Result (Answer S W Map) E) (summed : PatternValue) (side : Side) (workers : ℕ) (from to : PatternValue)
       → IfOk r (IsSumOf operations (pre_way operations) b summed) → (opened_of side from to).control < p.controls → summed_of side from to ≡ summed
-      → IsSaturated operations p side listed workers (opened_of side from to) (BackwardOf b) → IfOk r (IsAnswer operations p side workers from to)
-  backward_answers b (Err e) summed side listed workers from to sums below same saturated = tt
-  backward_answers b (Ok a) summed side listed workers from to sums below same saturated = backward_is b a summed side listed workers from to sums below same saturated
+      → IsSaturated operations p side workers (opened_of side from to) (BackwardOf b) → IfOk r (IsAnswer operations p side workers from to)
+  backward_answers b (Err e) summed side workers from to sums below same saturated = tt
+  backward_answers b (Ok a) summed side workers from to sums below same saturated = backward_is b a summed side workers from to sums below same saturated
 
-  pub forward_answers : {E : Type 0} (b : BookValue S W Map Post) (r : Result (Answer S W Map) E) (summed : PatternValue) (side : Side) (listed : Bool) (workers : ℕ) (from to : PatternValue)
+  pub forward_answers : {E : Type 0} (b : BookValue S W Map Post) (r : Result (Answer S W Map) E) (summed : PatternValue) (side : Side) (workers : ℕ) (from to : PatternValue)
       → IfOk r (IsSumOf operations (forward_way operations) b summed) → (opened_of side from to).control < p.controls → summed_of side from to ≡ summed
-      → IsSaturated operations p side listed workers (opened_of side from to) (ForwardOf b) → IfOk r (IsAnswer operations p side workers from to)
-  forward_answers b (Err e) summed side listed workers from to sums below same saturated = tt
-  forward_answers b (Ok a) summed side listed workers from to sums below same saturated = forward_is b a summed side listed workers from to sums below same saturated
+      → IsSaturated operations p side workers (opened_of side from to) (ForwardOf b) → IfOk r (IsAnswer operations p side workers from to)
+  forward_answers b (Err e) summed side workers from to sums below same saturated = tt
+  forward_answers b (Ok a) summed side workers from to sums below same saturated = forward_is b a summed side workers from to sums below same saturated
 
-  -- the same of the values alone
-  pub backward_values : {E : Type 0} (b : BookValue S W Map Pre) (r : Result W E) (summed : PatternValue) (side : Side) (listed : Bool) (workers : ℕ) (from to : PatternValue)
-      → IfOk r (IsValueOf (IsSumOf operations (pre_way operations) b summed)) → (opened_of side from to).control < p.controls → summed_of side from to ≡ summed
-      → IsSaturated operations p side listed workers (opened_of side from to) (BackwardOf b) → IfOk r (IsValueOf (IsAnswer operations p side workers from to))
-  backward_values b (Err e) summed side listed workers from to sums below same saturated = tt
-  backward_values b (Ok v) summed side listed workers from to (a, sums, value) below same saturated = (a, backward_is b a summed side listed workers from to sums below same saturated, value)
-
-  pub forward_values : {E : Type 0} (b : BookValue S W Map Post) (r : Result W E) (summed : PatternValue) (side : Side) (listed : Bool) (workers : ℕ) (from to : PatternValue)
-      → IfOk r (IsValueOf (IsSumOf operations (forward_way operations) b summed)) → (opened_of side from to).control < p.controls → summed_of side from to ≡ summed
-      → IsSaturated operations p side listed workers (opened_of side from to) (ForwardOf b) → IfOk r (IsValueOf (IsAnswer operations p side workers from to))
-  forward_values b (Err e) summed side listed workers from to sums below same saturated = tt
-  forward_values b (Ok v) summed side listed workers from to (a, sums, value) below same saturated = (a, forward_is b a summed side listed workers from to sums below same saturated, value)
+  -- the value of a sum over a book forwards, which lists nothing
+  pub forward_value : {E : Type 0} (b : BookValue S W Map Post) (r : Result W E) (workers : ℕ) (from to : PatternValue)
+      → IfOk r (IsValueOf (IsSumOf operations (forward_way operations) b to)) → from.control < p.controls
+      → IsSaturatedFrom operations (forward_way operations) p workers from b → IfOk r (IsValueOf (IsAnswer operations p Forward workers from to))
+  forward_value b (Err e) workers from to sums below saturated = tt
+  forward_value b (Ok v) workers from to (a, sums, value) below saturated = (a, forward_is b a to Forward workers from to sums below refl saturated, value)

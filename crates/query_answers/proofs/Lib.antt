@@ -1,5 +1,5 @@
 mod AnswerLemmas
-mod ServeLemmas
+mod BegunLemmas
 pub mod CallerLemmas
 mod ValueLemmas
 mod SharedLemmas

@@ -30,9 +30,8 @@ use Rattle.saturation_laws.specs.Ways.{Way, IsLawful}
 use Rattle.saturation_laws.proofs.CallerLemmas.{search_applies}
 use Rattle.worker_pool.specs.Closing.{IsClosedAlone, just_opened}
 use Rattle.worker_pool.specs.Workers.{IsWorkerCount}
-use Rattle.query_answers.specs.Answering.{opened_of, summed_of, forward_way, forward_callees, IsSearchedFrom, IsSearchedForward, IsThroughCallees, IsSaturated, IsAnswer}
-use Rattle.query_answers.specs.declared.saturation.Saturation.TheVariants.{Values as ValuesOf, Callees as CalleesOf}
-use Rattle.query_answers.specs.private.Searched.{IsSearchSum}
+use Rattle.query_answers.specs.Answering.{forward_way, IsAnswer}
+use Rattle.query_answers.specs.private.Searched.{forward_callees, IsSearchedFrom, IsSearchedForward, IsThroughCallees, IsSearchSum}
 use Rattle.query_answers.proofs.AnswerLemmas.{OpeningsReadMembers, forward_is, members_are_opened}
 
 -- ---- a search that is done is a finished saturation
@@ -102,7 +101,7 @@ module _ {S W Map : Type 0} (operations : S → Operations W Map) (closes : Forw
       let c = closes opened (opens p d o valid fits) refl in
       let a = sums c.0 to c.1.book c.1.closed (subst (λ (q : Pushdown S W Map). to.control < q.controls) (sym c.1.base.system) low_to) in (
         a.0,
-        forward_is operations law p c.0 a.0 to Forward true workers from to a.1 low_from refl
+        forward_is operations law p c.0 a.0 to Forward workers from to a.1 low_from refl
             (record { system = c.1.base.system; opening = c.1.base.opening; book = c.1.book; closed = c.1.closed; seats = c.1.seats workers some; alone = λ _. c.1.alone }),
       )
 
@@ -165,36 +164,9 @@ module _ {S W Map D : Type 0} (operations : S → Operations W Map) (way : Way S
   HaveValues = (p : Pushdown S W Map) (workers : ℕ) (from to : PatternValue) (v : SearchValue S W Map D) (w : W) → from.control < p.controls → to.control < p.controls
       → Is p workers from v → IsValueOf (IsSearchSum operations way v to) w → IsValueOf (IsAnswer operations p Forward workers from to) w
 
-  values_by : {E : Type 0} → HaveValues → (p : Pushdown S W Map) (v : SearchValue S W Map D) → v.system ≡ p → (r : Result W E) (summed : PatternValue) (workers : ℕ) (from to : PatternValue)
-      → IfOk r (IsValueOf (IsSearchSum operations way v summed)) → from.control < p.controls → summed.control < v.system.controls → to ≡ summed → Is p workers from v
+  pub values_by : {E : Type 0} → HaveValues → (p : Pushdown S W Map) (v : SearchValue S W Map D) → v.system ≡ p → (r : Result W E) (workers : ℕ) (from to : PatternValue)
+      → IfOk r (IsValueOf (IsSearchSum operations way v to)) → from.control < p.controls → to.control < v.system.controls → Is p workers from v
       → IfOk r (IsValueOf (IsAnswer operations p Forward workers from to))
-  values_by law p v system (Err e) summed workers from to sums low_from low same is = tt
-  values_by law p v system (Ok w) summed workers from to sums low_from low same is =
-      let low_to : to.control < p.controls = subst (λ (q : Pushdown S W Map). to.control < q.controls) system (subst (λ (d : PatternValue). d.control < v.system.controls) (sym same) low) in
-      law p workers from to v w low_from low_to is (subst (λ d. IsValueOf (IsSearchSum operations way v d) w) (sym same) sums)
-
-module _ {S W Map : Type 0} (operations : S → Operations W Map) (p : Pushdown S W Map) where
-  -- searches list nothing
-  pub values_list_nothing : {P : Type 0} (v : SearchValue S W Map Post) (side : Side) (workers : ℕ) (opened : PatternValue) → IsSaturated operations p side true workers opened (ValuesOf v) → P
-  values_list_nothing v Backward workers opened saturated = absurd saturated
-  values_list_nothing v Forward workers opened saturated = let none = saturated.0 in cc
-
-  pub callees_list_nothing : {P : Type 0} (v : SearchValue S W Map CalleePost) (side : Side) (workers : ℕ) (opened : PatternValue) → IsSaturated operations p side true workers opened (CalleesOf v) → P
-  callees_list_nothing v Backward workers opened saturated = absurd saturated
-  callees_list_nothing v Forward workers opened saturated = let none = saturated.0 in cc
-
-  pub search_values : {E : Type 0} (v : SearchValue S W Map Post) (r : Result W E) (summed : PatternValue) (side : Side) (listed : Bool) (workers : ℕ) (from to : PatternValue)
-      → HaveValues operations (forward_way operations) (IsSearchedForward operations) → IfOk r (IsValueOf (IsSearchSum operations (forward_way operations) v summed))
-      → (opened_of side from to).control < p.controls → summed.control < v.system.controls → summed_of side from to ≡ summed
-      → IsSaturated operations p side listed workers (opened_of side from to) (ValuesOf v) → IfOk r (IsValueOf (IsAnswer operations p side workers from to))
-  search_values v r summed Backward listed workers from to law sums below low same saturated = absurd saturated
-  search_values v r summed Forward listed workers from to law sums below low same saturated =
-      values_by operations (forward_way operations) (IsSearchedForward operations) law p v saturated.1.searched.system r summed workers from to sums below low same saturated.1
-
-  pub callee_values : {E : Type 0} (v : SearchValue S W Map CalleePost) (r : Result W E) (summed : PatternValue) (side : Side) (listed : Bool) (workers : ℕ) (from to : PatternValue)
-      → HaveValues operations (forward_callees operations) (IsThroughCallees operations) → IfOk r (IsValueOf (IsSearchSum operations (forward_callees operations) v summed))
-      → (opened_of side from to).control < p.controls → summed.control < v.system.controls → summed_of side from to ≡ summed
-      → IsSaturated operations p side listed workers (opened_of side from to) (CalleesOf v) → IfOk r (IsValueOf (IsAnswer operations p side workers from to))
-  callee_values v r summed Backward listed workers from to law sums below low same saturated = absurd saturated
-  callee_values v r summed Forward listed workers from to law sums below low same saturated =
-      values_by operations (forward_callees operations) (IsThroughCallees operations) law p v saturated.1.searched.system r summed workers from to sums below low same saturated.1
+  values_by law p v system (Err e) workers from to sums low_from low is = tt
+  values_by law p v system (Ok w) workers from to sums low_from low is =
+      law p workers from to v w low_from (subst (λ (q : Pushdown S W Map). to.control < q.controls) system low) is sums

@@ -1,4 +1,4 @@
--- The values of queries that share one search backwards.
+-- The values of queries backwards: of those that share one search, and of those that share one book.
 use Rattle.std.proofs.Common.{◌≡◌, ◌↔◌, true, ℕ, zero, suc, ◌+◌, ◌<◌, ◌≤◌, List, [], ◌∷◌, ◌++◌, IsTrue, length, map, refl, sym, ap, ap₂, ◌∙◌, subst, arith}
 use Rattle.std.specs.Prelude.{All, Bool, IsFalse, false, Some, ◌||◌, not, nat_eq, nat_le, nat_lt, cond, filter, slice_get}
 use Rattle.std.specs.List.{AllByRecursion}
@@ -18,7 +18,7 @@ use Rattle.pattern_openings.specs.PatternOpenings.{IsOver, opening_of}
 use Rattle.path_sum.specs.Answers.{AnswersOpening, IsValueOf, listed_runs}
 use Rattle.path_sum.specs.Results.{IsSumOf}
 use Rattle.path_sum.specs.Saturated.{IsSaturatedAutomaton}
-use Rattle.path_sum.specs.Values.{with_finals, is_left_out, IsSaturatedTo, IsValueTo, AreValuesTo}
+use Rattle.path_sum.specs.Values.{with_finals, is_left_out, IsSaturatedTo, IsValueTo, AreValuesTo, StayOut}
 use Rattle.path_sum.specs.declared.answer.Answer.{Answer}
 use Rattle.prestar.proofs.CallerLemmas.{pattern_fits}
 use Rattle.prestar.specs.Stages.{HasStates, IsEarlier, EarlierStayApart}
@@ -32,7 +32,7 @@ use Rattle.saturation_laws.specs.declared.opening.Opening.{Opening}
 use Rattle.saturation_laws.specs.Paths.{IsOpened}
 use Rattle.saturation_laws.specs.Ways.{Way, IsLawful}
 use Rattle.saturation_laws.specs.Searches.{SearchValue, IsSearch, IsDone, HasSameOpening}
-use Rattle.saturation_laws.proofs.CallerLemmas.{search_applies}
+use Rattle.saturation_laws.proofs.CallerLemmas.{closed_applies, search_applies}
 use Rattle.weighted_automata.specs.declared.place.Place.{Place}
 use Rattle.prestar_laws.proofs.CallerLemmas.{pre_laws}
 use Rattle.witness_graph.specs.declared.node.Side.TheVariants.{Pre as Backward}
@@ -126,7 +126,7 @@ module _ {S W Map : Type 0} (operations : S → Operations W Map) (p : Pushdown 
       let c = closes opened (opens p (record {}) o valid (pattern_fits p to)) refl in
       let a = sums c.0 from c.1.book c.1.closed (subst (λ (q : Pushdown S W Map). from.control < q.controls) (sym c.1.base.system) low_from) in (
         a.0,
-        backward_is operations law p c.0 a.0 from Backward true workers from to a.1 low_to refl
+        backward_is operations law p c.0 a.0 from Backward workers from to a.1 low_to refl
             (record { system = c.1.base.system; opening = c.1.base.opening; book = c.1.book; closed = c.1.closed; seats = c.1.seats workers some; alone = λ _. c.1.alone }),
       )
 
@@ -161,6 +161,27 @@ module _ {S W Map : Type 0} (operations : S → Operations W Map) (laws : (x : S
   saturated none =
       subst (λ o. IsSaturatedAutomaton operations (pre_way operations) v.system v.direction o v.state.transitions v.state.nodes) (ap (with_finals v.opening) (sym none)) (saturated_to [])
 
+-- ---- the book that workers close
+
+module _ {S W Map : Type 0} (operations : S → Operations W Map) (laws : (x : S) → IsSemiring (operations x)) (b : BookValue S W Map Pre)
+    (is : IsBook operations (pre_way operations) b) (closed : IsClosed b) where
+  -- a closed book is a finished saturation whatever the final states
+  pub book_saturated_to : (finals : List ℕ) → IsSaturatedTo operations (pre_way operations) b.system b.direction b.opening b.state.transitions b.state.nodes finals
+  book_saturated_to finals =
+      let shape = is.lock.shape in
+      record {
+        fits = is.fits;
+        sound = is.lock.sound;
+        opened = is.lock.opened;
+        applied = closed_applies operations laws (pre_way operations) (λ d p o valid fits. pre_laws valid (laws p.semiring) o fits) b is closed;
+        shape = record { places = shape.places; seats = refl; queue = tt; present = λ x h. absurd h; nodes = shape.nodes; tight = shape.tight };
+      }
+
+  -- and so where there are none
+  pub book_saturated : b.opening.finals ≡ [] → IsSaturatedAutomaton operations (pre_way operations) b.system b.direction b.opening b.state.transitions b.state.nodes
+  book_saturated none =
+      subst (λ o. IsSaturatedAutomaton operations (pre_way operations) b.system b.direction o b.state.transitions b.state.nodes) (ap (with_finals b.opening) (sym none)) (book_saturated_to [])
+
 -- what holds of the parts of an automaton holds of equal parts
 pub moved : {S W Map : Type 0} (P : Pushdown S W Map → Pre → Opening → List (Entry S W Map) → List Node → Type 0) {p q : Pushdown S W Map} {d e : Pre} {o u : Opening}
     {ts us : List (Entry S W Map)} {ns ms : List Node} → p ≡ q → d ≡ e → o ≡ u → ts ≡ us → ns ≡ ms → P p d o ts ns → P q e u us ms
@@ -187,6 +208,13 @@ module _ (controls first q : ℕ) where
 
   is_kept : (IsEarlier controls first q → ⊥) → IsFalse (is_left_out controls first q)
   is_kept apart = false_from_ne_true (is_left_out controls first q) (λ out. apart (is_earlier out))
+
+-- where the first number is the second nothing is left out
+pub all_stay : {S W Map : Type 0} (ts : List (Entry S W Map)) → StayOut 0 0 ts
+all_stay ts t there out = let is = is_earlier 0 0 t.place.from out in let few = is.1 in absurd (omega (arith, few))
+
+pub all_kept : (sets : List (List ℕ)) → All (All (λ q. IsFalse (is_left_out 0 0 q))) sets
+all_kept sets k d within j e inside = is_kept 0 0 _ (λ is. let few = is.1 in absurd (omega (arith, few)))
 
 -- the states of earlier patterns, from which a group that comes keeps apart
 pub leave_out : {S W Map : Type 0} (operations : S → Operations W Map) → StayApart operations → EndApart → (a v : SearchValue S W Map Pre) (first : ℕ) (patterns : List PatternValue) (finals : List (List ℕ))
@@ -244,41 +272,72 @@ ends_low p from tos over =
     All-from_recursion (λ (d : PatternValue). d.control < p.controls) (narrowed_for p from tos)
     (all_low p.controls p.symbols (may_stand_below p.rules from) tos (recursion_from_All (IsOver p.controls p.symbols) tos over))
 
+-- the controls of patterns over a system are its own
+each_low : (controls symbols : ℕ) (tos : List PatternValue) → AllByRecursion (IsOver controls symbols) tos → AllByRecursion (λ (d : PatternValue). d.control < controls) tos
+each_low controls symbols [] over = tt
+each_low controls symbols (d ∷ tos) over = (over.0.control, each_low controls symbols tos over.1)
+
+pub tos_low : (controls symbols : ℕ) (tos : List PatternValue) → All (IsOver controls symbols) tos → All (λ (d : PatternValue). d.control < controls) tos
+tos_low controls symbols tos over =
+    All-from_recursion (λ (d : PatternValue). d.control < controls) tos (each_low controls symbols tos (recursion_from_All (IsOver controls symbols) tos over))
+
+-- A walk over what began with the edges of some patterns, behind others, gives the values of queries, where each of these is answered by
+-- what answers the pattern at the same place.
 module _ {S W Map : Type 0} (operations : S → Operations W Map)
-    (closes : Closes operations) (opens : Opens operations) (sums : HasSums operations) (law : OpeningsReadMembers) (agree : Agree operations) (narrow : Narrow operations) (later : LaterOpeningsRead)
-    (p : Pushdown S W Map) (workers : ℕ) (from : PatternValue) (tos : List PatternValue) (edges : List Place) (states : ℕ) (d : Pre) (vs : List W)
+    (closes : Closes operations) (opens : Opens operations) (sums : HasSums operations) (law : OpeningsReadMembers) (agree : Agree operations) (later : LaterOpeningsRead)
+    (p : Pushdown S W Map) (workers : ℕ) (from : PatternValue) (tos ends : List PatternValue) (edges : List Place) (states : ℕ) (d : Pre) (vs : List W)
     (valid : IsSystem operations p) (some : IsWorkerCount workers) (low_from : from.control < p.controls) (over : All (IsOver p.controls p.symbols) tos)
-    (least : p.controls ≤ states) (before : AreBefore p.controls states edges)
-    (are : AreValuesTo operations (pre_way operations) p d (edges_alone (edges ++ joint_edges states (narrowed_for p from tos))) from (joint_finals states (narrowed_for p from tos)) vs) where
-  abbrev keep : ℕ → Bool
-  keep = may_stand_below p.rules from
-
-  abbrev ns : List PatternValue
-  ns = narrowed_for p from tos
-
+    (low : All (λ (e : PatternValue). e.control < p.controls) ends) (least : p.controls ≤ states) (before : AreBefore p.controls states edges)
+    (are : AreValuesTo operations (pre_way operations) p d (edges_alone (edges ++ joint_edges states ends)) from (joint_finals states ends) vs) where
   abbrev all : Opening
-  all = edges_alone (edges ++ joint_edges states ns)
+  all = edges_alone (edges ++ joint_edges states ends)
 
-  each_over : AllByRecursion (IsOver p.controls p.symbols) tos
-  each_over = recursion_from_All (IsOver p.controls p.symbols) tos over
+  -- what answers the query to the one answers that to the other
+  abbrev pub Serves : PatternValue → PatternValue → Type 0
+  Serves end to = (v : W) (runs : List (List ℕ)) → AnswersIn operations p (has_member from) (has_member end) v runs → AnswersIn operations p (has_member from) (has_member to) v runs
 
-  at_one : (k : ℕ) (to : PatternValue) (v : W) → slice_get tos k ≡ Some to → slice_get vs k ≡ Some v → IsValueOf (IsAnswer operations p Backward workers from to) v
-  at_one k to v there value =
-      let low_to = low_at p.controls p.symbols tos each_over k to there in
-      let n = narrowed keep to in
-      let one = value_at operations (pre_way operations) p d all from (joint_finals states ns) vs are k v value in
+  abbrev pub HasEnd : ℕ → PatternValue → Type 0
+  HasEnd k to = (end : PatternValue) × (slice_get ends k ≡ Some end) × (end.control ≡ to.control) × Serves end to
+
+  at_one : (k : ℕ) (to : PatternValue) (v : W) → slice_get tos k ≡ Some to → HasEnd k to → slice_get vs k ≡ Some v → IsValueOf (IsAnswer operations p Backward workers from to) v
+  at_one k to v there (end, at_end, same, serves) value =
+      let low_to = low_at p.controls p.symbols tos (recursion_from_All (IsOver p.controls p.symbols) tos over) k to there in
+      let low_end : end.control < p.controls = subst (λ c. c < p.controls) (sym same) low_to in
+      let one = value_at operations (pre_way operations) p d all from (joint_finals states ends) vs are k v value in
       let finals = one.0 in
-      let o : Opening = record { edges = edges ++ joint_edges states ns; finals = finals } in
+      let o : Opening = record { edges = edges ++ joint_edges states ends; finals = finals } in
       let s = operations p.semiring in
       let here : AnswersOpening s Backward p o (has_member from) v one.2.0 = one.2.1 in
-      let reads = members_are_read n o p.controls low_to
-      (later edges ns p.controls states least before (ends_low p from tos over) k n finals (mapped_at (narrowed keep) tos k to there) one.1) in
-      let answers : Answers s p (has_member from) (has_member n) v one.2.0 = here (has_member n) reads in
-      value_of_answer operations p valid workers some closes opens sums law agree from to low_from low_to v one.2.0 ((narrow p from to v one.2.0).0 answers)
+      let reads = members_are_read end o p.controls low_end (later edges ends p.controls states least before low k end finals at_end one.1) in
+      let answers : Answers s p (has_member from) (has_member end) v one.2.0 = here (has_member end) reads in
+      value_of_answer operations p valid workers some closes opens sums law agree from to low_from low_to v one.2.0 (serves v one.2.0 answers)
 
   -- each of the values is that of an answer
-  pub shared_values : AreValues operations p workers from tos vs
-  shared_values = record {
-    count = as_many operations (pre_way operations) p d all from (joint_finals states ns) vs are ∙ finals_count states ns ∙ map_count (narrowed keep) tos;
-    each = λ k to v there value. at_one k to v there value;
+  pub walked_values : length ends ≡ length tos → ((k : ℕ) (to : PatternValue) → slice_get tos k ≡ Some to → HasEnd k to) → AreValues operations p Backward workers from tos vs
+  walked_values many has = record {
+    count = as_many operations (pre_way operations) p d all from (joint_finals states ends) vs are ∙ finals_count states ends ∙ many;
+    each = λ k to v there value. at_one k to v there (has k to there) value;
   }
+
+-- A search to which the patterns came narrowed gives the values of the queries to them.
+pub shared_values : {S W Map : Type 0} (operations : S → Operations W Map)
+    → Closes operations → Opens operations → HasSums operations → OpeningsReadMembers → Agree operations → Narrow operations → LaterOpeningsRead
+    → (p : Pushdown S W Map) (workers : ℕ) (from : PatternValue) (tos : List PatternValue) (edges : List Place) (states : ℕ) (d : Pre) (vs : List W)
+    → IsSystem operations p → IsWorkerCount workers → from.control < p.controls → All (IsOver p.controls p.symbols) tos → p.controls ≤ states → AreBefore p.controls states edges
+    → AreValuesTo operations (pre_way operations) p d (edges_alone (edges ++ joint_edges states (narrowed_for p from tos))) from (joint_finals states (narrowed_for p from tos)) vs
+    → AreValues operations p Backward workers from tos vs
+shared_values operations closes opens sums law agree narrow later p workers from tos edges states d vs valid some low_from over least before are =
+    let keep = may_stand_below p.rules from in
+    walked_values operations closes opens sums law agree later p workers from tos (narrowed_for p from tos) edges states d vs valid some low_from over (ends_low p from tos over) least before are
+    (map_count (narrowed keep) tos) (λ k to there. (narrowed keep to, mapped_at (narrowed keep) tos k to there, refl, λ v runs answers. (narrow p from to v runs).0 answers))
+
+-- So does a book that began with the edges of these patterns alone.
+pub joint_values : {S W Map : Type 0} (operations : S → Operations W Map)
+    → Closes operations → Opens operations → HasSums operations → OpeningsReadMembers → Agree operations → LaterOpeningsRead
+    → (p : Pushdown S W Map) (workers : ℕ) (from : PatternValue) (tos : List PatternValue) (d : Pre) (vs : List W)
+    → IsSystem operations p → IsWorkerCount workers → from.control < p.controls → All (IsOver p.controls p.symbols) tos
+    → AreValuesTo operations (pre_way operations) p d (edges_alone (joint_edges p.controls tos)) from (joint_finals p.controls tos) vs
+    → AreValues operations p Backward workers from tos vs
+joint_values operations closes opens sums law agree later p workers from tos d vs valid some low_from over are =
+    walked_values operations closes opens sums law agree later p workers from tos tos [] p.controls d vs valid some low_from over (tos_low p.controls p.symbols tos over) (omega arith)
+    (λ x there. absurd there) are refl (λ k to there. (to, there, refl, λ v runs answers. answers))

@@ -10,8 +10,8 @@ ghost use Rattle.pushdown_rules.specs.Pushdown.{Pushdown};
 ghost use Rattle.saturation_laws.specs.Searches.{SearchValue, IsDone};
 ghost use Rattle.witness_graph.specs.declared.node.Side.TheVariants.{Post as Forward};
 ghost use Rattle.worker_pool.specs.Workers.{IsWorkerCount};
-ghost use Rattle.query_answers.specs.Answering.{forward_way, AreValues, IsAnswer};
-ghost use Rattle.query_answers.specs.private.Begun.{begun_system, IsBegunAt, IsEnded};
+ghost use Rattle.query_answers.specs.Answering.{forward_way, IsAnswer};
+ghost use Rattle.query_answers.specs.private.Begun.{begun_system, IsBegunAt, IsEnded, TellsValue, TellsValues};
 ghost use Rattle.query_answers.specs.private.Searched.{forward_callees, IsSearchedForward, IsSearchSum, IsThroughCallees};
 
 use crate::forward::ForwardSearch;
@@ -162,9 +162,7 @@ fn value_to<S: Semiring>(
 ) -> Result<S::W, OutOfMemory>
     requires ended { IsEnded begun.now }
     requires control { to.now.control < (begun_system begun.now).controls }
-    ensures { (p : Pushdown S S.W S.Ret) (workers : ℕ) (from : PatternValue)
-        → from.control < p.controls → IsBegunAt S.operations p workers from begun.now
-        → IfOk result (IsValueOf (IsAnswer S.operations p Forward workers from to.now)) }
+    ensures { IfOk result (TellsValue S.operations begun.now to.now) }
 {
     openings_read_members();
     searches_have_values::<S>();
@@ -186,9 +184,7 @@ pub(crate) fn values_to<S: Semiring>(
     requires ended { IsEnded begun.now }
     requires controls { let controls = (begun_system begun.now).controls in
         All (λ (to : PatternValue). to.control < controls) tos.now }
-    ensures { (p : Pushdown S S.W S.Ret) (workers : ℕ) (from : PatternValue)
-        → from.control < p.controls → IsBegunAt S.operations p workers from begun.now
-        → IfOk result (λ vs. AreValues S.operations p Forward workers from tos.now vs.items) }
+    ensures { IfOk result (λ vs. TellsValues S.operations begun.now tos.now vs.items) }
 {
     let mut values = Vec::new(alloc);
     for to in tos {

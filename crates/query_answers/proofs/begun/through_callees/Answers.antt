@@ -1,7 +1,7 @@
 use Rattle.std.proofs.Common.{ap, ◌∙◌}
 use Rattle.callee_post.specs.Openings.{callee_opening_of}
 use Rattle.callee_post.specs.declared.callee.CalleePost.{CalleePost}
-use Rattle.query_answers.specs.Answering.{forward_callees}
+use Rattle.query_answers.specs.private.Searched.{forward_callees}
 use Rattle.query_answers.proofs.SearchLemmas.{searched_from}
 use Rattle.query_answers.proofs.begun.through_callees.Goals as goal
 

@@ -6,6 +6,7 @@ use Rattle.path_sum.specs.Values.{AreValuesTo}
 use Rattle.prestar.specs.Stages.{HasStates}
 use Rattle.prestar_laws.specs.Ways.{pre_way}
 use Rattle.pushdown_rules.specs.Pushdown.{Pushdown, IsSystem}
+use Rattle.witness_graph.specs.declared.node.Side.TheVariants.{Pre as Backward}
 use Rattle.query_answers.specs.Answering.{AreValues}
 use Rattle.query_answers.specs.Shared.{SharedValue, shared_system}
 use Rattle.query_answers.specs.private.Shared.{narrowed_for}
@@ -30,5 +31,5 @@ returns-clause-values g c = λ workers some.
     let of_system = subst (λ q. AreValuesTo operations way q shared.direction shared.opening from c.deref.result.now values) c.in_ok-shared.ensures.system c.in_ok-values.ensures in
     let of_opening = subst (λ o. AreValuesTo operations way p shared.direction o from c.deref.result.now values) c.in_ok-shared.ensures.opening of_system in
     let are = subst (λ sets. AreValuesTo operations way p shared.direction all from sets values) (c.deref.ensures.value ∙ c.in_ok-shared.ensures.finals) of_opening in
-    subst (λ q. AreValues operations q workers from tos values) same
+    subst (λ q. AreValues operations q Backward workers from tos values) same
     (c.walks_give_values.ensures p workers from tos roomy.search.opening.edges roomy.states shared.direction values valid some low over has.controls has.edges are)
