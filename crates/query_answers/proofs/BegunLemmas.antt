@@ -1,5 +1,5 @@
 -- The values of one query after another over a saturation forwards.
-use Rattle.std.proofs.Common.{◌≡◌, inl, inr, ℕ, ◌+◌, ◌<◌, List, [], ◌∷◌, ◌++◌, length, take, sym, ap, ◌∙◌, subst, arith}
+use Rattle.std.proofs.Common.{◌≡◌, inl, inr, ℕ, ◌+◌, ◌<◌, List, [], ◌∷◌, ◌++◌, length, take, refl, sym, ap, ◌∙◌, subst, arith}
 use Rattle.std.specs.Prelude.{Some, slice_get}
 use Rattle.std.proofs.Math.ListN.{get_or}
 use Rattle.std.proofs.lemmas.List.{take_more}
@@ -10,6 +10,7 @@ use Rattle.pushdown_rules.specs.Pushdown.{Pushdown}
 use Rattle.config_patterns.specs.Membership.{PatternValue}
 use Rattle.path_sum.specs.Answers.{IsValueOf}
 use Rattle.witness_graph.specs.declared.node.Side.{Side}
+use Rattle.witness_graph.specs.declared.node.Side.TheVariants.{Post as Forward}
 use Rattle.query_answers.specs.declared.begun.Begun.{Begun}
 use Rattle.query_answers.specs.private.Begun.{TellsValue, TellsValues}
 use Rattle.query_answers.specs.Answering.{AreValues, IsAnswer}
@@ -43,5 +44,5 @@ module _ {S W Map : Type 0} (operations : S → Operations W Map) (s : Begun S W
   pub tells_more : (tos : List PatternValue) (i : ℕ) (d : PatternValue) (vs : List W) (v : W) → i < length tos → TellsValues operations s (take i tos) vs → TellsValue operations s (get_or tos i d) v
       → TellsValues operations s (take (i + 1) tos) (vs ++ v ∷ [])
   tells_more tos i d vs v within tells one p workers from low at =
-      subst (λ xs. AreValues operations p _ workers from xs (vs ++ v ∷ [])) (sym (take_more tos i d within))
-      (one_more operations p _ workers from (take i tos) vs (get_or tos i d) v (tells p workers from low at) (one p workers from low at))
+      subst (λ xs. AreValues operations p Forward workers from xs (vs ++ v ∷ [])) (sym (take_more tos i d within))
+      (one_more operations p Forward workers from (take i tos) vs (get_or tos i d) v (tells p workers from low at) (one p workers from low at))

@@ -1,6 +1,6 @@
 -- The values of queries backwards: of those that share one search, and of those that share one book.
 use Rattle.std.proofs.Common.{◌≡◌, ◌↔◌, true, ℕ, zero, suc, ◌+◌, ◌<◌, ◌≤◌, List, [], ◌∷◌, ◌++◌, IsTrue, length, map, refl, sym, ap, ap₂, ◌∙◌, subst, arith}
-use Rattle.std.specs.Prelude.{All, Bool, IsFalse, false, Some, ◌||◌, not, nat_eq, nat_le, nat_lt, cond, filter, slice_get}
+use Rattle.std.specs.Prelude.{All, Bool, IsFalse, false, Some, ◌||◌, not, nat_eq, nat_le, nat_lt, cond, filter, slice_get, slice_index_or}
 use Rattle.std.specs.List.{AllByRecursion}
 use Rattle.std.proofs.lemmas.List.Elements.{All-from_recursion, recursion_from_All}
 use Rattle.std.proofs.lemmas.Bool.{and_from, and_parts, eqb-true, false_from_ne_true, le-leb, leb-true, lt-ltb, ltb-true}
@@ -214,7 +214,7 @@ pub all_stay : {S W Map : Type 0} (ts : List (Entry S W Map)) → StayOut 0 0 ts
 all_stay ts t there out = let is = is_earlier 0 0 t.place.from out in let few = is.1 in absurd (omega (arith, few))
 
 pub all_kept : (sets : List (List ℕ)) → All (All (λ q. IsFalse (is_left_out 0 0 q))) sets
-all_kept sets k d within j e inside = is_kept 0 0 _ (λ is. let few = is.1 in absurd (omega (arith, few)))
+all_kept sets k d within j e inside = is_kept 0 0 (slice_index_or (slice_index_or sets k d) j e) (λ is. let few = is.1 in absurd (omega (arith, few)))
 
 -- the states of earlier patterns, from which a group that comes keeps apart
 pub leave_out : {S W Map : Type 0} (operations : S → Operations W Map) → StayApart operations → EndApart → (a v : SearchValue S W Map Pre) (first : ℕ) (patterns : List PatternValue) (finals : List (List ℕ))

@@ -21,7 +21,7 @@ const MOST_TOPS: u64 = 1_000_000;
 /// A search, with what is found once for all patterns that end in `.*`, where several queries are asked of it: what leads on from
 /// its states over any symbols, and what is met from each control by the top of the stack.
 #[derive(Drop)]
-pub struct ForwardSearch<'s, S: Semiring, D: Direction<S>> {
+pub(crate) struct ForwardSearch<'s, S: Semiring, D: Direction<S>> {
     search: Search<'s, S, D>,
     tails: Tails<S>,
     // by their controls, where there are few enough

@@ -1,6 +1,6 @@
 //! The values of many queries, without listings.
 
-ghost use Rattle.std.specs.Prelude.{◌≡◌, ◌≤◌, All, IfOk, IfSome, length};
+ghost use Rattle.std.specs.Prelude.{◌≡◌, ◌<◌, ◌≤◌, ℕ, All, IfOk, IfSome, length};
 ghost use Rattle.pattern_openings.specs.PatternOpenings.{IsOver};
 ghost use Rattle.path_sum.specs.Answers.{IsValueOf};
 ghost use Rattle.wpds_base.specs.Limits.{most_queries};
