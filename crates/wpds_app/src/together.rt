@@ -167,7 +167,22 @@ impl Group {
     }
 }
 
-// The pattern where a query ends.
+// The pattern where a query begins.
+fn begin_of<S: DocumentWeights>(
+    alloc: Global,
+    system: &System<S>,
+    document: &Document<Names>,
+    query: &QueryLine,
+) -> Result<Pattern, OutOfMemory>
+    requires system { system.now ≡ system_of S.kind system.now.semiring document.now }
+    requires query { IsQueryOf document.now query.now }
+    ensures value { IfOk result (λ p. p ≡ side_of document.now query.now.from) }
+    ensures over { IfOk result (IsOver system.now.controls system.now.symbols) }
+{
+    pattern_from(alloc, system, &query.from)
+}
+
+// The pattern where it ends.
 fn end_of<S: DocumentWeights>(
     alloc: Global,
     system: &System<S>,
@@ -258,7 +273,8 @@ pub(crate) fn lines_by_values<
 {
     kind_computes::<S>();
     let group = gather(alloc, system, document, options.by, place, kept)?;
-    let from = pattern_from(alloc, system, &document.queries.as_slice()[place].from)?;
+    let query = &document.queries.as_slice()[place];
+    let from = begin_of(alloc, system, document, query)?;
     let ends = group.ends.as_slice();
     let found = values.values_from(crew.rt, alloc, &from, ends, crew.gate)?;
     let (semiring, names) = (system.semiring(), &document.items);
