@@ -1,10 +1,8 @@
 use Rattle.std.proofs.Common.{◌≡◌, ℕ, ◌+◌, ◌++◌, length, take, refl, sym, ap, ◌∙◌, subst, arith}
-use Rattle.std.specs.Prelude.{All}
 use Rattle.std.proofs.lemmas.List.{length-map}
 use Rattle.relation_laws.specs.Building.{Parts}
 use Rattle.relation_weights.specs.declared.rel_map.RelMap.{RelMap}
 use Rattle.relation_weights.specs.Relations.{relation_operations}
-use Rattle.pattern_openings.specs.PatternOpenings.{IsOver}
 use Rattle.query_answers.specs.Answering.{AreValues}
 use Rattle.query_answers.specs.Values.{ValuesOf}
 use Rattle.report_text.specs.Reports.{ByQuery}
@@ -14,15 +12,6 @@ use Rattle.program_reports.specs.private.Asked.{program_in}
 use Rattle.program_reports.proofs.GroupLemmas.{none_there, value_for}
 use Rattle.program_reports.proofs.PartLemmas.{one_query_more}
 use Rattle.program_reports.proofs.values.group_lines.Goals as goal
-
-pub values_from-requires-clause-from : goal.values_from-requires-clause-from
-values_from-requires-clause-from g c =
-    subst (λ (v : ValuesOf ℕ Parts RelMap). IsOver v.system.controls v.system.symbols c.in_ok-from.from) (sym c.requires.values) c.in_ok-from.ensures.over
-
-pub values_from-requires-clause-tos : goal.values_from-requires-clause-tos
-values_from-requires-clause-tos g c =
-    subst (λ (v : ValuesOf ℕ Parts RelMap). All (IsOver v.system.controls v.system.symbols) c.deref.result.now) (sym c.requires.values)
-    (subst (All (IsOver c.args.asked.now.lowering.system.controls c.args.asked.now.lowering.system.symbols)) (sym c.deref.ensures.value) c.in_ok-ends.ensures.over)
 
 pub value_line-requires-clause-value : goal.value_line-requires-clause-value
 value_line-requires-clause-value g c =
