@@ -7,7 +7,6 @@ use Rattle.std.proofs.lemmas.List.Elements.{All-take, All-drop}
 use Rattle.relation_laws.specs.Building.{Parts}
 use Rattle.relation_weights.specs.Relations.{relation_operations}
 use Rattle.config_patterns.specs.Membership.{PatternValue}
-use Rattle.witness_graph.specs.declared.node.Side.TheVariants.{Pre as Backward}
 use Rattle.boolean_programs.specs.declared.point.Point.{Point}
 use Rattle.boolean_programs.specs.Lists.{Each}
 use Rattle.lowering_laws.specs.Queries.{entry_pattern, point_pattern}
@@ -25,17 +24,16 @@ pub each_of_group : {Q : Type 0} (P : Q → Type 0) (qs : List Q) (place n : ℕ
 each_of_group P qs place n each = All-take P n (drop place qs) (All-drop P place qs (λ k d within. each k (get_or qs k d) (slice_get-get_or qs k d within)))
 
 -- the value at the place of a point is the point's
-pub value_for : (a : Asked) (points : List Point) (from : PatternValue) (ends : List PatternValue) (values : List Parts) (k : ℕ) (d : Point) (v : Parts) → a.options.by ≡ Backward
-    → from ≡ entry_pattern (program_in a) → ends ≡ map (point_pattern (program_in a)) points → AreValues relation_operations a.lowering.system a.options.workers from ends values
+pub value_for : (a : Asked) (points : List Point) (from : PatternValue) (ends : List PatternValue) (values : List Parts) (k : ℕ) (d : Point) (v : Parts)
+    → from ≡ entry_pattern (program_in a) → ends ≡ map (point_pattern (program_in a)) points
+    → AreValues relation_operations a.lowering.system a.options.by a.options.workers from ends values
     → k < length points → v ≡ get_or values k v → IsValueFor a (get_or points k d) v
-value_for a points from ends values k d v by from_is ends_are are within read =
+value_for a points from ends values k d v from_is ends_are are within read =
     let p = program_in a in
     let system = a.lowering.system in
-    let workers = a.options.workers in
     let to = point_pattern p (get_or points k d) in
     let there : slice_get ends k ≡ Some to =
     ap (λ xs. slice_get xs k) ends_are ∙ slice_get-map (point_pattern p) points k ∙ ap (option_map (point_pattern p)) (slice_get-get_or points k d within) in
     let long : length values ≡ length points = are.count ∙ ap length ends_are ∙ length-map points (point_pattern p) in
     let is = are.each k to v there (slice_get_read values (length values) k v refl (omega (arith, long, within)) read) in
-    subst (λ side. IsValueOf (IsAnswer relation_operations system side workers (entry_pattern p) to) v) (sym by)
-    (subst (λ x. IsValueOf (IsAnswer relation_operations system Backward workers x to) v) from_is is)
+    subst (λ x. IsValueOf (IsAnswer relation_operations system a.options.by a.options.workers x to) v) from_is is

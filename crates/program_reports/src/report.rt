@@ -13,9 +13,9 @@ use crate::answers_tell_points;
 use crate::asked::Asked;
 use crate::lines::point_lines;
 use crate::traces::traced;
-use crate::values::{lines_by_values, value_line};
+use crate::values::lines_by_values;
 use boolean_programs::{Point, Program};
-use query_answers::{Saturation, answer_over, saturate, value_over};
+use query_answers::{Saturation, answer_over, saturate};
 use relation_weights::Relations;
 use report_text::Options;
 use std::alloc::Global;
@@ -24,13 +24,12 @@ use std::thread::Threads;
 use witness_graph::Side;
 use wpds_base::{Gate, OutOfMemory, Text};
 
-// The saturation for a point, of which so many queries are asked.
+// The saturation for a point.
 fn saturation_for<'s, H: Threads + Wait + Sync, G: Gate>(
     rt: &H,
     alloc: Global,
     asked: &'s Asked<'_>,
     point: Point,
-    queries: usize,
     gate: &G,
 ) -> Result<Saturation<'s, Relations>, OutOfMemory>
     requires asked { IsAsked asked.now }
@@ -44,10 +43,8 @@ fn saturation_for<'s, H: Threads + Wait + Sync, G: Gate>(
         alloc,
         &asked.lowering.system,
         asked.options.by,
-        asked.options.lists(),
         asked.options.workers,
         &pattern,
-        queries,
         gate,
     )
 }
@@ -68,10 +65,7 @@ fn shared_saturation<'s, H: Threads + Wait + Sync, G: Gate>(
 {
     match asked.options.by {
         Side::Pre => Ok(None),
-        Side::Post => {
-            let queries = asked.program.queries.as_slice().len();
-            Ok(Some(saturation_for(rt, alloc, asked, asked.entry(), queries, gate)?))
-        }
+        Side::Post => Ok(Some(saturation_for(rt, alloc, asked, asked.entry(), gate)?)),
     }
 }
 
@@ -91,10 +85,6 @@ fn lines_over(
 {
     answers_tell_points();
     let summed = asked.summed(alloc, point)?;
-    if asked.options.is_brief() {
-        let value = value_over(alloc, saturation, &summed)?;
-        return value_line(alloc, asked, number, point, &value);
-    }
     let answer = answer_over(alloc, saturation, &summed)?;
     let trace = traced(alloc, asked, &answer.listing)?;
     point_lines(alloc, number, &answer.listing, &trace, asked.options)
@@ -121,7 +111,7 @@ fn lines_of<H: Threads + Wait + Sync, G: Gate>(
     match shared {
         Some(saturation) => lines_over(alloc, asked, saturation, number, point),
         None => {
-            let saturation = saturation_for(rt, alloc, asked, point, 1, gate)?;
+            let saturation = saturation_for(rt, alloc, asked, point, gate)?;
             lines_over(alloc, asked, &saturation, number, point)
         }
     }
@@ -153,10 +143,11 @@ fn all_lines<H: Threads + Wait + Sync, G: Gate>(
 
 /// The report on a Boolean program: for each query `reachable`, with the listing unless that is
 /// left out, exactly where some state of some run of the program's machine has the query's point on
-/// top, and `unreachable` exactly where none has. Forwards all queries share one saturation.
-/// Backwards each has its own, or all have one search, by one worker, where neither listings nor
-/// states are written. Refused only when out of memory. Where saturations are by two workers or more
-/// they have a thread each; each worker calls the gate between taking a transition and settling it.
+/// top, and `unreachable` exactly where none has. Forwards all queries share one saturation. Backwards
+/// each has its own where listings or states are written. Where neither are, the values of many queries
+/// are found together, by either direction. Refused only when out of memory. Two workers and more have
+/// a thread each, whatever is asked; each worker, one alone too, calls the gate between taking a
+/// transition and settling it.
 pub fn report_on_program<H: Threads + Wait + Sync, G: Gate>(
     rt: &H,
     alloc: Global,
@@ -169,8 +160,8 @@ pub fn report_on_program<H: Threads + Wait + Sync, G: Gate>(
     ensures { IfOk result (IsProgramReport options program.now) }
 {
     let asked = Asked::of(alloc, program, options)?;
-    if options.is_brief() && options.by == Side::Pre {
-        return lines_by_values(alloc, &asked, gate);
+    if options.is_brief() {
+        return lines_by_values(rt, alloc, &asked, gate);
     }
     let shared = shared_saturation(rt, alloc, &asked, gate)?;
     all_lines(rt, alloc, &asked, &shared, gate)

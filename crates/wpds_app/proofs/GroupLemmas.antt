@@ -9,8 +9,6 @@ use Rattle.semiring_laws.specs.Semiring.{Operations}
 use Rattle.config_patterns.specs.Membership.{PatternValue}
 use Rattle.pattern_openings.specs.PatternOpenings.{IsOver}
 use Rattle.pushdown_rules.specs.Pushdown.{Pushdown}
-use Rattle.witness_graph.specs.declared.node.Side.{Side}
-use Rattle.witness_graph.specs.declared.node.Side.TheVariants.{Pre as Backward}
 use Rattle.document_forms.specs.Documents.{Document}
 use Rattle.document_forms.specs.declared.document.QueryLine.{QueryLine}
 use Rattle.document_systems.specs.Kinds.{Kind}
@@ -78,18 +76,17 @@ module _ (d : Document) (first : ℕ) where
 
   -- the line of a value that is that of an answer to a query of the group tells the query
   pub line_tells : {S W Map E : Type 0} (kind : Kind S W Map) (options : Options) (p : Pushdown S W Map) (place : ℕ) (end : PatternValue) (v : W) (r : Result (List ℕ) E) (kept : S)
-      → p ≡ system_of kind p.semiring d → IsBrief options → options.by ≡ Backward → (e : EndsAt d first place end)
-      → IsValueOf (IsAnswer kind.operations p Backward options.workers (side_of d e.begins.from) end) v → kept ≡ p.semiring
+      → p ≡ system_of kind p.semiring d → IsBrief options → (e : EndsAt d first place end)
+      → IsValueOf (IsAnswer kind.operations p options.by options.workers (side_of d e.begins.from) end) v → kept ≡ p.semiring
       → IfOk r (λ t. t ≡ query_line (place + 1) (kind.written kept d.items v)) → IfOk r (TellsAt kind options p.semiring d place)
-  line_tells kind options p place end v (Err e) kept system brief by at value same line = tt
-  line_tells {S} {W} {Map} {E} kind options p place end v (Ok t) kept system brief by at value same line =
+  line_tells kind options p place end v (Err e) kept system brief at value same line = tt
+  line_tells {S} {W} {Map} {E} kind options p place end v (Ok t) kept system brief at value same line =
       let q = at.query in
       let from = side_of d q.from in
-      let there = subst (λ x. IsValueOf (IsAnswer kind.operations p Backward options.workers (side_of d at.begins.from) x) v) at.ends value in
-      let here = subst (λ x. IsValueOf (IsAnswer kind.operations p Backward options.workers (side_of d x) (side_of d q.to)) v) (sym at.alike) there in
-      let asked = subst (λ (side : Side). IsValueOf (IsAnswer kind.operations p side options.workers from (side_of d q.to)) v) (sym by) here in
+      let there = subst (λ x. IsValueOf (IsAnswer kind.operations p options.by options.workers (side_of d at.begins.from) x) v) at.ends value in
+      let here = subst (λ x. IsValueOf (IsAnswer kind.operations p options.by options.workers (side_of d x) (side_of d q.to)) v) (sym at.alike) there in
       let r : Result (List ℕ) E = Ok t in
-      let told = line_told kind options p d.items (place + 1) from (side_of d q.to) v r kept brief asked same line in
+      let told = line_told kind options p d.items (place + 1) from (side_of d q.to) v r kept brief here same line in
       let tells = subst (λ s. IsQueryText kind options s d.items (place + 1) from (side_of d q.to) t) system told in
       told_at kind options p.semiring d place q t (sym (get_or_from_slice_get d.queries place q q at.at_place)) tells
 
@@ -108,17 +105,17 @@ module _ (d : Document) (first : ℕ) where
 
   -- so does the line of the value at the same place as a query's, of the values of the group
   pub group_line : {S W Map E : Type 0} (kind : Kind S W Map) (operations : S → Operations W Map) (options : Options) (p : Pushdown S W Map) (g : Group) (from : PatternValue) (begins : QueryLine)
-      (values : List W) (j place : ℕ) (v : W) (r : Result (List ℕ) E) (kept : S) → kind.operations ≡ operations → p ≡ system_of kind p.semiring d → IsBrief options → options.by ≡ Backward
-      → IsGroup d first g → AreValues operations p options.workers from g.ends.items values → slice_get d.queries first ≡ Some begins → from ≡ side_of d begins.from
+      (values : List W) (j place : ℕ) (v : W) (r : Result (List ℕ) E) (kept : S) → kind.operations ≡ operations → p ≡ system_of kind p.semiring d → IsBrief options
+      → IsGroup d first g → AreValues operations p options.by options.workers from g.ends.items values → slice_get d.queries first ≡ Some begins → from ≡ side_of d begins.from
       → slice_get g.places.items j ≡ Some place → slice_get values j ≡ Some v → kept ≡ p.semiring
       → IfOk r (λ t. t ≡ query_line (place + 1) (kind.written kept d.items v)) → IfOk r (TellsAt kind options p.semiring d place)
-  group_line kind operations options p g from begins values j place v r kept computes system brief by is are at_first from_is at value_at same line =
+  group_line kind operations options p g from begins values j place v r kept computes system brief is are at_first from_is at value_at same line =
       let found = end_of_place g j place is at in
       let end = found.0 in
       let e = found.2 in
       let both : Some e.begins ≡ Some begins = sym e.at_first ∙ at_first in
       let begin : e.begins ≡ begins = cc in
       let value = are.each j end v found.1 value_at in
-      let over = subst (λ o. IsValueOf (IsAnswer o p Backward options.workers from end) v) (sym computes) value in
-      let here = subst (λ x. IsValueOf (IsAnswer kind.operations p Backward options.workers x end) v) (from_is ∙ ap (λ q. side_of d q.from) (sym begin)) over in
-      line_tells kind options p place end v r kept system brief by e here same line
+      let over = subst (λ o. IsValueOf (IsAnswer o p options.by options.workers from end) v) (sym computes) value in
+      let here = subst (λ x. IsValueOf (IsAnswer kind.operations p options.by options.workers x end) v) (from_is ∙ ap (λ q. side_of d q.from) (sym begin)) over in
+      line_tells kind options p place end v r kept system brief e here same line

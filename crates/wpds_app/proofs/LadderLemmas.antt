@@ -8,25 +8,15 @@ use Rattle.pushdown_rules.specs.Pushdown.{Pushdown}
 use Rattle.config_patterns.specs.declared.item.Item.{Item}
 use Rattle.config_patterns.specs.Membership.{PatternValue}
 use Rattle.pattern_openings.specs.PatternOpenings.{IsOver}
-use Rattle.witness_graph.specs.declared.node.Side.{Side}
-use Rattle.witness_graph.specs.declared.node.Side.TheVariants.{Pre, Post}
 use Rattle.document_forms.specs.Lawful.{IsQueryLine, IsQueryOf, IsDocument}
 use Rattle.document_forms.specs.declared.document.QueryLine.{QueryLine}
 use Rattle.document_systems.specs.Weights.{cost_kind}
 use Rattle.document_systems.specs.Systems.{system_of, side_of}
 use Rattle.path_sum.specs.declared.answer.Answer.{Answer}
-use Rattle.query_answers.specs.Answering.{opened_of, summed_of, IsAnswer}
+use Rattle.query_answers.specs.Answering.{IsAnswer}
 use Rattle.ladder.specs.Ladders.{symbols_from, ladder_document, ladder_cap, question}
 use Rattle.command_words.specs.declared.options.Generation.{Generation}
 use Rattle.wpds_app.specs.Generating.{ladder_line, IsLadderAnswer}
-
-by_opened : (P : PatternValue → Type 0) (by : Side) (from to : PatternValue) → P from → P to → P (opened_of by from to)
-by_opened P Pre from to begin end = end
-by_opened P Post from to begin end = begin
-
-by_summed : (P : PatternValue → Type 0) (by : Side) (from to : PatternValue) → P from → P to → P (summed_of by from to)
-by_summed P Pre from to begin end = begin
-by_summed P Post from to begin end = end
 
 some_symbol : (n : ℕ) → 0 < length (symbols_from 0 n)
 some_symbol zero = omega arith
@@ -47,20 +37,18 @@ module _ (symbols : ℕ) (some : 0 < symbols) where
   ends : IsOver 1 symbols (record { control = 0; symbols = symbols; items = [] })
   ends = record { control = omega arith; sets = All-nil (λ (x : Item). All (λ g. g < symbols) x.set) }
 
-module _ (n : ℕ) (p : Pushdown ℕ (Option ℕ) NoMap) (from to : PatternValue) (is : p ≡ system_of cost_kind ladder_cap (ladder_document n))
-    (begin : from ≡ side_of (ladder_document n) question.from) (end : to ≡ side_of (ladder_document n) question.to) where
-  pub opened_over : (by : Side) → IsOver p.controls p.symbols (opened_of by from to)
-  opened_over by =
-      let symbols = length (symbols_from 0 n) in
-      let over = by_opened (IsOver 1 symbols) by from to
-      (subst (IsOver 1 symbols) (sym begin) (begins symbols (some_symbol n))) (subst (IsOver 1 symbols) (sym end) (ends symbols (some_symbol n))) in
-      subst (λ (q : Pushdown ℕ (Option ℕ) NoMap). IsOver q.controls q.symbols (opened_of by from to)) (sym is) over
+module _ (n : ℕ) (p : Pushdown ℕ (Option ℕ) NoMap) (x : PatternValue) (is : p ≡ system_of cost_kind ladder_cap (ladder_document n)) where
+  abbrev symbols : ℕ
+  symbols = length (symbols_from 0 n)
 
-  pub summed_within : (by : Side) → (summed_of by from to).control < p.controls
-  summed_within by =
-      let within : (summed_of by from to).control < 1 =
-      by_summed (λ x. x.control < 1) by from to (omega (arith, ap (λ (x : PatternValue). x.control) begin)) (omega (arith, ap (λ (x : PatternValue). x.control) end)) in
-      omega (arith, within, ap (λ (q : Pushdown ℕ (Option ℕ) NoMap). q.controls) is)
+  over : IsOver 1 symbols x → IsOver p.controls p.symbols x
+  over here = subst (λ (q : Pushdown ℕ (Option ℕ) NoMap). IsOver q.controls q.symbols x) (sym is) here
+
+  pub from_over : x ≡ side_of (ladder_document n) question.from → IsOver p.controls p.symbols x
+  from_over begin = over (subst (IsOver 1 symbols) (sym begin) (begins symbols (some_symbol n)))
+
+  pub to_over : x ≡ side_of (ladder_document n) question.to → IsOver p.controls p.symbols x
+  to_over end = over (subst (IsOver 1 symbols) (sym end) (ends symbols (some_symbol n)))
 
 -- the question is a query over the ladder's system
 pub asked_lawful : (n : ℕ) (p : Pushdown ℕ (Option ℕ) NoMap) (q : QueryLine) → IsDocument (ladder_document n) → p ≡ system_of cost_kind ladder_cap (ladder_document n)

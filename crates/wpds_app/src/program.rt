@@ -52,9 +52,9 @@ fn finish<W: Sink>(sink: &mut W, status: Status, text: &[u8]) -> Status
 /// `--version` (docs/FORMATS.md). `check` reads a document to its end, or to one byte more than a document has; no other command reads.
 /// A document is refused by its first refusal. What is written stands in memory before its first byte is written.
 ///
-/// With relations, and so for Boolean programs, two workers or more have a thread each, and take turns at one automaton. With other
-/// weights, and where values alone are written, one does what all were asked for. Each worker calls the gate between taking a
-/// transition and settling it; what the gate does changes no answer, and [`OpenGate`](wpds_port::OpenGate) does nothing.
+/// Whatever is asked, two workers and more have a thread each, and take turns at one automaton. Each worker, one alone too, calls
+/// the gate between taking a transition and settling it; what the gate does changes no answer, and
+/// [`OpenGate`](wpds_port::OpenGate) does nothing.
 pub fn run<H: Threads + Wait + Sync, R: Source, W: Sink, G: Gate>(
     rt: &H,
     alloc: Global,

@@ -1,4 +1,4 @@
-ghost use Rattle.std.specs.Prelude.{◌≡◌, ◌<◌, ◌≤◌, All, IfOk, IfSome, OnOk, None, Some, length, slice_set};
+ghost use Rattle.std.specs.Prelude.{◌≡◌, ◌<◌, ◌≤◌, All, IfOk, OnOk, None, Some, length, slice_set};
 ghost use Rattle.wpds_base.specs.Limits.{most_copied, most_cost, most_related};
 ghost use Rattle.document_forms.specs.Lawful.{IsDocument, IsQueryOf};
 ghost use Rattle.document_forms.specs.declared.weight.WeightsLine.TheVariants.{Relation};
@@ -8,11 +8,11 @@ ghost use Rattle.document_systems.specs.FactWeights.{genkill_kind};
 ghost use Rattle.document_systems.specs.RelationWeights.{relation_kind};
 ghost use Rattle.document_systems.specs.Systems.{system_of, side_of, AreTaken};
 ghost use Rattle.worker_pool.specs.Workers.{IsWorkerCount};
-ghost use Rattle.query_answers.specs.Answering.{IsFinished, IsOneOrAll, IsSaturated, saturated_system};
-ghost use Rattle.query_answers.specs.Shared.{shared_system};
+ghost use Rattle.query_answers.specs.Answering.{IsFinished, IsSaturated, saturated_system};
 ghost use Rattle.report_text.specs.Listings.{query_line as line_of_query};
-ghost use Rattle.report_text.specs.Reports.{lists, query_text as text_of_query};
+ghost use Rattle.report_text.specs.Reports.{query_text as text_of_query};
 ghost use Rattle.wpds_app.specs.Reports.{TellsQuery, IsReported, IsReport};
+ghost use Rattle.wpds_app.specs.private.Groups.{values_over};
 ghost use Rattle.wpds_app.specs.private.Kept.{AreKept, TellsAt, opened_text, summed_text};
 
 use crate::alike::same_pattern;
@@ -25,9 +25,7 @@ use document_systems::{DocumentWeights, Names, pattern_from, system_from};
 use genkill_weights::with_width;
 use path_sum::Answer;
 use pushdown_rules::System;
-use query_answers::{
-    Saturation, SharedSearch, answer_over, one_worker_serves, saturate, value_over,
-};
+use query_answers::{Saturation, Values, answer_over, saturate};
 use relation_weights::Relations;
 use report_text::{Options, query_line, query_text};
 use semiring_laws::Reach;
@@ -104,17 +102,12 @@ fn query_lines<S: DocumentWeights>(
     requires finished { IsFinished saturation.now }
     requires saturated { let opened = side_of document.now (opened_text options.by query.now) in
         let p = saturated_system saturation.now in
-        IsSaturated S.operations p options.by (lists options) options.workers opened
-        saturation.now }
+        IsSaturated S.operations p options.by options.workers opened saturation.now }
     ensures { let semiring = (saturated_system saturation.now).semiring in
         IfOk result (TellsQuery S.kind options semiring document.now number query.now) }
 {
     let system = saturation.system();
     let summed = pattern_from(alloc, system, summed_text(options.by, query))?;
-    if options.is_brief() {
-        let value = value_over(alloc, saturation, &summed)?;
-        return value_line(alloc, system.semiring(), &document.items, number, &value);
-    }
     let answer = answer_over(alloc, saturation, &summed)?;
     answer_lines(
         alloc,
@@ -134,17 +127,6 @@ pub(crate) fn keep(kept: &mut [Option<Text>], place: usize, lines: Text)
     kept[place] = Some(lines);
 }
 
-// How many queries from a place on start from this pattern.
-fn count_alike(queries: &[QueryLine], by: Side, opened: &PatternText, place: usize) -> usize {
-    let mut count = 0usize;
-    for k in place..queries.len() {
-        if same_pattern(opened_text(by, &queries[k]), opened) {
-            count = count.saturating_add(1);
-        }
-    }
-    count
-}
-
 // Keeps the lines of each query from a place on that starts from this pattern.
 fn keep_alike<S: DocumentWeights>(
     alloc: Global,
@@ -161,8 +143,7 @@ fn keep_alike<S: DocumentWeights>(
     requires finished { IsFinished saturation.now }
     requires saturated { let pattern = side_of document.now opened.now in
         let p = saturated_system saturation.now in
-        IsSaturated S.operations p options.by (lists options) options.workers pattern
-        saturation.now }
+        IsSaturated S.operations p options.by options.workers pattern saturation.now }
     requires room { length kept.old ≡ length document.now.queries }
     requires kept { let semiring = (saturated_system saturation.now).semiring in
         AreKept S.kind options semiring document.now kept.old }
@@ -181,20 +162,6 @@ fn keep_alike<S: DocumentWeights>(
         keep(kept, k, lines);
     }
     Ok(())
-}
-
-// How many workers saturate. Only relations are heavy enough: with other weights, to hand a transition over costs more than what
-// it gives, so one worker does all.
-fn hired(weights: &WeightsLine, workers: u32) -> u32
-    requires { IsWorkerCount workers }
-    ensures count { IsWorkerCount result }
-    ensures asked { IsOneOrAll workers result }
-{
-    match weights {
-        WeightsLine::Relation => workers,
-        WeightsLine::Reach | WeightsLine::Cost { .. } | WeightsLine::GenKill | WeightsLine::Copy =>
-            1,
-    }
 }
 
 // The lines of the query at a place. Those of the later queries that start from the same pattern are kept: one saturation
@@ -227,17 +194,13 @@ fn lines_by_saturation<
     let query = &document.queries.as_slice()[place];
     let opened = opened_text(options.by, query);
     let pattern = pattern_from(alloc, system, opened)?;
-    let count = count_alike(document.queries.as_slice(), options.by, opened, place);
-    one_worker_serves::<S>();
     let saturation = saturate(
         crew.rt,
         alloc,
         system,
         options.by,
-        options.lists(),
-        hired(&document.weights, options.workers),
+        options.workers,
         &pattern,
-        count,
         crew.gate,
     )?;
     let number = place as u64 + 1;
@@ -254,41 +217,40 @@ fn lines_by_saturation<
     Ok(lines)
 }
 
-// The lines of the query at a place. Lines of later queries that are found with them are kept, and so is a search that those to come share.
+// The lines of the query at a place. Lines of later queries that are found with them are kept.
 fn lines_at<
-    's,
     H: Threads + Wait + Sync,
     S: DocumentWeights<W: Send + Sync, Ret: Send + Sync> + Send + Sync,
     G: Gate,
 >(
     crew: &Crew<'_, H, G>,
     alloc: Global,
-    system: &'s System<S>,
+    system: &System<S>,
     document: &Document<Names>,
     options: Options,
     place: usize,
     kept: &mut [Option<Text>],
-    shared: &mut Option<SharedSearch<'s, S>>,
+    values: &mut Values<'_, S>,
 ) -> Result<Text, OutOfMemory>
     requires document { IsDocument document.now }
     requires system { system.now ≡ system_of S.kind system.now.semiring document.now }
     requires place { place < length document.now.queries }
     requires room { length kept.old ≡ length document.now.queries }
     requires kept { AreKept S.kind options system.now.semiring document.now kept.old }
-    requires shared { IfSome shared.old (λ q. shared_system q ≡ system.now) }
+    requires values { values.old ≡ values_over system.now options }
     requires workers { IsWorkerCount options.workers }
     ensures lines { let semiring = system.now.semiring in
         IfOk result (TellsAt S.kind options semiring document.now place) }
     ensures kept { let semiring = system.now.semiring in
         OnOk result (AreKept S.kind options semiring document.now kept.new) }
     ensures room { length kept.new ≡ length kept.old }
-    ensures shared { OnOk result (IfSome shared.new (λ q. shared_system q ≡ system.now)) }
+    ensures values { values.new ≡ values.old }
 {
     if let Some(lines) = kept[place].take() {
         return Ok(lines);
     }
-    if options.is_brief() && options.by == Side::Pre {
-        lines_by_values(crew, alloc, system, document, options, place, kept, shared)
+    if options.is_brief() {
+        lines_by_values(crew, alloc, system, document, options, place, kept, values)
     } else {
         lines_by_saturation(crew, alloc, system, document, options, place, kept)
     }
@@ -308,14 +270,13 @@ fn nothing_kept(alloc: Global, count: usize) -> Result<Vec<Option<Text>>, OutOfM
 
 // The lines of all queries of a document, in order, over its system.
 fn lines_over<
-    's,
     H: Threads + Wait + Sync,
     S: DocumentWeights<W: Send + Sync, Ret: Send + Sync> + Send + Sync,
     G: Gate,
 >(
     crew: &Crew<'_, H, G>,
     alloc: Global,
-    system: &'s System<S>,
+    system: &System<S>,
     document: &Document<Names>,
     options: Options,
 ) -> Result<Text, OutOfMemory>
@@ -326,7 +287,7 @@ fn lines_over<
 {
     let count = document.queries.len();
     let mut kept = nothing_kept(alloc, count)?;
-    let mut shared: Option<SharedSearch<'s, S>> = None;
+    let mut values = Values::new(system, options.by, options.workers);
     let mut text = Vec::new(alloc);
     for place in 0..count {
         let lines = lines_at(
@@ -337,7 +298,7 @@ fn lines_over<
             options,
             place,
             &mut kept,
-            &mut shared,
+            &mut values,
         )?;
         text.extend_from_slice(lines.as_bytes())?;
     }

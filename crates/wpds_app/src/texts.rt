@@ -18,7 +18,10 @@ usage: wpds gen N [--workers N] [--by pre|post]
 check            answers the queries of the document on standard input
 gen N            answers a ladder of N rungs, from 1 to 10000, that it makes itself
 
---workers N      how many workers saturate, from 1 to 64 (1 if it is not given)
+--workers N      how many workers saturate, from 1 to 64 (1 if it is not given): two and
+                 more have a thread each, and are quicker only where single weights are
+                 heavy to work with (relations between many variables, Boolean programs
+                 with large relations)
 --by pre|post    backwards from where runs end, or forwards from where they begin
                  (pre if it is not given)
 --brief          without the listing of the runs that a value combines; not with gen

@@ -16,8 +16,8 @@ use Rattle.lowering_laws.specs.Queries.{entry_pattern, point_pattern}
 use Rattle.lowering_laws.specs.Weights.{IsDiagramLowering}
 use Rattle.path_sum.specs.Answers.{IsValueOf}
 use Rattle.query_answers.specs.declared.saturation.Saturation.{Saturation}
-use Rattle.report_text.specs.Reports.{lists}
 use Rattle.query_answers.specs.Answering.{opened_of, summed_of, saturated_system, IsAnswer, IsFinished, IsSaturated}
+use Rattle.query_answers.specs.Values.{ValuesOf}
 use Rattle.program_reports.specs.declared.asked.Asked.{Asked}
 
 abbrev pub program_in : Asked → Program
@@ -42,11 +42,15 @@ summed a point = summed_of a.options.by (entry_pattern (program_in a)) (point_pa
 abbrev pub IsValueFor : Asked → Point → Parts → Type 0
 IsValueFor a point value = IsValueOf (IsAnswer relation_operations a.lowering.system a.options.by a.options.workers (entry_pattern (program_in a)) (point_pattern (program_in a) point)) value
 
+-- what values are asked of: the lowering, as the options say
+abbrev pub values_in : Asked → ValuesOf ℕ Parts RelMap
+values_in a = record { system = a.lowering.system; side = a.options.by; workers = a.options.workers }
+
 -- a finished saturation over the lowering, for a point
 pub record Serves (a : Asked) (point : Point) (s : Saturation ℕ Parts RelMap) : Type 0 where
   pub finished : IsFinished s
   pub system : saturated_system s ≡ a.lowering.system
-  pub saturated : IsSaturated relation_operations a.lowering.system a.options.by (lists a.options) a.options.workers (opened a point) s
+  pub saturated : IsSaturated relation_operations a.lowering.system a.options.by a.options.workers (opened a point) s
 
 -- each listed run fires from main's first line, and one of them is feasible
 abbrev pub CanTrace : Program → Pushdown ℕ Parts RelMap → Option Listing → Type 0

@@ -6,7 +6,14 @@ use Rattle.pattern_openings.specs.PatternOpenings.{IsOver}
 use Rattle.document_forms.specs.Documents.{Document}
 use Rattle.document_forms.specs.declared.document.QueryLine.{QueryLine}
 use Rattle.document_systems.specs.Systems.{side_of}
+use Rattle.pushdown_rules.specs.Pushdown.{Pushdown}
+use Rattle.query_answers.specs.Values.{ValuesOf}
+use Rattle.report_text.specs.declared.options.Options.{Options}
 use Rattle.wpds_app.specs.declared.together.Group.{Group}
+
+-- what values are asked of: a system, as the options say
+abbrev pub values_over : {S W Map : Type 0} → Pushdown S W Map → Options → ValuesOf S W Map
+values_over p options = record { system = p; side = options.by; workers = options.workers }
 
 -- The queries at two places begin at the same pattern, and the second ends at this one.
 pub record EndsAt (d : Document) (first place : ℕ) (end : PatternValue) : Type 0 where

@@ -1,7 +1,10 @@
-use Rattle.std.proofs.Common.{◌≡◌, ◌+◌, ◌++◌, length, take, refl, sym, ap, ◌∙◌, subst, arith}
+use Rattle.std.proofs.Common.{◌≡◌, ℕ, ◌+◌, ◌++◌, length, take, refl, sym, ap, ◌∙◌, subst, arith}
 use Rattle.std.proofs.lemmas.List.{length-map}
+use Rattle.relation_laws.specs.Building.{Parts}
+use Rattle.relation_weights.specs.declared.rel_map.RelMap.{RelMap}
 use Rattle.relation_weights.specs.Relations.{relation_operations}
 use Rattle.query_answers.specs.Answering.{AreValues}
+use Rattle.query_answers.specs.Values.{ValuesOf}
 use Rattle.report_text.specs.Reports.{ByQuery}
 use Rattle.lowering_laws.specs.Queries.{point_pattern}
 use Rattle.program_reports.specs.ProgramReports.{TellsPoint}
@@ -15,19 +18,19 @@ value_line-requires-clause-value g c =
     let a = c.args.asked.now in
     let points = c.args.points.now in
     let ends = c.in_ok-ends.ends.items in
-    let values = c.in_ok-shared.values.items in
+    let values = c.in_ok-found.found.items in
     let place = c.loop-place.place in
     let from = c.in_ok-from.from in
-    let found = subst (λ q. AreValues relation_operations q a.options.workers from c.deref.result.now values) c.requires.system (c.in_ok-shared.ensures.values a.options.workers c.requires.workers) in
-    let are : AreValues relation_operations a.lowering.system a.options.workers from ends values =
-    subst (λ xs. AreValues relation_operations a.lowering.system a.options.workers from xs values) c.deref.ensures.value found in
-    value_for a points from ends values place none_there c.index.result.now c.requires.backward c.in_ok-from.ensures.value c.in_ok-ends.ensures.value are c.loop-place-test.true c.index.ensures
+    let found = subst (λ (v : ValuesOf ℕ Parts RelMap). AreValues relation_operations v.system v.side v.workers from c.deref.result.now values) c.requires.values c.in_ok-found.ensures.values in
+    let are : AreValues relation_operations a.lowering.system a.options.by a.options.workers from ends values =
+    subst (λ xs. AreValues relation_operations a.lowering.system a.options.by a.options.workers from xs values) c.deref.ensures.value found in
+    value_for a points from ends values place none_there c.index.result.now c.in_ok-from.ensures.value c.in_ok-ends.ensures.value are c.loop-place-test.true c.index.ensures
 
 pub index-requires : goal.index-requires
 index-requires g c =
     let a = c.args.asked.now in
     let points = c.args.points.now in
-    let are = c.in_ok-shared.ensures.values a.options.workers c.requires.workers in
+    let are = c.in_ok-found.ensures.values in
     let ends = ap length c.in_ok-ends.ensures.value ∙ length-map points (point_pattern (program_in a)) in
     omega (arith, c.loop-place-test.true, are.count, ap length c.deref.ensures.value, ends)
 

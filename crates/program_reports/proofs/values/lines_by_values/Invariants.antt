@@ -1,7 +1,7 @@
 use Rattle.std.proofs.Common.{◌≡◌, ◌≤◌, ◌-◌, length, take}
-use Rattle.query_answers.specs.Shared.{shared_system}
 use Rattle.report_text.specs.Reports.{ByQuery}
 use Rattle.program_reports.specs.ProgramReports.{TellsPoint}
+use Rattle.program_reports.specs.private.Asked.{values_in}
 use Rattle.program_reports.proofs.values.lines_by_values.Given as goal
 
 abbrev pub decreases-loop-place : goal.decreases-loop-place
@@ -11,4 +11,4 @@ abbrev pub invariant-loop-place : goal.invariant-loop-place
 invariant-loop-place g l =
     let a = l.asked in
     (l.place ≤ length a.program.now.queries) × ByQuery (TellsPoint a.options a.program.now a.lowering.system) 1 (take l.place a.program.now.queries) l.text.items
-    × (shared_system l.shared ≡ a.lowering.system)
+    × (l.values ≡ values_in a)

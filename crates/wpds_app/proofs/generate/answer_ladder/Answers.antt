@@ -5,8 +5,8 @@ use Rattle.document_forms.specs.Documents.{Document}
 use Rattle.document_forms.specs.declared.document.QueryLine.{QueryLine}
 use Rattle.document_systems.specs.Weights.{cost_kind}
 use Rattle.document_systems.specs.Systems.{system_of, pattern_of}
-use Rattle.ladder.specs.Ladders.{ladder_document, ladder_cap, question}
-use Rattle.wpds_app.proofs.LadderLemmas.{asked_lawful, opened_over, summed_within, told}
+use Rattle.ladder.specs.Ladders.{ladder_cap, question}
+use Rattle.wpds_app.proofs.LadderLemmas.{asked_lawful, from_over, to_over, told}
 use Rattle.wpds_app.proofs.generate.answer_ladder.Goals as goal
 
 pub pattern_from-requires : goal.pattern_from-requires
@@ -27,28 +27,25 @@ pattern_from-requires-2 g c =
     let query : q ≡ question = c.index-as_slice-0.is ∙ ap (λ xs. get_or xs 0 q) queries in
     (asked_lawful rungs c.in_ok-system.system q (c.ladders_are_documents.ensures.lawful rungs c.requires.0.1) is query).to
 
-pub value-requires-clause-opened : goal.value-requires-clause-opened
-value-requires-clause-opened g c κs within =
-    let d = ladder_document c.args.generation.rungs in
+pub value-requires-clause-from : goal.value-requires-clause-from
+value-requires-clause-from g c κs within =
     let is = c.in_ok-system.ensures ∙ ap₂ (system_of cost_kind) c.costs.ensures c.in_ok-document.ensures in
     let symbols = ap (λ (p : Pushdown ℕ (Option ℕ) NoMap). p.symbols) is in
     let q = c.index-as_slice-0.result in
     let queries = c.as_slice.ensures ∙ ap (λ (x : Document). x.queries) c.in_ok-document.ensures in
     let query : q ≡ question = c.index-as_slice-0.is ∙ ap (λ xs. get_or xs 0 q) queries in
     let begin = c.in_ok-from.ensures ∙ ap₂ pattern_of symbols (ap (λ (x : QueryLine). x.from) query) in
-    let end = c.in_ok-to.ensures ∙ ap₂ pattern_of symbols (ap (λ (x : QueryLine). x.to) query) in
-    opened_over c.args.generation.rungs c.in_ok-system.system c.in_ok-from.from c.in_ok-to.to is begin end c.args.generation.by
+    from_over c.args.generation.rungs c.in_ok-system.system c.in_ok-from.from is begin
 
-pub value-requires-clause-summed : goal.value-requires-clause-summed
-value-requires-clause-summed g c κs within =
+pub value-requires-clause-to : goal.value-requires-clause-to
+value-requires-clause-to g c κs within =
     let is = c.in_ok-system.ensures ∙ ap₂ (system_of cost_kind) c.costs.ensures c.in_ok-document.ensures in
     let symbols = ap (λ (p : Pushdown ℕ (Option ℕ) NoMap). p.symbols) is in
     let q = c.index-as_slice-0.result in
     let queries = c.as_slice.ensures ∙ ap (λ (x : Document). x.queries) c.in_ok-document.ensures in
     let query : q ≡ question = c.index-as_slice-0.is ∙ ap (λ xs. get_or xs 0 q) queries in
-    let begin = c.in_ok-from.ensures ∙ ap₂ pattern_of symbols (ap (λ (x : QueryLine). x.from) query) in
     let end = c.in_ok-to.ensures ∙ ap₂ pattern_of symbols (ap (λ (x : QueryLine). x.to) query) in
-    summed_within c.args.generation.rungs c.in_ok-system.system c.in_ok-from.from c.in_ok-to.to is begin end c.args.generation.by
+    to_over c.args.generation.rungs c.in_ok-system.system c.in_ok-to.to is end
 
 pub returns : goal.returns
 returns g c =

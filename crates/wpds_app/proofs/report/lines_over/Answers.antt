@@ -16,7 +16,7 @@ loop-place-init g c = (
   c.in_ok-kept.ensures.room ∙ c.len-count.ensures,
   nothing_kept g.S.DocumentWeights.kind c.args.options c.args.system.now.semiring c.args.document.now c.in_ok-kept.kept.items c.in_ok-kept.ensures.empty,
   c.new-text.ensures.items,
-  tt,
+  c.new-values.ensures,
 )
 
 pub loop-place-preserved : goal.loop-place-preserved
@@ -36,4 +36,4 @@ loop-place-preserved g c =
     let joined = c.in_ok-extend_from_slice.ensures.items ∙ ap (λ t. c.loop-place.text.items ++ t) c.as_bytes.ensures in
     let K : List (Option (List ℕ)) → Type 0 = λ ks. (length ks ≡ length d.queries) × AreKept kind c.args.options semiring d ks in
     let kept : K (take c.loop-place.kept.len (new ++ rest)) = subst K (sym whole) (room, c.in_ok-lines.ensures.kept) in
-    (kept.0, kept.1, subst (ByQuery (TellsQuery kind c.args.options semiring d) 1 (take (place + 1) d.queries)) (sym joined) grown, c.in_ok-lines.ensures.shared)
+    (kept.0, kept.1, subst (ByQuery (TellsQuery kind c.args.options semiring d) 1 (take (place + 1) d.queries)) (sym joined) grown, c.lines_at.ensures.values ∙ c.loop-place.invariant.3)

@@ -1,8 +1,7 @@
 use Rattle.std.proofs.Common.{◌≡◌, length, take}
-use Rattle.std.specs.Prelude.{IfSome}
-use Rattle.query_answers.specs.Shared.{shared_system}
 use Rattle.report_text.specs.Reports.{ByQuery}
 use Rattle.wpds_app.specs.Reports.{TellsQuery}
+use Rattle.wpds_app.specs.private.Groups.{values_over}
 use Rattle.wpds_app.specs.private.Kept.{AreKept}
 use Rattle.wpds_app.proofs.report.lines_over.Given as goal
 
@@ -13,4 +12,4 @@ invariant-loop-place g l =
     (length l.kept.items ≡ length d.queries)
     × AreKept kind l.options l.system.semiring d l.kept.items
     × ByQuery (TellsQuery kind l.options l.system.semiring d) 1 (take l.place d.queries) l.text.items
-    × IfSome l.shared (λ q. shared_system q ≡ l.system)
+    × (l.values ≡ values_over l.system l.options)

@@ -5,13 +5,10 @@ use Rattle.document_forms.specs.Lawful.{IsPatternText}
 use Rattle.document_forms.specs.declared.pattern.PatternText.{PatternText}
 use Rattle.pushdown_rules.specs.Pushdown.{Pushdown}
 use Rattle.document_systems.specs.Systems.{pattern_of, side_of}
-use Rattle.path_sum.specs.Answers.{IsValueOf}
-use Rattle.query_answers.specs.Answering.{opened_of, saturated_system, IsAnswer, IsSaturated}
-use Rattle.report_text.specs.Reports.{lists}
-use Rattle.report_text.proofs.CallerLemmas.{lists_otherwise}
+use Rattle.query_answers.specs.Answering.{saturated_system, IsAnswer, IsSaturated}
 use Rattle.wpds_app.specs.Reports.{IsQueryText}
 use Rattle.wpds_app.specs.private.Kept.{summed_text}
-use Rattle.wpds_app.proofs.ReportingLemmas.{opened_side, summed_side, opened_below, summed_lawful, lines_told, line_told}
+use Rattle.wpds_app.proofs.ReportingLemmas.{opened_side, summed_side, opened_below, summed_lawful, lines_told}
 use Rattle.wpds_app.proofs.report.query_lines.Goals as goal
 
 pub pattern_from-requires : goal.pattern_from-requires
@@ -30,37 +27,6 @@ answer_over-requires-clause-control g c =
     let count = ap (λ (p : Pushdown _ _ _). p.controls) c.requires.system in
     omega (arith, control, count, lawful.control)
 
-pub value_over-requires-clause-control : goal.value_over-requires-clause-control
-value_over-requires-clause-control g c =
-    let lawful = summed_lawful c.args.options.by c.args.document.now c.args.query.now c.requires.query in
-    let control = ap (λ (x : PatternValue). x.control) c.in_ok-summed.ensures ∙ ap (λ (t : PatternText). t.control) c.summed_text.ensures in
-    let count = ap (λ (p : Pushdown _ _ _). p.controls) c.requires.system in
-    omega (arith, control, count, lawful.control)
-
-pub returns-then-is_brief : goal.returns-then-is_brief
-returns-then-is_brief g c =
-    let p = saturated_system c.args.saturation.now in
-    let d = c.args.document.now in
-    let q = c.args.query.now in
-    let by = c.args.options.by in
-    let workers = c.args.options.workers in
-    let kind = g.S.DocumentWeights.kind in
-    let operations = g.S.Semiring.operations in
-    let from = side_of d q.from in
-    let to = side_of d q.to in
-    let v = c.in_ok-value.value in
-    let value = c.system-system.ensures in
-    let below = opened_below kind by p d q c.requires.system c.requires.query in
-    let saturated = subst (λ x. IsSaturated operations p by (lists c.args.options) workers x c.args.saturation.now) (sym (opened_side by d q)) c.requires.saturated in
-    let symbols = ap (λ (s : Pushdown _ _ _). s.symbols) value ∙ ap (λ (s : Pushdown _ _ _). s.symbols) c.requires.system in
-    let summed = c.in_ok-summed.ensures ∙ ap₂ pattern_of symbols c.summed_text.ensures in
-    let is = c.in_ok-value.ensures p by (lists c.args.options) workers from to below (summed_side by d q ∙ sym summed) saturated in
-    let over_kind = subst (λ o. IsValueOf (IsAnswer o p by workers from to) v) (sym g.met.S.DocumentWeights.computes) is in
-    let semiring = c.semiring.ensures.value ∙ ap (λ (s : Pushdown _ _ _). s.semiring) value in
-    let brief = c.is_brief.ensures.0 c.if-is_brief.true in
-    let told = line_told kind c.args.options p d.items c.args.number from to v c.value_line.result c.semiring.result.now brief over_kind semiring c.value_line.ensures in
-    subst (λ s. IfOk c.value_line.result (IsQueryText kind c.args.options s d.items c.args.number from to)) c.requires.system told
-
 pub returns : goal.returns
 returns g c =
     let p = saturated_system c.args.saturation.now in
@@ -75,13 +41,11 @@ returns g c =
     let to = side_of d q.to in
     let value = c.system-system.ensures in
     let below = opened_below kind by p d q c.requires.system c.requires.query in
-    let listed = lists_otherwise c.args.options c.is_brief.result c.is_brief.ensures c.if-is_brief.false in
-    let saturated = subst (λ b. IsSaturated operations p by b workers (opened_of by from to) c.args.saturation.now) listed
-    (subst (λ x. IsSaturated operations p by (lists c.args.options) workers x c.args.saturation.now) (sym (opened_side by d q)) c.requires.saturated) in
+    let saturated = subst (λ x. IsSaturated operations p by workers x c.args.saturation.now) (sym (opened_side by d q)) c.requires.saturated in
     let symbols = ap (λ (s : Pushdown _ _ _). s.symbols) value ∙ ap (λ (s : Pushdown _ _ _). s.symbols) c.requires.system in
     let summed = c.in_ok-summed.ensures ∙ ap₂ pattern_of symbols c.summed_text.ensures in
     let is = c.in_ok-answer.ensures p by workers from to below (summed_side by d q ∙ sym summed) saturated in
     let over_kind = subst (λ o. IsAnswer o p by workers from to a) (sym g.met.S.DocumentWeights.computes) is in
-    let semiring = c.semiring-2.ensures.value ∙ ap (λ (s : Pushdown _ _ _). s.semiring) value in
-    let told = lines_told kind c.args.options p d.items c.args.number from to a c.answer_lines.result c.semiring-2.result.now over_kind semiring c.answer_lines.ensures in
+    let semiring = c.semiring.ensures.value ∙ ap (λ (s : Pushdown _ _ _). s.semiring) value in
+    let told = lines_told kind c.args.options p d.items c.args.number from to a c.answer_lines.result c.semiring.result.now over_kind semiring c.answer_lines.ensures in
     subst (λ s. IfOk c.answer_lines.result (IsQueryText kind c.args.options s d.items c.args.number from to)) c.requires.system told
