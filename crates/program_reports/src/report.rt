@@ -143,10 +143,10 @@ fn all_lines<H: Threads + Wait + Sync, G: Gate>(
 
 /// The report on a Boolean program: for each query `reachable`, with the listing unless that is
 /// left out, exactly where some state of some run of the program's machine has the query's point on
-/// top, and `unreachable` exactly where none has. Forwards all queries share one saturation. Backwards
-/// each has its own where listings or states are written. Where neither are, the values of many queries
-/// are found together, by either direction. Refused only when out of memory. Two workers and more have
-/// a thread each, whatever is asked; each worker, one alone too, calls the gate between taking a
+/// top, and `unreachable` exactly where none has. Where neither listings nor states are written, the
+/// values of many queries are found together. Otherwise forwards all queries share one saturation,
+/// and backwards each has its own. Refused only when out of memory. Two workers and more have a
+/// thread each, whatever is asked; each worker, one alone too, calls the gate between taking a
 /// transition and settling it.
 pub fn report_on_program<H: Threads + Wait + Sync, G: Gate>(
     rt: &H,
