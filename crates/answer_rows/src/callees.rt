@@ -1,8 +1,12 @@
+ghost use Rattle.std.specs.Prelude.{All, IfOk};
+ghost use Rattle.pattern_openings.specs.PatternOpenings.{IsOver};
+
 use crate::answers::{Query, Row};
+use config_patterns::Pattern;
 use cost_weights::Cost;
 use pushdown_rules::{RuleFault, System};
-use query_answers::{saturate, value_over};
-use row_systems::{A, B, C, D, pattern_over};
+use query_answers::Values;
+use row_systems::{A, B, C, D, Items, pattern_over};
 use std::alloc::Global;
 use std::sync::Wait;
 use std::test::Fail;
@@ -13,41 +17,70 @@ use wpds_base::OpenGate;
 // The fifth symbol.
 const E: (&[u32], bool) = (&[4], false);
 
-// The cost of a query, forwards, as one of so many over one search. Each system here has twice as many push rules as callees, so
-// it goes through each once.
-fn forward_cost(
+// How many queries are asked at most.
+const MOST: usize = 100;
+
+// The same pattern so many times.
+fn alike(
+    alloc: Global,
+    system: &System<Cost>,
+    control: u32,
+    items: Items<'_>,
+    count: usize,
+) -> Result<Vec<Pattern>, Fail>
+    ensures { IfOk result (λ v.
+        All (IsOver system.now.controls system.now.symbols) v.items) }
+{
+    let mut patterns = Vec::new(alloc);
+    for _made in 0..count {
+        patterns.push(pattern_over(alloc, system, control, items)?)?;
+    }
+    Ok(patterns)
+}
+
+// The cost of a query, by a direction: as one of so many that ask the same, by one worker or by two.
+fn cost_among(
     rt: &(impl Threads + Wait + Sync + AllocGlobal),
     system: &System<Cost>,
+    side: Side,
+    two: bool,
     query: Query,
     queries: usize,
 ) -> Result<Option<u64>, Fail> {
     let (start, start_items, end, end_items) = query;
     let from = pattern_over(rt.alloc(), system, start, start_items)?;
-    let to = pattern_over(rt.alloc(), system, end, end_items)?;
-    let side = Side::Post;
-    let search = saturate(
-        rt,
-        rt.alloc(),
-        system,
-        side,
-        false,
-        1,
-        &from,
-        queries,
-        &OpenGate,
-    )?;
-    Ok(value_over(rt.alloc(), &search, &to)?)
+    let tos = alike(rt.alloc(), system, end, end_items, queries)?;
+    if tos.len() > MOST {
+        return Err(Fail::new("too many queries"));
+    }
+    let mut values = match two {
+        false => Values::new(system, side, 1),
+        true => Values::new(system, side, 2),
+    };
+    let costs = values.values_from(rt, rt.alloc(), &from, &tos, &OpenGate)?;
+    match costs.last() {
+        Some(cost) => Ok(*cost),
+        None => Err(Fail::new("no value")),
+    }
 }
 
-// The first row whose query has another cost, forwards: alone, or as one of many, for which what they have in common is found.
+// The first row whose query has another cost: forwards by one worker, alone or as one of many, for which what they have in common
+// is found, and through each callee once, since each system here has twice as many push rules as callees; and by two workers, who
+// close a book, by both directions.
 pub(crate) fn wrong_row(
     rt: &(impl Threads + Wait + Sync + AllocGlobal),
     system: &System<Cost>,
     rows: &[Row],
 ) -> Result<Option<usize>, Fail> {
+    let ways = [
+        (Side::Post, false, 1),
+        (Side::Post, false, MOST),
+        (Side::Post, true, 1),
+        (Side::Pre, true, 2),
+    ];
     for (k, (query, cost)) in rows.iter().enumerate() {
-        for queries in [1, 100] {
-            if forward_cost(rt, system, *query, queries)? != *cost {
+        for (side, two, queries) in ways {
+            if cost_among(rt, system, side, two, *query, queries)? != *cost {
                 return Ok(Some(k));
             }
         }
