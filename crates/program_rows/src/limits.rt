@@ -71,12 +71,6 @@ const BYTES: [Row; 5] = [
     },
 ];
 
-#[test]
-fn bytes(rt: HostRuntime) -> Result<(), OutOfMemory> {
-    assert_eq!(rt; first_wrong(rt.alloc(), &BYTES)?, None);
-    Ok(())
-}
-
 // The first body line is on line 3.
 const HEAD: &str = "bool 1\nproc main()\nL: skip\n";
 
@@ -137,12 +131,6 @@ const POINTS: [Row; 9] = [
     },
 ];
 
-#[test]
-fn points(rt: HostRuntime) -> Result<(), OutOfMemory> {
-    assert_eq!(rt; first_wrong(rt.alloc(), &POINTS)?, None);
-    Ok(())
-}
-
 // Blocks nest as deep as body lines allow.
 const BLOCKS: [Row; 4] = [
     Row {
@@ -173,12 +161,6 @@ const BLOCKS: [Row; 4] = [
         refused: Some((40_001, 4)),
     },
 ];
-
-#[test]
-fn blocks(rt: HostRuntime) -> Result<(), OutOfMemory> {
-    assert_eq!(rt; first_wrong(rt.alloc(), &BLOCKS)?, None);
-    Ok(())
-}
 
 const WAYS: &str = "bool 1\nproc main()\nL: assert 1\nif *\nwhile *\nend\nend\ngoto";
 
@@ -243,12 +225,6 @@ const RULES: [Row; 7] = [
     },
 ];
 
-#[test]
-fn rules(rt: HostRuntime) -> Result<(), OutOfMemory> {
-    assert_eq!(rt; first_wrong(rt.alloc(), &RULES)?, None);
-    Ok(())
-}
-
 // The first query is on line 5.
 const ASKED: &str = "bool 1\nproc main()\nL: skip\nend\n";
 
@@ -289,12 +265,6 @@ const QUERIES: [Row; 5] = [
         refused: Some((1_005, 9)),
     },
 ];
-
-#[test]
-fn queries(rt: HostRuntime) -> Result<(), OutOfMemory> {
-    assert_eq!(rt; first_wrong(rt.alloc(), &QUERIES)?, None);
-    Ok(())
-}
 
 const LOCAL: &str = "bool 1\nproc main()\nlocal x\nL: assume ";
 
@@ -354,12 +324,6 @@ const DEPTHS: [Row; 6] = [
     },
 ];
 
-#[test]
-fn depths(rt: HostRuntime) -> Result<(), OutOfMemory> {
-    assert_eq!(rt; first_wrong(rt.alloc(), &DEPTHS)?, None);
-    Ok(())
-}
-
 // A name has 64 bytes at most.
 const NAMES: [Row; 3] = [
     Row {
@@ -392,7 +356,28 @@ const NAMES: [Row; 3] = [
 ];
 
 #[test]
-fn names(rt: HostRuntime) -> Result<(), OutOfMemory> {
-    assert_eq!(rt; first_wrong(rt.alloc(), &NAMES)?, None);
+fn bytes(rt: HostRuntime) -> Result<(), OutOfMemory> {
+    assert_eq!(rt; first_wrong(rt.alloc(), &BYTES)?, None);
+    Ok(())
+}
+
+#[test]
+fn lines(rt: HostRuntime) -> Result<(), OutOfMemory> {
+    for (what, rows) in [("points", POINTS.as_slice()), ("blocks", &BLOCKS)] {
+        assert_eq!(rt; first_wrong(rt.alloc(), rows)?, None, "among {what}");
+    }
+    Ok(())
+}
+
+#[test]
+fn what_lines_have(rt: HostRuntime) -> Result<(), OutOfMemory> {
+    for (what, rows) in [
+        ("rules", RULES.as_slice()),
+        ("queries", &QUERIES),
+        ("depths", &DEPTHS),
+        ("names", &NAMES),
+    ] {
+        assert_eq!(rt; first_wrong(rt.alloc(), rows)?, None, "among {what}");
+    }
     Ok(())
 }

@@ -445,30 +445,14 @@ fn first_wrong(alloc: Global, rows: &[(&[u8], u64, u32)]) -> Result<Option<usize
 
 #[test]
 fn texts_are_programs_or_refused(rt: HostRuntime) -> Result<(), OutOfMemory> {
-    assert_eq!(rt; first_wrong(rt.alloc(), &ROWS)?, None);
-    Ok(())
-}
-
-#[test]
-fn lines_stand_in_their_places(rt: HostRuntime) -> Result<(), OutOfMemory> {
-    assert_eq!(rt; first_wrong(rt.alloc(), &PLACES)?, None);
-    Ok(())
-}
-
-#[test]
-fn names_are_looked_up(rt: HostRuntime) -> Result<(), OutOfMemory> {
-    assert_eq!(rt; first_wrong(rt.alloc(), &NAMES)?, None);
-    Ok(())
-}
-
-#[test]
-fn procedures_are_so_wide(rt: HostRuntime) -> Result<(), OutOfMemory> {
-    assert_eq!(rt; first_wrong(rt.alloc(), &WIDTHS)?, None);
-    Ok(())
-}
-
-#[test]
-fn stars_are_whole_values(rt: HostRuntime) -> Result<(), OutOfMemory> {
-    assert_eq!(rt; first_wrong(rt.alloc(), &STARS)?, None);
+    for (what, rows) in [
+        ("texts", ROWS.as_slice()),
+        ("places", &PLACES),
+        ("names", &NAMES),
+        ("widths", &WIDTHS),
+        ("stars", &STARS),
+    ] {
+        assert_eq!(rt; first_wrong(rt.alloc(), rows)?, None, "among {what}");
+    }
     Ok(())
 }

@@ -1,31 +1,14 @@
-//! Rows of whole documents and what `check` writes on them, as tests.
+//! What `run` does with whole documents where it takes a call to see it: failing devices, gates, workers and a
+//! report of a hundred thousand lines, as tests. What only compares a document's report stands in `rows/`.
 #![tactic(auto)]
 
 #[cfg(test)]
-mod answers;
-#[cfg(test)]
-mod constants;
-#[cfg(test)]
 mod devices;
-#[cfg(test)]
-mod facts;
 #[cfg(test)]
 mod ladders;
 #[cfg(test)]
-mod large;
-#[cfg(test)]
-mod lines;
-#[cfg(test)]
-mod lowest;
-#[cfg(test)]
-mod names;
-#[cfg(test)]
-mod patterns;
-#[cfg(test)]
-mod relations;
+mod longest;
 #[cfg(test)]
 mod rows;
-#[cfg(test)]
-mod rules;
 #[cfg(test)]
 mod workers;

@@ -93,28 +93,28 @@ fn lens(alloc: Global, names: &[&[u8]]) -> Result<(usize, usize), OutOfMemory> {
     Ok((len, table.into_names(alloc)?.len()))
 }
 
-#[test]
-fn an_empty_table_has_no_names(rt: HostRuntime) -> Result<(), OutOfMemory> {
-    let table = NameTable::new(rt.alloc());
-    assert!(rt; table.number_of(b"").is_none() && table.number_of(b"p").is_none());
-    assert!(rt; lens(rt.alloc(), &[])? == (0, 0));
-    Ok(())
-}
+// Names that are added, names that are asked for, and what is shown of both: a name keeps its first number, and a prefix is
+// another name.
+const SHOWN: [(&[u8], &[u8], &str); 3] = [
+    (b"start end start middle", b"start end middle", "++=+012"),
+    (b"main", b"mai main1 main", "+--0"),
+    (b"main mai", b"mai main", "++10"),
+];
 
 #[test]
-fn a_name_keeps_its_first_number(rt: HostRuntime) -> Result<(), OutOfMemory> {
-    let text = shown(rt.alloc(), b"start end start middle", b"start end middle")?;
-    assert!(rt; text.as_str() == "++=+012");
-    assert!(rt; lens(rt.alloc(), &[b"start", b"end", b"start", b"middle"])? == (3, 3));
-    Ok(())
-}
-
-#[test]
-fn a_prefix_is_another_name(rt: HostRuntime) -> Result<(), OutOfMemory> {
-    let text = shown(rt.alloc(), b"main", b"mai main1 main")?;
-    assert!(rt; text.as_str() == "+--0");
-    let text = shown(rt.alloc(), b"main mai", b"mai main")?;
-    assert!(rt; text.as_str() == "++10");
+fn names_have_their_numbers(rt: HostRuntime) -> Result<(), OutOfMemory> {
+    for (names, asked, text) in SHOWN {
+        assert_eq!(rt; shown(rt.alloc(), names, asked)?.as_str(), text);
+    }
+    let none = NameTable::new(rt.alloc());
+    assert!(rt; none.number_of(b"").is_none() && none.number_of(b"p").is_none());
+    let rows: [(&[&[u8]], (usize, usize)); 2] = [
+        (&[], (0, 0)),
+        (&[b"start", b"end", b"start", b"middle"], (3, 3)),
+    ];
+    for (names, counts) in rows {
+        assert_eq!(rt; lens(rt.alloc(), names)?, counts);
+    }
     Ok(())
 }
 

@@ -108,23 +108,34 @@ fn reads_as(alloc: Global, text: &[u8], from: &str, to: &str) -> Result<bool, Ou
     Ok(read.faults == FINE && same_from && same_to)
 }
 
+// A query with each kind of item, and one whose sides have their own items.
+const READ: [(&[u8], &str, &str); 2] = [
+    (
+        b"q : . b {c} {b a} .* a* {c}* { b c a } * => p :",
+        "1 : . [1] [2] [1, 0] .* [0]* [2]* [1, 2, 0]*",
+        "0 :",
+    ),
+    (b"p:a=>q:.*b", "0 : [0]", "1 : .* [1]"),
+];
+
 #[test]
-fn a_query_of_each_kind_of_item(rt: HostRuntime) -> Result<(), OutOfMemory> {
-    let text = b"q : . b {c} {b a} .* a* {c}* { b c a } * => p :";
-    let from = "1 : . [1] [2] [1, 0] .* [0]* [2]* [1, 2, 0]*";
-    assert!(rt; reads_as(rt.alloc(), text, from, "0 :")?);
+fn queries_have_their_items(rt: HostRuntime) -> Result<(), OutOfMemory> {
+    for (text, from, to) in READ {
+        assert!(rt; reads_as(rt.alloc(), text, from, to)?, "{from} to {to}");
+    }
     Ok(())
 }
 
-#[test]
-fn each_side_has_its_own_items(rt: HostRuntime) -> Result<(), OutOfMemory> {
-    assert!(rt; reads_as(rt.alloc(), b"p:a=>q:.*b", "0 : [0]", "1 : .* [1]")?);
-    Ok(())
-}
+const TWICE_AND_UNKNOWN: QueryFaults = QueryFaults {
+    twice: true,
+    unknown: true,
+    count: false,
+};
 
-#[test]
-fn what_has_no_form(rt: HostRuntime) -> Result<(), OutOfMemory> {
-    let lines = b"p : => q : { }
+// Lines of queries, and what is amiss with each; of none, that it has no form.
+const AMISS: [(&[u8], Option<QueryFaults>); 5] = [
+    (
+        b"p : => q : { }
 p : => q : { } *
 p : a * * => q :
 p : * a => q :
@@ -141,63 +152,59 @@ p => q :
 p : a q : b
 p : => q : => q :
 p : =>
-";
-    assert!(rt; each_is(rt.alloc(), lines, None)?);
-    Ok(())
-}
-
-#[test]
-fn a_symbol_twice_in_a_set(rt: HostRuntime) -> Result<(), OutOfMemory> {
-    let lines = b"p : { a b a } => q :
+",
+        None,
+    ),
+    // a symbol twice in a set
+    (
+        b"p : { a b a } => q :
 p : => q : a { c c } *
-p : { a b c b } { a } => q : a";
-    assert!(rt; each_is(rt.alloc(), lines, Some(TWICE))?);
-    // In two sets it may stand once in each.
-    let lines = b"p : a { a b } => q : { b a } a";
-    assert!(rt; each_is(rt.alloc(), lines, Some(FINE))?);
-    Ok(())
-}
-
-#[test]
-fn names_that_are_not_declared(rt: HostRuntime) -> Result<(), OutOfMemory> {
-    let lines = b"r : => q :
+p : { a b c b } { a } => q : a",
+        Some(TWICE),
+    ),
+    // in two sets it may stand once in each
+    (b"p : a { a b } => q : { b a } a", Some(FINE)),
+    (
+        b"r : => q :
 p : => r :
 a : => q :
 p : d => q :
 p : => q : { a d }
-p : { d } { d } => q : d";
-    assert!(rt; each_is(rt.alloc(), lines, Some(UNKNOWN))?);
-    // One that stands twice in a set is both.
-    let both = QueryFaults {
-        twice: true,
-        unknown: true,
-        count: false,
-    };
-    assert!(rt; each_is(rt.alloc(), b"p : { d a d } => q :", Some(both))?);
+p : { d } { d } => q : d",
+        Some(UNKNOWN),
+    ),
+    // one that is not declared, twice in a set, is both
+    (b"p : { d a d } => q :", Some(TWICE_AND_UNKNOWN)),
+];
+
+#[test]
+fn what_is_amiss_is_told(rt: HostRuntime) -> Result<(), OutOfMemory> {
+    for (lines, answer) in AMISS {
+        assert!(rt; each_is(rt.alloc(), lines, answer)?, "at {answer:?}");
+    }
     Ok(())
 }
+
+const TWICE_AND_TOO_LARGE: QueryFaults = QueryFaults {
+    twice: true,
+    unknown: false,
+    count: true,
+};
+
+// An item so many times, and what is amiss then. What stands behind too many items is read all the same.
+const MANY: [(&[u8], u32, Option<QueryFaults>); 4] = [
+    (b" a", 1_000, Some(FINE)),
+    (b" a", 1_001, Some(TOO_LARGE)),
+    (b" a* *", 1_001, None),
+    (b" {a a}", 1_001, Some(TWICE_AND_TOO_LARGE)),
+];
 
 #[test]
 fn as_many_items_as_there_may_be(rt: HostRuntime) -> Result<(), OutOfMemory> {
-    let most = many_items(rt.alloc(), b" a", 1_000)?;
-    assert!(rt; each_is(rt.alloc(), &most, Some(FINE))?);
-    let more = many_items(rt.alloc(), b" a", 1_001)?;
-    assert!(rt; each_is(rt.alloc(), &more, Some(TOO_LARGE))?);
-    Ok(())
-}
-
-// What stands behind too many items is read all the same.
-#[test]
-fn items_behind_too_many(rt: HostRuntime) -> Result<(), OutOfMemory> {
-    let broken = many_items(rt.alloc(), b" a* *", 1_001)?;
-    assert!(rt; each_is(rt.alloc(), &broken, None)?);
-    let both = QueryFaults {
-        twice: true,
-        unknown: false,
-        count: true,
-    };
-    let repeated = many_items(rt.alloc(), b" {a a}", 1_001)?;
-    assert!(rt; each_is(rt.alloc(), &repeated, Some(both))?);
+    for (item, count, answer) in MANY {
+        let text = many_items(rt.alloc(), item, count)?;
+        assert!(rt; each_is(rt.alloc(), &text, answer)?, "at {answer:?}");
+    }
     Ok(())
 }
 
@@ -208,17 +215,19 @@ fn turns_large(alloc: Global, text: &[u8], all: usize) -> Result<bool, OutOfMemo
     Ok(fine && faults(alloc, all.saturating_add(1), text)? == Some(TOO_LARGE))
 }
 
-#[test]
-fn as_many_edges_as_there_may_be(rt: HostRuntime) -> Result<(), OutOfMemory> {
-    assert!(rt; turns_large(rt.alloc(), b"p : . => q :", 1_000_000)?);
-    assert!(rt; turns_large(rt.alloc(), b"p : . a => q :", 999_999)?);
-    assert!(rt; turns_large(rt.alloc(), b"p : a* . => q :", 499_999)?);
-    assert!(rt; turns_large(rt.alloc(), b"p : => q : .* b .", 333_332)?);
-    Ok(())
-}
+const EDGES: [(&[u8], usize); 4] = [
+    (b"p : . => q :", 1_000_000),
+    (b"p : . a => q :", 999_999),
+    (b"p : a* . => q :", 499_999),
+    (b"p : => q : .* b .", 333_332),
+];
 
 #[test]
-fn more_edges_than_a_word_counts(rt: HostRuntime) -> Result<(), OutOfMemory> {
+fn as_many_edges_as_there_may_be(rt: HostRuntime) -> Result<(), OutOfMemory> {
+    for (text, all) in EDGES {
+        assert!(rt; turns_large(rt.alloc(), text, all)?, "at {all} symbols");
+    }
+    // more than a word counts
     let far = faults(rt.alloc(), usize::MAX, b"p : .* .* => q :")?;
     assert!(rt; far == Some(TOO_LARGE));
     Ok(())

@@ -60,40 +60,42 @@ fn a_rule_is_read(rt: HostRuntime) -> Result<(), OutOfMemory> {
     Ok(())
 }
 
-#[test]
-fn rules_without_form(rt: HostRuntime) -> Result<(), OutOfMemory> {
-    let lines = b"p a
+// Lines of rules, and the kind by which each is refused; of none, that it has no form.
+const REFUSED: [(&[u8], Option<Kind>); 5] = [
+    (
+        b"p a
 p a q
 p a -> q a b a
 p a -> q , a
-p a -> q return";
-    assert!(rt; each_is(rt.alloc(), lines, None)?);
-    Ok(())
-}
-
-#[test]
-fn rules_of_what_is_not_declared(rt: HostRuntime) -> Result<(), OutOfMemory> {
-    let lines = b"r a -> q
+p a -> q return",
+        None,
+    ),
+    (
+        b"r a -> q
 p c -> q
 p a -> r
 p a -> q b c
 p a -> q : z := x
-p a -> q a b return restore z";
-    assert!(rt; each_is(rt.alloc(), lines, Some(Kind::Unknown))?);
-    Ok(())
-}
+p a -> q a b return restore z",
+        Some(Kind::Unknown),
+    ),
+    (
+        b"p a -> q a b return restore x x
+r a -> q a b return restore x move x = y",
+        Some(Kind::Twice),
+    ),
+    (
+        b"p a -> q : 1
+p a -> q : x, y := x",
+        Some(Kind::WeightText),
+    ),
+    (b"p a -> q b return plain", Some(Kind::Return)),
+];
 
 #[test]
-fn rules_that_are_refused(rt: HostRuntime) -> Result<(), OutOfMemory> {
-    let twice = b"p a -> q a b return restore x x\nr a -> q a b return restore x move x = y";
-    assert!(rt; each_is(rt.alloc(), twice, Some(Kind::Twice))?);
-    assert!(rt;
-        each_is(
-            rt.alloc(),
-            b"p a -> q : 1\np a -> q : x, y := x",
-            Some(Kind::WeightText)
-        )?
-    );
-    assert!(rt; each_is(rt.alloc(), b"p a -> q b return plain", Some(Kind::Return))?);
+fn rules_are_refused(rt: HostRuntime) -> Result<(), OutOfMemory> {
+    for (lines, kind) in REFUSED {
+        assert!(rt; each_is(rt.alloc(), lines, kind)?, "by {kind:?}");
+    }
     Ok(())
 }

@@ -72,58 +72,54 @@ fn a_system_is_read(rt: HostRuntime) -> Result<(), OutOfMemory> {
     Ok(())
 }
 
-#[test]
-fn names_that_stand_twice(rt: HostRuntime) -> Result<(), OutOfMemory> {
-    let alloc = rt.alloc();
-    let names = b"controls q/controls r q\nsymbols b b";
-    assert!(rt; each_is_refused(alloc, b"reach", names, Kind::Twice)?);
-    assert!(rt; each_is_refused(alloc, b"genkill", b"facts x/facts y x", Kind::Twice)?);
-    assert!(rt; each_is_refused(alloc, b"copy", b"variables x/variables y y", Kind::Twice)?);
-    Ok(())
-}
+// Weights, cases, and the kind by which the last line of each is refused.
+const REFUSED: [(&[u8], &[u8], Kind); 12] = [
+    // names that stand twice
+    (
+        b"reach",
+        b"controls q/controls r q\nsymbols b b",
+        Kind::Twice,
+    ),
+    (b"genkill", b"facts x/facts y x", Kind::Twice),
+    (b"copy", b"variables x/variables y y", Kind::Twice),
+    // names without form, and of other weights
+    (b"reach", b"symbols\nsymbols one\nfacts x", Kind::Form),
+    (b"copy", b"facts x", Kind::Form),
+    (b"genkill", b"variables x", Kind::Form),
+    (b"cost 1", b"variables x", Kind::Form),
+    // more variables than a relation has
+    (
+        b"relation",
+        b"variables b c d e f g h i j k l m n o p q r s t u v w x y z",
+        Kind::Count,
+    ),
+    // lines that say something twice, that have no form, and queries of what is not declared
+    (
+        b"reach",
+        b"weights reach\nweights cost 0\nquery p : { a a } => q : b",
+        Kind::Twice,
+    ),
+    (
+        b"reach",
+        b"weights cost\ncontrol q\n7\nquery p : a",
+        Kind::Form,
+    ),
+    (b"reach", b"controls q/\xc3", Kind::NotText),
+    (
+        b"reach",
+        b"query p : a => q : a\nquery p : a => p : b",
+        Kind::Unknown,
+    ),
+];
 
 #[test]
-fn names_without_form(rt: HostRuntime) -> Result<(), OutOfMemory> {
-    let names = b"symbols\nsymbols one\nfacts x";
-    assert!(rt; each_is_refused(rt.alloc(), b"reach", names, Kind::Form)?);
-    Ok(())
-}
-
-#[test]
-fn names_of_other_weights(rt: HostRuntime) -> Result<(), OutOfMemory> {
-    let alloc = rt.alloc();
-    assert!(rt; each_is_refused(alloc, b"copy", b"facts x", Kind::Form)?);
-    assert!(rt; each_is_refused(alloc, b"genkill", b"variables x", Kind::Form)?);
-    assert!(rt; each_is_refused(alloc, b"cost 1", b"variables x", Kind::Form)?);
-    Ok(())
-}
-
-#[test]
-fn more_variables_than_a_relation_has(rt: HostRuntime) -> Result<(), OutOfMemory> {
-    let names = b"variables b c d e f g h i j k l m n o p q r s t u v w x y z";
-    assert!(rt; each_is_refused(rt.alloc(), b"relation", names, Kind::Count)?);
-    Ok(())
-}
-
-#[test]
-fn lines_that_say_something_twice(rt: HostRuntime) -> Result<(), OutOfMemory> {
-    let lines = b"weights reach\nweights cost 0\nquery p : { a a } => q : b";
-    assert!(rt; each_is_refused(rt.alloc(), b"reach", lines, Kind::Twice)?);
-    Ok(())
-}
-
-#[test]
-fn lines_without_form(rt: HostRuntime) -> Result<(), OutOfMemory> {
-    let lines = b"weights cost\ncontrol q\n7\nquery p : a";
-    assert!(rt; each_is_refused(rt.alloc(), b"reach", lines, Kind::Form)?);
-    assert!(rt; each_is_refused(rt.alloc(), b"reach", b"controls q/\xc3", Kind::NotText)?);
-    Ok(())
-}
-
-#[test]
-fn queries_of_what_is_not_declared(rt: HostRuntime) -> Result<(), OutOfMemory> {
-    let lines = b"query p : a => q : a\nquery p : a => p : b";
-    assert!(rt; each_is_refused(rt.alloc(), b"reach", lines, Kind::Unknown)?);
+fn lines_are_refused(rt: HostRuntime) -> Result<(), OutOfMemory> {
+    for (place, (weights, cases, kind)) in REFUSED.into_iter().enumerate() {
+        assert!(rt;
+            each_is_refused(rt.alloc(), weights, cases, kind)?,
+            "at row {place}"
+        );
+    }
     Ok(())
 }
 

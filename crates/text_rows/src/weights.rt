@@ -40,53 +40,47 @@ fn each_reads(alloc: Global, weights: WeightsLine, lines: &[u8]) -> Result<bool,
     Ok(true)
 }
 
-#[test]
-fn weights_of_reach(rt: HostRuntime) -> Result<(), OutOfMemory> {
-    let lines = b"one#One
+// Weights, and what lines read as with them.
+const ROWS: [(WeightsLine, &[u8]); 5] = [
+    (
+        WeightsLine::Reach,
+        b"one#One
 none#Zero
-1#no form";
-    assert!(rt; each_reads(rt.alloc(), WeightsLine::Reach, lines)?);
-    Ok(())
-}
-
-#[test]
-fn weights_of_costs(rt: HostRuntime) -> Result<(), OutOfMemory> {
-    let lines = b"18446744073709551615#Number(18446744073709551615)
+1#no form",
+    ),
+    (
+        WeightsLine::Cost { cap: 9 },
+        b"18446744073709551615#Number(18446744073709551615)
 18446744073709551616#unknown false unlawful true deep false
-1 2#no form";
-    assert!(rt; each_reads(rt.alloc(), WeightsLine::Cost { cap: 9 }, lines)?);
-    Ok(())
-}
-
-#[test]
-fn weights_of_facts(rt: HostRuntime) -> Result<(), OutOfMemory> {
-    let lines =
+1 2#no form",
+    ),
+    (
+        WeightsLine::GenKill,
         b"+a -c#Facts(Sequence { items: [FactSign { fact: 0, plus: true }, FactSign { fact: 2, plus: false }] })
 +a -d +a#unknown true unlawful true deep false
-#no form";
-    assert!(rt; each_reads(rt.alloc(), WeightsLine::GenKill, lines)?);
-    Ok(())
-}
-
-#[test]
-fn weights_of_copies(rt: HostRuntime) -> Result<(), OutOfMemory> {
-    let lines =
+#no form",
+    ),
+    (
+        WeightsLine::Copy,
         b"a=? b=undef c=a,b,-7,-7#Forms(Sequence { items: [VariableForm { variable: 0, form: Varying }, VariableForm { variable: 1, form: Meet { constant: None, from: 0 } }, VariableForm { variable: 2, form: Meet { constant: Some(-7), from: 3 } }] })
 a=1,2#Forms(Sequence { items: [VariableForm { variable: 0, form: Varying }] })
 a=b,#no form
 a=9223372036854775808 d=undef,a#unknown true unlawful true deep false
-a=-9223372036854775808#Forms(Sequence { items: [VariableForm { variable: 0, form: Meet { constant: Some(-9223372036854775808), from: 0 } }] })";
-    assert!(rt; each_reads(rt.alloc(), WeightsLine::Copy, lines)?);
-    Ok(())
-}
-
-#[test]
-fn weights_of_relations(rt: HostRuntime) -> Result<(), OutOfMemory> {
-    let lines =
+a=-9223372036854775808#Forms(Sequence { items: [VariableForm { variable: 0, form: Meet { constant: Some(-9223372036854775808), from: 0 } }] })",
+    ),
+    (
+        WeightsLine::Relation,
         b"assume a & !b; choose c a; a, b := *, tab2 8 (a, c)#Actions(Sequence { items: [Assume(Expression { held: Parts(Postfix { parts: [Var(0), Var(1), Not, Two(8)] }) }), Choose(Sequence { items: [2, 0] }), Assign(Sequence { items: [Assignment { variable: 0, value: Free }, Assignment { variable: 1, value: Is(Expression { held: Parts(Postfix { parts: [Var(0), Var(2), Two(8)] }) }) }] })] })
 a, a := b#unknown false unlawful true deep false
 assume tab2 16 (d, a)#unknown true unlawful true deep false
-assume a;#no form";
-    assert!(rt; each_reads(rt.alloc(), WeightsLine::Relation, lines)?);
+assume a;#no form",
+    ),
+];
+
+#[test]
+fn weights_are_read(rt: HostRuntime) -> Result<(), OutOfMemory> {
+    for (weights, lines) in ROWS {
+        assert!(rt; each_reads(rt.alloc(), weights, lines)?, "with {weights:?}");
+    }
     Ok(())
 }
