@@ -2,7 +2,9 @@ use crate::short::Short;
 use cost_weights::Cost;
 use prestar::pre_opening;
 use pushdown_rules::{RuleFault, System};
-use row_systems::{A, C, CountingGate, MeetingGate, Row, SOME_A, grows, has_rows, pattern_over};
+use row_systems::{
+    A, C, CountingGate, MeetingGate, RelayGate, Row, SOME_A, grows, has_rows, pattern_over,
+};
 use std::alloc::Global;
 use std::test::Fail;
 use worker_pool::saturate;
@@ -31,6 +33,26 @@ fn two_hands_out(rt: HostRuntime) -> Result<(), Fail> {
     for seat in 0..2u32 {
         assert!(rt; seat < 2);
         assert_eq!(rt; gate.calls_of(seat) as u128, book.takes_of(seat));
+    }
+    Ok(())
+}
+
+// A worker that the gate keeps with its hand until another one calls is not kept in vain: as long as something waits, the other one
+// comes. The pattern has 860 edges, and all of them wait at first, so that during the first 800 calls there is always one to take.
+// Where each call is held the workers alternate, and where every fifth is held they meet at the lock in between.
+#[test]
+fn no_worker_is_kept_in_vain(rt: HostRuntime) -> Result<(), Fail> {
+    let alloc = rt.alloc();
+    let system = grows(alloc, Cost::new(100)?)?;
+    let pattern = pattern_over(alloc, &system, 0, &[SOME_A; 40])?;
+    for (workers, every, relays) in [(2, 1, 800), (2, 5, 160), (8, 1, 800), (8, 5, 160)] {
+        assert!(rt; workers >= 1 && workers <= 64);
+        let opened = pre_opening(alloc, &system, &pattern)?;
+        let gate = RelayGate::new(every, 800);
+        let book = saturate(&rt, alloc, opened, workers, &gate)?;
+        assert!(rt; book.is_closed());
+        assert!(rt; !gate.has_held_in_vain(), "by {workers} at {every}");
+        assert_eq!(rt; gate.relays(), relays, "by {workers} at {every}");
     }
     Ok(())
 }
