@@ -2,8 +2,11 @@ use std::array;
 use std::sync::atomic::{AtomicU64, Ordering};
 use wpds_base::Gate;
 
-// How often a caller that is held looks for another.
+// How often the first caller looks for another.
 const MOST_LOOKS: u64 = 1_000_000_000;
+
+// How often a caller that is held at a relay looks for the next call: many are held, and none of them may be given up too soon.
+const MOST_RELAY_LOOKS: u64 = 10_000_000_000;
 
 /// Counts the calls of each seat, holds its first caller until another seat has called it, and notes whether that happened.
 #[derive(Drop)]
@@ -101,7 +104,7 @@ impl Gate for RelayGate {
         if !self.holds(call) {
             return;
         }
-        for _ in 0..MOST_LOOKS {
+        for _ in 0..MOST_RELAY_LOOKS {
             if self.calls.load(Ordering::SeqCst) > call.saturating_add(1) {
                 self.relays.fetch_add(1, Ordering::SeqCst);
                 return;

@@ -37,15 +37,25 @@ fn two_hands_out(rt: HostRuntime) -> Result<(), Fail> {
     Ok(())
 }
 
-// A worker that the gate keeps with its hand until another one calls is not kept in vain: as long as something waits, the other one
-// comes. The pattern has 860 edges, and all of them wait at first, so that during the first 800 calls there is always one to take.
-// Where each call is held the workers alternate, and where every fifth is held they meet at the lock in between.
+// By how many workers, which of the first 800 calls are held, and how many that are. Where each is held two workers alternate, and
+// never want the lock at once. In between the others they do, so that some sleep at its door when one goes off to be held.
+const RELAYS: [(u32, u64, u64); 6] = [
+    (2, 1, 800),
+    (2, 2, 400),
+    (2, 3, 267),
+    (2, 5, 160),
+    (8, 2, 400),
+    (8, 5, 160),
+];
+
+// A worker that the gate keeps with its hand until another one calls is not kept in vain: as long as something waits, another one
+// comes. The pattern has 860 edges, and all of them wait at first, so that until the gate was called 800 times there is always one.
 #[test]
 fn no_worker_is_kept_in_vain(rt: HostRuntime) -> Result<(), Fail> {
     let alloc = rt.alloc();
     let system = grows(alloc, Cost::new(100)?)?;
     let pattern = pattern_over(alloc, &system, 0, &[SOME_A; 40])?;
-    for (workers, every, relays) in [(2, 1, 800), (2, 5, 160), (8, 1, 800), (8, 5, 160)] {
+    for (workers, every, relays) in RELAYS {
         assert!(rt; workers >= 1 && workers <= 64);
         let opened = pre_opening(alloc, &system, &pattern)?;
         let gate = RelayGate::new(every, 800);
