@@ -1,12 +1,38 @@
 use crate::short::Short;
 use cost_weights::Cost;
-use prestar::pre_opening;
+use prestar::{Pre, pre_opening};
 use pushdown_rules::{RuleFault, System};
-use row_systems::{A, C, CountingGate, MeetingGate, Row, SOME_A, grows, has_rows, pattern_over};
+use row_systems::{
+    A, C, CountingGate, Items, MeetingGate, RelayGate, Row, SOME_A, grows, has_rows, pattern_over,
+};
+use saturation_core::Book;
 use std::alloc::Global;
+use std::sync::Wait;
 use std::test::Fail;
+use std::thread::Threads;
 use worker_pool::saturate;
-use wpds_base::OpenGate;
+use wpds_base::{Gate, OpenGate};
+
+// The book backwards from the items, at the first control, that so many workers close.
+fn closed_by<'s, G: Gate>(
+    rt: &(impl Threads + Wait + Sync),
+    alloc: Global,
+    system: &'s System<Cost>,
+    items: Items<'_>,
+    workers: u32,
+    gate: &G,
+) -> Result<Book<'s, Cost, Pre>, Fail> {
+    if workers < 1 || workers > 64 {
+        return Err(Fail::new("there are 1 to 64 workers"));
+    }
+    let pattern = pattern_over(alloc, system, 0, items)?;
+    let opened = pre_opening(alloc, system, &pattern)?;
+    let book = saturate(rt, alloc, opened, workers, gate)?;
+    if !book.is_closed() {
+        return Err(Fail::new("the book is not closed"));
+    }
+    Ok(book)
+}
 
 // What is found of growth for `p: a a a`.
 const THREE_GROWN: &[Row] = &[
@@ -18,21 +44,78 @@ const THREE_GROWN: &[Row] = &[
     (0, 0, 3, 2),
 ];
 
+// How often two workers take, by seats.
+fn takes_by_two(
+    rt: &(impl Threads + Wait + Sync),
+    alloc: Global,
+    system: &System<Cost>,
+    gate: &MeetingGate,
+) -> Result<[u128; 2], Fail> {
+    let book = closed_by(rt, alloc, system, &[SOME_A], 2, gate)?;
+    Ok([book.takes_of(0), book.takes_of(1)])
+}
+
 // Two workers have hands at once, and for each seat the gate is called as often as the seat takes.
 #[test]
 fn two_hands_out(rt: HostRuntime) -> Result<(), Fail> {
     let alloc = rt.alloc();
     let system = grows(alloc, Cost::new(100)?)?;
-    let pattern = pattern_over(alloc, &system, 0, &[SOME_A])?;
     let gate = MeetingGate::new();
-    let opened = pre_opening(alloc, &system, &pattern)?;
-    let book = saturate(&rt, alloc, opened, 2, &gate)?;
-    assert!(rt; book.is_closed() && gate.have_met());
-    for seat in 0..2u32 {
-        assert!(rt; seat < 2);
-        assert_eq!(rt; gate.calls_of(seat) as u128, book.takes_of(seat));
+    let takes = takes_by_two(&rt, alloc, &system, &gate)?;
+    assert!(rt; gate.have_met());
+    assert_eq!(rt; [gate.calls_of(0) as u128, gate.calls_of(1) as u128], takes);
+    Ok(())
+}
+
+// By how many workers, which of the first 800 calls are held, and how many that are. Where each is held two workers alternate, and
+// never want the lock at once. In between the others they do, so that some sleep at its door when one goes off to be held.
+const RELAYS: [(u32, u64, u64); 6] = [
+    (2, 1, 800),
+    (2, 2, 400),
+    (2, 3, 267),
+    (2, 5, 160),
+    (8, 2, 400),
+    (8, 5, 160),
+];
+
+// How many callers of a gate that holds them are relieved. None if one of them was held in vain.
+fn relays(
+    rt: &(impl Threads + Wait + Sync),
+    alloc: Global,
+    system: &System<Cost>,
+    workers: u32,
+    every: u64,
+) -> Result<Option<u64>, Fail> {
+    let gate = RelayGate::new(every, 800);
+    closed_by(rt, alloc, system, &[SOME_A; 40], workers, &gate)?;
+    if gate.has_held_in_vain() {
+        return Ok(None);
+    }
+    Ok(Some(gate.relays()))
+}
+
+// A worker that the gate keeps with its hand until another one calls is not kept in vain: as long as something waits, another one
+// comes. The pattern has 860 edges, and all of them wait at first, so that until the gate was called 800 times there is always one.
+#[test]
+fn no_worker_is_kept_in_vain(rt: HostRuntime) -> Result<(), Fail> {
+    let alloc = rt.alloc();
+    let system = grows(alloc, Cost::new(100)?)?;
+    for (workers, every, count) in RELAYS {
+        let relieved = relays(&rt, alloc, &system, workers, every)?;
+        assert_eq!(rt; relieved, Some(count), "by {workers} at {every}");
     }
     Ok(())
+}
+
+// How often one worker takes, and how often of that by seat 0.
+fn takes_by_one(
+    rt: &(impl Threads + Wait + Sync),
+    alloc: Global,
+    system: &System<Cost>,
+    gate: &CountingGate,
+) -> Result<(u128, u128), Fail> {
+    let book = closed_by(rt, alloc, system, &[A], 1, gate)?;
+    Ok((book.takes(), book.takes_of(0)))
 }
 
 // One worker calls the gate too, by seat 0.
@@ -40,14 +123,23 @@ fn two_hands_out(rt: HostRuntime) -> Result<(), Fail> {
 fn one_worker_calls_the_gate(rt: HostRuntime) -> Result<(), Fail> {
     let alloc = rt.alloc();
     let system = grows(alloc, Cost::new(100)?)?;
-    let pattern = pattern_over(alloc, &system, 0, &[A])?;
     let gate = CountingGate::new();
-    let opened = pre_opening(alloc, &system, &pattern)?;
-    let book = saturate(&rt, alloc, opened, 1, &gate)?;
-    assert!(rt; book.is_closed() && book.takes() > 0);
-    assert_eq!(rt; book.takes_of(0), book.takes());
-    assert_eq!(rt; gate.calls() as u128, book.takes());
+    let (takes, by_zero) = takes_by_one(&rt, alloc, &system, &gate)?;
+    assert!(rt; takes > 0);
+    assert_eq!(rt; by_zero, takes);
+    assert_eq!(rt; gate.calls() as u128, takes);
     Ok(())
+}
+
+// Whether so many workers find of growth what is to be found.
+fn find_growth(
+    rt: &(impl Threads + Wait + Sync),
+    alloc: Global,
+    system: &System<Cost>,
+    workers: u32,
+) -> Result<bool, Fail> {
+    let book = closed_by(rt, alloc, system, &[A, A, A], workers, &OpenGate)?;
+    Ok(has_rows(&book, THREE_GROWN))
 }
 
 // However many workers there are, the same transitions have the same weights.
@@ -55,13 +147,8 @@ fn one_worker_calls_the_gate(rt: HostRuntime) -> Result<(), Fail> {
 fn each_count_of_workers_finds_the_same(rt: HostRuntime) -> Result<(), Fail> {
     let alloc = rt.alloc();
     let system = grows(alloc, Cost::new(100)?)?;
-    let pattern = pattern_over(alloc, &system, 0, &[A, A, A])?;
     for workers in [1, 2, 8, 64u32] {
-        assert!(rt; workers >= 1 && workers <= 64);
-        let opened = pre_opening(alloc, &system, &pattern)?;
-        let book = saturate(&rt, alloc, opened, workers, &OpenGate)?;
-        assert!(rt; book.is_closed(), "by {workers}");
-        assert!(rt; has_rows(&book, THREE_GROWN), "by {workers}");
+        assert!(rt; find_growth(&rt, alloc, &system, workers)?, "by {workers}");
     }
     Ok(())
 }
@@ -78,24 +165,71 @@ fn short_steps(alloc: Global) -> Result<System<Short>, RuleFault> {
 // or while it is settled.
 const REFUSED: [(u64, u64); 4] = [(1, 0), (2, 0), (0, 1), (0, 2)];
 
+// The book for `p: c` that so many workers close, where from such calls on so many are refused. None where it is not closed.
+fn closed_short<'s, G: Gate>(
+    rt: &(impl Threads + Wait + Sync),
+    alloc: Global,
+    system: &'s System<Short>,
+    refused: (u64, u64),
+    refusals: u64,
+    workers: u32,
+    gate: &G,
+) -> Result<Option<Book<'s, Short, Pre>>, Fail> {
+    if workers < 1 || workers > 64 {
+        return Err(Fail::new("there are 1 to 64 workers"));
+    }
+    let pattern = pattern_over(alloc, system, 0, &[C])?;
+    let opened = pre_opening(alloc, system, &pattern)?;
+    system.semiring().refuse(refused.0, refused.1, refusals);
+    Ok(saturate(rt, alloc, opened, workers, gate).ok())
+}
+
+// How often the workers take, how often of that by the first two seats, how often they call the gate, and how many transitions
+// there are, where one of two workers is refused memory. None where they do not close the book.
+fn counts_of_two(
+    rt: &(impl Threads + Wait + Sync),
+    alloc: Global,
+    system: &System<Short>,
+    refused: (u64, u64),
+) -> Result<Option<[u128; 4]>, Fail> {
+    let gate = CountingGate::new();
+    let Some(book) = closed_short(rt, alloc, system, refused, 1, 2, &gate)? else {
+        return Ok(None);
+    };
+    if !book.is_closed() {
+        return Ok(None);
+    }
+    Ok(Some([
+        book.takes(),
+        book.takes_of(0).saturating_add(book.takes_of(1)),
+        gate.calls() as u128,
+        book.transitions().len() as u128,
+    ]))
+}
+
 // The worker that finds no memory gives its hand back and ends, and the other one closes the book.
 #[test]
 fn one_of_two_finds_no_memory(rt: HostRuntime) -> Result<(), Fail> {
     let alloc = rt.alloc();
-    for (extend, combine) in REFUSED {
+    for refused in REFUSED {
         let system = short_steps(alloc)?;
-        let pattern = pattern_over(alloc, &system, 0, &[C])?;
-        let opened = pre_opening(alloc, &system, &pattern)?;
-        system.semiring().refuse(extend, combine, 1);
-        let gate = CountingGate::new();
-        let book = saturate(&rt, alloc, opened, 2, &gate)?;
-        assert!(rt; book.is_closed(), "at {extend} and {combine}");
-        assert_eq!(rt; book.takes(), 4, "at {extend} and {combine}");
-        assert_eq!(rt; book.takes_of(0).saturating_add(book.takes_of(1)), 4);
-        assert_eq!(rt; gate.calls(), 4);
-        assert_eq!(rt; book.transitions().len(), 3);
+        let counts = counts_of_two(&rt, alloc, &system, refused)?;
+        assert_eq!(rt; counts, Some([4, 4, 4, 3]), "at {refused:?}");
     }
     Ok(())
+}
+
+// Whether so many workers close the book, where each is refused memory.
+fn close_without_memory(
+    rt: &(impl Threads + Wait + Sync),
+    alloc: Global,
+    system: &System<Short>,
+    refused: (u64, u64),
+    workers: u32,
+) -> Result<bool, Fail> {
+    let gate = CountingGate::new();
+    let refusals = workers as u64;
+    Ok(closed_short(rt, alloc, system, refused, refusals, workers, &gate)?.is_some())
 }
 
 // Where each worker has ended for want of memory, that is the answer: with two workers at the second refusal, and with one at
@@ -103,15 +237,11 @@ fn one_of_two_finds_no_memory(rt: HostRuntime) -> Result<(), Fail> {
 #[test]
 fn no_worker_finds_memory(rt: HostRuntime) -> Result<(), Fail> {
     let alloc = rt.alloc();
-    for (extend, combine) in REFUSED {
+    for refused in REFUSED {
         for workers in 1..3u32 {
-            assert!(rt; workers >= 1 && workers <= 2);
             let system = short_steps(alloc)?;
-            let pattern = pattern_over(alloc, &system, 0, &[C])?;
-            let opened = pre_opening(alloc, &system, &pattern)?;
-            system.semiring().refuse(extend, combine, workers as u64);
-            let answer = saturate(&rt, alloc, opened, workers, &CountingGate::new());
-            assert!(rt; answer.is_err(), "by {workers} at {extend} and {combine}");
+            let closed = close_without_memory(&rt, alloc, &system, refused, workers)?;
+            assert!(rt; !closed, "by {workers} at {refused:?}");
         }
     }
     Ok(())
