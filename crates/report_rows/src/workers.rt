@@ -339,7 +339,15 @@ fn finds(
     meet: bool,
 ) -> Result<bool, OutOfMemory> {
     let (document, values) = row;
-    let words = ["--brief", "check", "--by", by, "--workers", workers, "--traces"];
+    let words = [
+        "--brief",
+        "check",
+        "--by",
+        by,
+        "--workers",
+        workers,
+        "--traces",
+    ];
     let ways = [
         (&words[..6], true),
         (&words[1..6], false),
@@ -386,8 +394,14 @@ fn first_wrong<'w>(
 #[test]
 fn each_count_of_workers_writes_the_same(rt: HostRuntime) -> Result<(), OutOfMemory> {
     assert_eq!(rt; first_wrong(&rt, ROWS, "pre", &["1"], false)?, None);
-    assert_eq!(rt; first_wrong(&rt, ROWS, "pre", &["2", "8", "64"], true)?, None);
-    assert_eq!(rt; first_wrong(&rt, ROWS, "post", &["1", "2", "8", "64"], false)?, None);
+    assert_eq!(rt;
+        first_wrong(&rt, ROWS, "pre", &["2", "8", "64"], true)?,
+        None
+    );
+    assert_eq!(rt;
+        first_wrong(&rt, ROWS, "post", &["1", "2", "8", "64"], false)?,
+        None
+    );
     Ok(())
 }
 
@@ -402,7 +416,10 @@ fn workers_meet_over_each_weight(rt: HostRuntime) -> Result<(), OutOfMemory> {
 fn workers_meet_over_programs(rt: HostRuntime) -> Result<(), OutOfMemory> {
     assert_eq!(rt; first_wrong(&rt, LOCKS, "pre", &["1"], false)?, None);
     assert_eq!(rt; first_wrong(&rt, LOCKS, "pre", &["2", "8"], true)?, None);
-    assert_eq!(rt; first_wrong(&rt, LOCKS, "post", &["1", "2", "8"], false)?, None);
+    assert_eq!(rt;
+        first_wrong(&rt, LOCKS, "post", &["1", "2", "8"], false)?,
+        None
+    );
     Ok(())
 }
 
@@ -435,11 +452,19 @@ const EVEN_REPORT: &str = "query 1: relation x' 1 0; x' 0 1; x 2 3
 
 // What runs on these words write, to the byte, with workers who meet.
 const MEETINGS: [(&[&str], &str, &str); 5] = [
-    (&["check", "--brief", "--workers", "2"], GROWTH, "query 1: 0\n"),
+    (
+        &["check", "--brief", "--workers", "2"],
+        GROWTH,
+        "query 1: 0\n",
+    ),
     (&["check", "--workers", "2"], EVEN_GROWTH, EVEN_REPORT),
     (&["check", "--workers", "8"], EVEN_GROWTH, EVEN_REPORT),
     (&["check", "--workers", "64"], EVEN_GROWTH, EVEN_REPORT),
-    (&["gen", "20", "--workers", "2"], "", "gen 20: 61 rules, value 1048576\n"),
+    (
+        &["gen", "20", "--workers", "2"],
+        "",
+        "gen 20: 61 rules, value 1048576\n",
+    ),
 ];
 
 // Two workers have hands out at once. Without the workers, or with all their work on one thread, the gate would hold the first of them
