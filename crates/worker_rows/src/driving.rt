@@ -1,46 +1,101 @@
-ghost use Rattle.std.specs.Prelude.{◌≡◌, [], true};
+ghost use Rattle.std.specs.Prelude.{◌≡◌, ◌<◌, [], true, IfSome};
+ghost use Rattle.std.specs.Option.{ForSome, IsSomeAnd};
 ghost use Rattle.seat_lock.specs.Words.{mine, IsOf};
 ghost use Rattle.worker_pool.specs.Events.{is_ended};
+ghost use Rattle.worker_rows.specs.Parts.{IsSamePass};
 
 use cost_weights::Cost;
 use prestar::{Pre, pre_opening};
 use pushdown_rules::System;
 use row_systems::{MeetingGate, SOME_A, grows, pattern_over};
 use saturation_core::Book;
-use seat_lock::{Pass, SeatLock};
+use seat_lock::{Journaled, Pass, SeatLock};
 use std::alloc::Global;
 use std::sync::Wait;
 use std::test::Fail;
-use std::thread;
-use std::thread::Threads;
-use worker_pool::{DriveEnd, Driven, Shared, drive};
+use std::thread::{Threads, join_mut};
+use worker_pool::{DriveEnd, Shared, drive};
 
-// Drives with each of two passes, in a thread of its own.
-fn drive_both<'s, H: Threads + Wait + Sync>(
+// A pass of a lock, and whether its worker has found the book closed. One value, so that a closure names the book's lifetime once.
+#[derive(Drop)]
+struct Part<'l, T: Journaled> {
+    lock: &'l SeatLock<T>,
+    pass: Option<Pass<T>>,
+    closed: bool,
+    ghost of: { ForSome pass (λ p. IsOf p lock.now) },
+}
+
+// Drives with the pass of a part.
+fn run<'s, H: Wait>(
+    rt: &H,
+    alloc: Global,
+    gate: &MeetingGate,
+    part: &mut Part<'_, Shared<'s, Cost, Pre>>,
+)
+    requires ended { IfSome part.old.pass (λ p. is_ended (mine p) ≡ true) }
+    ensures ran { IfSome part.old.pass (λ p. IsSomeAnd part.new.pass (IsSamePass p)) }
+{
+    let Some(pass) = part.pass.take() else {
+        return;
+    };
+    let driven = drive(rt, alloc, part.lock, pass, gate);
+    part.closed = driven.end == DriveEnd::Closed;
+    part.pass = Some(driven.pass);
+}
+
+// Drives with the passes of two parts, each in a thread of its own.
+fn run_both<'s, H: Threads + Wait + Sync>(
+    rt: &H,
+    alloc: Global,
+    gate: &MeetingGate,
+    zero: &mut Part<'_, Shared<'s, Cost, Pre>>,
+    one: &mut Part<'_, Shared<'s, Cost, Pre>>,
+)
+    requires zero { IfSome zero.old.pass (λ p. is_ended (mine p) ≡ true) }
+    requires one { IfSome one.old.pass (λ p. is_ended (mine p) ≡ true) }
+    ensures zero { IfSome zero.old.pass (λ p. IsSomeAnd zero.new.pass (IsSamePass p)) }
+    ensures one { IfSome one.old.pass (λ p. IsSomeAnd one.new.pass (IsSamePass p)) }
+{
+    join_mut(
+        rt,
+        &mut || run(rt, alloc, gate, zero),
+        &mut || run(rt, alloc, gate, one),
+    );
+}
+
+// Splits a pass that has done nothing yet, drives with both on two threads, and joins them, if both workers have found the book
+// closed.
+fn drive_by_two<'s, H: Threads + Wait + Sync>(
     rt: &H,
     alloc: Global,
     lock: &SeatLock<Shared<'s, Cost, Pre>>,
-    zero: Pass<Shared<'s, Cost, Pre>>,
-    one: Pass<Shared<'s, Cost, Pre>>,
+    pass: Pass<Shared<'s, Cost, Pre>>,
     gate: &MeetingGate,
-) -> (Driven<Shared<'s, Cost, Pre>>, Driven<Shared<'s, Cost, Pre>>)
-    requires lock { IsOf zero lock.now × IsOf one lock.now }
-    requires ended { (is_ended (mine zero) ≡ true) × (is_ended (mine one) ≡ true) }
-    ensures lock { IsOf result.0.pass lock.now × IsOf result.1.pass lock.now }
-    ensures first { result.0.pass.number ≡ zero.number }
+) -> Option<Pass<Shared<'s, Cost, Pre>>>
+    requires lock { IsOf pass lock.now }
+    requires first { (pass.number ≡ 0) × (0 < pass.left) }
+    requires fresh { mine pass ≡ [] }
+    ensures { IfSome result (λ p. IsOf p lock.now × (p.number ≡ 0)) }
 {
-    thread::join(
-        rt,
-        move || -> Driven<Shared<'_, Cost, Pre>>
-            requires { IsOf zero lock.now × (is_ended (mine zero) ≡ true) }
-            ensures { (result.pass.seat.table_id ≡ zero.seat.table_id)
-                × (result.pass.number ≡ zero.number) }
-        { drive(rt, alloc, lock, zero, gate) },
-        move || -> Driven<Shared<'_, Cost, Pre>>
-            requires { IsOf one lock.now × (is_ended (mine one) ≡ true) }
-            ensures { result.pass.seat.table_id ≡ one.seat.table_id }
-        { drive(rt, alloc, lock, one, gate) },
-    )
+    let (zero, one) = lock.split(pass);
+    let mut zero = Part {
+        lock,
+        pass: Some(zero),
+        closed: false,
+    };
+    let mut one = Part {
+        lock,
+        pass: Some(one),
+        closed: false,
+    };
+    run_both(rt, alloc, gate, &mut zero, &mut one);
+    if !zero.closed || !one.closed {
+        return None;
+    }
+    match (zero.pass.take(), one.pass.take()) {
+        (Some(zero), Some(one)) => Some(lock.join(zero, one)),
+        _ => None,
+    }
 }
 
 // A book, put into a lock for two seats, after two threads have driven it there, if both workers have found it closed.
@@ -55,12 +110,9 @@ fn driven_by_two<'s, H: Threads + Wait + Sync>(
     let Ok((lock, pass)) = SeatLock::new(alloc, Shared { book }, 2) else {
         return None;
     };
-    let (zero, one) = lock.split(pass);
-    let (zero, one) = drive_both(rt, alloc, &lock, zero, one, gate);
-    if zero.end != DriveEnd::Closed || one.end != DriveEnd::Closed {
+    let Some(pass) = drive_by_two(rt, alloc, &lock, pass, gate) else {
         return None;
-    }
-    let pass = lock.join(zero.pass, one.pass);
+    };
     match lock.close(pass) {
         Ok(shared) => Some(shared.book),
         Err(_) => None,
