@@ -8,7 +8,7 @@ taken what a call put on it (forwards), which the lengths of the rules' right si
 import plain_check as plain
 
 DRAWN = 5
-LONGEST = 100_000
+LONGEST = 20_000
 
 
 def read(text):
@@ -78,6 +78,7 @@ class Reader:
         self.document, self.backwards, self.chance = document, backwards, chance
         self.weights, self.tells = Weights(document), tells
         self.rises = [len(rule.right) - 1 for rule in document.rules]
+        self.queries = [tuple((control, sets_of(items)) for control, items in query) for query in document.queries]
 
     def worth(self, sets):
         """The number of what the last set is worth, 0 where there is none."""
@@ -139,7 +140,7 @@ class Reader:
             answers = read(text)
         except (ValueError, IndexError) as error:
             return f"a line that is none of a listing's: {error}"
-        for query, (line, sets) in zip(self.document.queries, answers):
+        for query, (line, sets) in zip(self.queries, answers):
             try:
                 worth = self.worth(sets)
             except IndexError:
@@ -152,6 +153,10 @@ class Reader:
                 if run is not None and not self.leads(query, run):
                     return f"a run that is none of the query's below {line}"
         return None
+
+
+def sets_of(items):
+    return [(frozenset(symbols), star) for symbols, star in items]
 
 
 def ways(items, i):
@@ -181,7 +186,7 @@ def have_rest(items, taken, end_items, left):
             return True
         for symbols, further in ways(items, i):
             for end_symbols, end_further in ways(end_items, j):
-                if (further, end_further) not in met and not set(symbols).isdisjoint(end_symbols):
+                if (further, end_further) not in met and not symbols.isdisjoint(end_symbols):
                     met.add((further, end_further))
                     waiting.append((further, end_further))
     return False
