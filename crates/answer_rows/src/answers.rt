@@ -63,7 +63,7 @@ fn wrong_row(
 #[test]
 fn costs_of_calls(rt: HostRuntime) -> Result<(), Fail> {
     let alloc = rt.alloc();
-    let system = calls(alloc, Cost::new(100)?)?;
+    let system = calls(alloc, Cost::new(100).expect(&rt, "an answer")).expect(&rt, "an answer");
     let rows: [Row; 6] = [
         // a call at 2 that returns at 1
         ((0, &[A], 1, &[A]), Some(3)),
@@ -84,7 +84,7 @@ fn costs_of_calls(rt: HostRuntime) -> Result<(), Fail> {
 #[test]
 fn costs_of_growth(rt: HostRuntime) -> Result<(), Fail> {
     let alloc = rt.alloc();
-    let system = grows(alloc, Cost::new(100)?)?;
+    let system = grows(alloc, Cost::new(100).expect(&rt, "an answer")).expect(&rt, "an answer");
     let rows: [Row; 4] = [
         // two symbols more, at 1 each
         ((0, &[A], 0, &[A, A, A]), Some(2)),
@@ -101,7 +101,7 @@ fn costs_at_the_cap(rt: HostRuntime) -> Result<(), Fail> {
     let alloc = rt.alloc();
     // 3 and 3, cut at the cap
     for (cap, cost) in [(5, 5u64), (6, 6), (100, 6)] {
-        let system = steps(alloc, Cost::new(cap)?)?;
+        let system = steps(alloc, Cost::new(cap).expect(&rt, "an answer")).expect(&rt, "an answer");
         let rows: [Row; 1] = [((0, &[A], 0, &[C]), Some(cost))];
         assert_eq!(rt; wrong_row(&rt, &system, &rows)?, None, "up to {cap}");
     }
@@ -113,7 +113,7 @@ fn costs_at_the_cap(rt: HostRuntime) -> Result<(), Fail> {
 #[test]
 fn costs_where_little_waits(rt: HostRuntime) -> Result<(), Fail> {
     let alloc = rt.alloc();
-    let cost = Cost::new(100)?;
+    let cost = Cost::new(100).expect(&rt, "an answer");
     let without_rules: [Row; 6] = [
         ((0, &[], 0, &[]), Some(0)),
         ((0, &[A], 0, &[]), None),
@@ -169,7 +169,9 @@ fn the_run_is_listed(rt: HostRuntime) -> Result<(), Fail> {
 fn reached_or_not(rt: HostRuntime) -> Result<(), Fail> {
     let alloc = rt.alloc();
     let mut system = System::new(alloc, Reach, 2, 2);
-    system.add_rule(alloc, 0, 1, 1, &[], true, None)?;
+    system
+        .add_rule(alloc, 0, 1, 1, &[], true, None)
+        .expect(&rt, "an answer");
     for side in [Side::Pre, Side::Post] {
         assert!(rt; !value_of(&rt, &system, side, (0, &[A], 1, &[A]))?);
         assert!(rt; value_of(&rt, &system, side, (0, &[B], 1, &[]))?);

@@ -5,5 +5,3 @@
 mod answers;
 #[cfg(test)]
 mod callees;
-#[cfg(test)]
-mod ends;

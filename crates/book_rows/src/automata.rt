@@ -1,7 +1,6 @@
 use semiring_laws::Reach;
 use std::alloc::Global;
 use std::process::Abort;
-use std::test::Fail;
 use weighted_automata::{
     Label, Place, Transitions, lowering_changes_one_place, places_are_told_apart,
     places_stand_once, transitions_stand_at_their_places,
@@ -146,7 +145,7 @@ fn check_nexts(rt: &impl Abort, transitions: &Transitions<Reach>) {
 }
 
 #[test]
-fn walks_rows(rt: HostRuntime) -> Result<(), Fail> {
+fn walks_rows(rt: HostRuntime) {
     let places = [
         (0, A, 1),
         (0, Label::Empty, 1),
@@ -155,10 +154,9 @@ fn walks_rows(rt: HostRuntime) -> Result<(), Fail> {
         (2, A, 1),
         (3, Label::Empty, 1),
     ];
-    let transitions = made(rt.alloc(), &places)?;
+    let transitions = made(rt.alloc(), &places).expect(&rt, "an answer");
     check_firsts(&rt, &transitions);
     check_nexts(&rt, &transitions);
-    Ok(())
 }
 
 fn check_roomy(
@@ -174,12 +172,12 @@ fn check_roomy(
 }
 
 #[test]
-fn room_first(rt: HostRuntime) -> Result<(), Fail> {
+fn room_first(rt: HostRuntime) {
     let alloc = rt.alloc();
     let mut transitions: Transitions<Reach> = Transitions::new(alloc);
     let places = [place(0, A, 1), place(0, Label::Empty, 1), place(3, B, 1)];
     assert!(rt; !transitions.has_room(places[0]));
-    transitions.reserve(alloc, &places)?;
+    transitions.reserve(alloc, &places).expect(&rt, "an answer");
     assert_eq!(rt; transitions.len(), 0);
     for (k, at) in places.into_iter().enumerate() {
         check_roomy(&rt, &mut transitions, alloc, at, k as u64);
@@ -189,5 +187,4 @@ fn room_first(rt: HostRuntime) -> Result<(), Fail> {
     places_stand_once::<Reach>();
     transitions_stand_at_their_places::<Reach>();
     lowering_changes_one_place::<Reach>();
-    Ok(())
 }

@@ -5,7 +5,6 @@ use saturation_laws::{Direction, Opening, PlaceList, StateList};
 use semiring_laws::{Reach, Semiring};
 use std::alloc::Global;
 use std::process::Abort;
-use std::test::Fail;
 use weighted_automata::{Label, Place};
 use witness_graph::{Node, Side};
 use wpds_base::OutOfMemory;
@@ -161,7 +160,7 @@ fn check_all_asked(
 }
 
 #[test]
-fn seats_take_in_turn(rt: HostRuntime) -> Result<(), Fail> {
+fn seats_take_in_turn(rt: HostRuntime) {
     let alloc = rt.alloc();
     let system = System::new(alloc, Reach, 1, 1);
     let edges = [place(0, 1), place(1, 2), place(0, 1)];
@@ -174,22 +173,23 @@ fn seats_take_in_turn(rt: HostRuntime) -> Result<(), Fail> {
         (Some(63), 63, Answer::Hand(63), 4, 2),
         (None, 7, Answer::Idle((1 << 63) + 2), 4, 1),
     ];
-    let mut book = opened(alloc, &system, &edges)?;
+    let mut book = opened(alloc, &system, &edges).expect(&rt, "an answer");
     check_opened(&rt, &book, &edges);
-    check_all_asked(&rt, &mut book, alloc, &rows)?;
+    check_all_asked(&rt, &mut book, alloc, &rows).expect(&rt, "an answer");
     assert!(rt; !give(&mut book, 7));
-    Ok(())
 }
 
 #[test]
-fn nothing_to_take(rt: HostRuntime) -> Result<(), Fail> {
+fn nothing_to_take(rt: HostRuntime) {
     let alloc = rt.alloc();
     let system = System::new(alloc, Reach, 1, 1);
-    let mut book = opened(alloc, &system, &[])?;
+    let mut book = opened(alloc, &system, &[]).expect(&rt, "an answer");
     assert!(rt; book.is_closed());
-    assert_eq!(rt; ask(&mut book, alloc, 0)?, Answer::Closed);
+    assert_eq!(rt;
+        ask(&mut book, alloc, 0).expect(&rt, "an answer"),
+        Answer::Closed
+    );
     assert_eq!(rt; counts(&book, 0), (0, 0));
-    Ok(())
 }
 
 // Where the hub stands, and how many transitions and nodes there are.
@@ -254,8 +254,8 @@ fn play(alloc: Global) -> Result<Story, OutOfMemory> {
 }
 
 #[test]
-fn one_settles_and_one_gives_back(rt: HostRuntime) -> Result<(), Fail> {
-    let story = play(rt.alloc())?;
+fn one_settles_and_one_gives_back(rt: HostRuntime) {
+    let story = play(rt.alloc()).expect(&rt, "an answer");
     let idle = Answer::Idle((1u64 << 63) + 128);
     assert_eq!(rt; story.turns, (idle, Some(1), true, None));
     assert_eq!(rt; story.lowered, (Some(2), 3, 2));
@@ -264,7 +264,6 @@ fn one_settles_and_one_gives_back(rt: HostRuntime) -> Result<(), Fail> {
     assert_eq!(rt; story.last, Answer::Closed);
     assert_eq!(rt; story.end, (Some(2), 3, 2));
     assert_eq!(rt; story.takes, (4, 2));
-    Ok(())
 }
 
 // A system with a rule of each weight.
@@ -327,7 +326,7 @@ fn held_by(alloc: Global, weights: &[bool], side: Side) -> Result<Option<(bool, 
 }
 
 #[test]
-fn held_where_hand_side_and_rules_agree(rt: HostRuntime) -> Result<(), Fail> {
+fn held_where_hand_side_and_rules_agree(rt: HostRuntime) {
     let alloc = rt.alloc();
     // the rules of the other system, the side, and whether the hand is held: it names the rule of number 0
     let rows: [(&[bool], Side, bool); 5] = [
@@ -338,9 +337,11 @@ fn held_where_hand_side_and_rules_agree(rt: HostRuntime) -> Result<(), Fail> {
         (&[true], Side::Pre, false),
     ];
     for (weights, side, held) in rows {
-        assert_eq!(rt; held_by(alloc, weights, side)?, Some((held, false)));
+        assert_eq!(rt;
+            held_by(alloc, weights, side).expect(&rt, "an answer"),
+            Some((held, false))
+        );
     }
-    Ok(())
 }
 
 // The hand of seat 9 of a book over one edge.
@@ -365,12 +366,11 @@ fn check_work(
 }
 
 #[test]
-fn worked_out(rt: HostRuntime) -> Result<(), Fail> {
+fn worked_out(rt: HostRuntime) {
     let alloc = rt.alloc();
     let system = System::new(alloc, Reach, 1, 1);
-    let mut book = opened(alloc, &system, &[place(0, 1)])?;
-    check_work(&rt, &mut book, alloc)?;
-    Ok(())
+    let mut book = opened(alloc, &system, &[place(0, 1)]).expect(&rt, "an answer");
+    check_work(&rt, &mut book, alloc).expect(&rt, "an answer");
 }
 
 // Sets what stands at a place, which is found first.
@@ -385,7 +385,7 @@ fn lower(
 }
 
 #[test]
-fn waits_once_and_in_order(rt: HostRuntime) -> Result<(), Fail> {
+fn waits_once_and_in_order(rt: HostRuntime) {
     let alloc = rt.alloc();
     let (one, two) = (place(0, 1), place(1, 0));
     let (first, second) = (
@@ -400,14 +400,13 @@ fn waits_once_and_in_order(rt: HostRuntime) -> Result<(), Fail> {
     );
     let mut queue = QueuedTransitions::new(alloc);
     for x in [one, two, one, two] {
-        lower(&mut queue, alloc, x, 3)?;
+        lower(&mut queue, alloc, x, 3).expect(&rt, "an answer");
     }
     assert_eq!(rt; queue.list().len(), 2);
     assert_eq!(rt; queue.pop(), Some(first));
     // what was taken can wait again, last, and keeps its number
-    lower(&mut queue, alloc, one, 4)?;
+    lower(&mut queue, alloc, one, 4).expect(&rt, "an answer");
     for left in [Some(second), Some(first), None] {
         assert_eq!(rt; queue.pop(), left);
     }
-    Ok(())
 }

@@ -1,7 +1,6 @@
 use semiring_laws::Reach;
 use std::alloc::Global;
 use std::process::Abort;
-use std::test::Fail;
 use witness_graph::{
     Graph, Listing, Node, Overlay, Side, listing_stays_tight, post_order_has_the_reached,
     runs_are_those_of_parts,
@@ -62,7 +61,7 @@ fn check_listing(
 }
 
 #[test]
-fn listings(rt: HostRuntime) -> Result<(), Fail> {
+fn listings(rt: HostRuntime) {
     let rows: [(&[Node], &[Node]); 3] = [
         // one node
         (&[START], &[START]),
@@ -94,13 +93,12 @@ fn listings(rt: HostRuntime) -> Result<(), Fail> {
         ),
     ];
     for (nodes, want) in rows {
-        check_listing(&rt, rt.alloc(), nodes, want)?;
+        check_listing(&rt, rt.alloc(), nodes, want).expect(&rt, "an answer");
     }
-    Ok(())
 }
 
 #[test]
-fn listings_of_shared_nodes(rt: HostRuntime) -> Result<(), Fail> {
+fn listings_of_shared_nodes(rt: HostRuntime) {
     let rows: [(&[Node], &[Node]); 3] = [
         // a chain of nodes before
         (
@@ -149,9 +147,8 @@ fn listings_of_shared_nodes(rt: HostRuntime) -> Result<(), Fail> {
         ),
     ];
     for (nodes, want) in rows {
-        check_listing(&rt, rt.alloc(), nodes, want)?;
+        check_listing(&rt, rt.alloc(), nodes, want).expect(&rt, "an answer");
     }
-    Ok(())
 }
 
 #[test]
@@ -206,16 +203,15 @@ fn check_graph(rt: &impl Abort, graph: &Graph, nodes: [Node; 3]) {
 }
 
 #[test]
-fn room_first(rt: HostRuntime) -> Result<(), Fail> {
+fn room_first(rt: HostRuntime) {
     let alloc = rt.alloc();
     let nodes = [
         START,
         lower(None, Some(0), Some(0), None),
         lower(Some(1), Some(1), Some(0), None),
     ];
-    let graph = check_pushed(&rt, alloc, nodes)?;
-    check_graph(&rt, &graph.copy(alloc)?, nodes);
-    Ok(())
+    let graph = check_pushed(&rt, alloc, nodes).expect(&rt, "an answer");
+    check_graph(&rt, &graph.copy(alloc).expect(&rt, "an answer"), nodes);
 }
 
 // A node, and as many that name the one before them.
@@ -233,10 +229,9 @@ fn chain(alloc: Global, links: u64) -> Result<Vec<Node>, OutOfMemory> {
 }
 
 #[test]
-fn a_long_chain(rt: HostRuntime) -> Result<(), Fail> {
-    let nodes = chain(rt.alloc(), 200_000)?;
-    check_listing(&rt, rt.alloc(), &nodes, &nodes)?;
-    Ok(())
+fn a_long_chain(rt: HostRuntime) {
+    let nodes = chain(rt.alloc(), 200_000).expect(&rt, "an answer");
+    check_listing(&rt, rt.alloc(), &nodes, &nodes).expect(&rt, "an answer");
 }
 
 // Over a graph of two nodes two are added, and the last is listed.
@@ -266,10 +261,12 @@ fn check_over(rt: &impl Abort, alloc: Global, base: &Graph) -> Result<(), OutOfM
 }
 
 #[test]
-fn nodes_over_a_graph(rt: HostRuntime) -> Result<(), Fail> {
+fn nodes_over_a_graph(rt: HostRuntime) {
     let alloc = rt.alloc();
-    let base = graph_of(alloc, &[START, lower(None, Some(7), Some(0), None)])?;
-    check_over(&rt, alloc, &base)?;
+    let base = graph_of(alloc, &[START, lower(None, Some(7), Some(0), None)]).expect(
+        &rt,
+        "an answer",
+    );
+    check_over(&rt, alloc, &base).expect(&rt, "an answer");
     assert_eq!(rt; base.len(), 2);
-    Ok(())
 }

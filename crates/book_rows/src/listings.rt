@@ -8,7 +8,6 @@ use short_listings::{
 };
 use std::alloc::Global;
 use std::process::Abort;
-use std::test::Fail;
 use witness_graph::{Graph, Listing, Node, Overlay, Side};
 use wpds_base::OutOfMemory;
 
@@ -77,7 +76,7 @@ fn check_short(
 }
 
 #[test]
-fn listings(rt: HostRuntime) -> Result<(), Fail> {
+fn listings(rt: HostRuntime) {
     // backwards, a call that returns
     let back = [
         lower(None, Some(1), None, None),
@@ -139,11 +138,10 @@ fn listings(rt: HostRuntime) -> Result<(), Fail> {
         ),
     ];
     for (side, nodes, want) in rows {
-        check_short(&rt, rt.alloc(), side, nodes, want)?;
+        check_short(&rt, rt.alloc(), side, nodes, want).expect(&rt, "an answer");
     }
     nodes_of_the_graph_stay();
     shorter_has_no_more_nodes();
     shorter_has_the_same_runs();
     shorter_stays_tight::<Reach>();
-    Ok(())
 }

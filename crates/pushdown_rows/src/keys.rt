@@ -4,13 +4,12 @@ ghost use Rattle.key_rows.specs.Keys.{mixed as mixed_value};
 ghost use Rattle.key_rows.specs.KeyLaws.{same_numbers};
 
 use key_rows::{Key, KeyRows, mixed};
-use std::test::Fail;
 
 #[test]
-fn rows_by_key(rt: HostRuntime) -> Result<(), Fail> {
+fn rows_by_key(rt: HostRuntime) {
     let mut rows: KeyRows<u32> = KeyRows::new(rt.alloc());
     for key in [Some(3u32), None, Some(5), Some(3), Some(3)] {
-        rows.reserve(key, 1)?;
+        rows.reserve(key, 1).expect(&rt, "an answer");
         rows.push(key);
     }
     assert!(rt; rows.has_cell(5) && !rows.has_cell(7));
@@ -29,7 +28,6 @@ fn rows_by_key(rt: HostRuntime) -> Result<(), Fail> {
     for (k, next) in nexts.into_iter().enumerate() {
         assert_eq!(rt; rows.next(k as u64), next);
     }
-    Ok(())
 }
 
 /// A number that is spread like all others in the first twenty rounds.
@@ -54,15 +52,14 @@ impl Key for Clashing {
 
 // Keys that all have one chain in the first rounds. A walk along one chain for each of them would take minutes.
 #[test]
-fn keys_that_clash_are_found_in_time(rt: HostRuntime) -> Result<(), Fail> {
+fn keys_that_clash_are_found_in_time(rt: HostRuntime) {
     let mut rows: KeyRows<Clashing> = KeyRows::new(rt.alloc());
     for number in 0..40_000u32 {
         let key = Some(Clashing { number });
-        rows.reserve(key, 1)?;
+        rows.reserve(key, 1).expect(&rt, "an answer");
         rows.push(key);
     }
     for number in 0..40_000u32 {
         assert_eq!(rt; rows.first(Clashing { number }), Some(u64::from(number)));
     }
-    Ok(())
 }

@@ -52,26 +52,25 @@ fn plainly(items: Items<'_>, i: usize, stack: &[u32], k: usize) -> bool {
 const STACKS: [u32; 5] = [1, 3, 9, 27, 81];
 
 #[test]
-fn members_are_those_of_the_definition(rt: HostRuntime) -> Result<(), Fail> {
+fn members_are_those_of_the_definition(rt: HostRuntime) {
     let alloc = rt.alloc();
     for items in MEMBERS {
-        let pattern = pattern_of(alloc, items)?;
+        let pattern = pattern_of(alloc, items).expect(&rt, "an answer");
         for depth in 0..5usize {
             for code in 0..STACKS[depth] {
                 let stack = [code % 3, code / 3 % 3, code / 9 % 3, code / 27];
                 let stack = &stack[..depth];
-                let config = Config::new(alloc, 7, stack)?;
+                let config = Config::new(alloc, 7, stack).expect(&rt, "an answer");
                 assert_eq!(rt;
                     pattern.matches(&config),
                     plainly(items, 0, stack, 0),
                     "stack {code} of depth {depth}"
                 );
-                let other = Config::new(alloc, 6, stack)?;
+                let other = Config::new(alloc, 6, stack).expect(&rt, "an answer");
                 assert!(rt; !pattern.matches(&other));
             }
         }
     }
-    Ok(())
 }
 
 const fn edge(from: u32, symbol: u32, to: u32) -> Edge {
@@ -79,17 +78,18 @@ const fn edge(from: u32, symbol: u32, to: u32) -> Edge {
 }
 
 #[test]
-fn edges_in_their_order(rt: HostRuntime) -> Result<(), Fail> {
+fn edges_in_their_order(rt: HostRuntime) {
     let alloc = rt.alloc();
     let pattern = pattern_of(
         alloc,
         &[(&[2, 0], true), (&[1], false), (&[], true), (&[0], true)],
-    )?;
+    )
+    .expect(&rt, "an answer");
     assert_eq!(rt;
         (pattern.control(), pattern.symbols(), pattern.items()),
         (7, 3, 4)
     );
-    let edges = pattern.edges(alloc)?;
+    let edges = pattern.edges(alloc).expect(&rt, "an answer");
     let expected = [
         edge(0, 2, 1),
         edge(0, 0, 1),
@@ -114,17 +114,16 @@ fn edges_in_their_order(rt: HostRuntime) -> Result<(), Fail> {
     }
     let same = EdgeList::from_vec(edges.into_vec());
     assert_eq!(rt; same.as_slice().len(), 9);
-    let set = SymbolSet::from_vec(vec![in alloc; 4, 2]?);
+    let set = SymbolSet::from_vec(vec![in alloc; 4, 2].expect(&rt, "an answer"));
     assert_eq!(rt; set.as_slice(), [4, 2].as_slice());
     assert_eq!(rt;
         (set.as_slice().contains(&2), set.as_slice().contains(&3)),
         (true, false)
     );
-    Ok(())
 }
 
 #[test]
-fn refusals(rt: HostRuntime) -> Result<(), Fail> {
+fn refusals(rt: HostRuntime) {
     let alloc = rt.alloc();
     let mut pattern = Pattern::new(alloc, 0, 3);
     for set in [[3u32, 0], [0, 3], [2, 4]] {
@@ -149,7 +148,6 @@ fn refusals(rt: HostRuntime) -> Result<(), Fail> {
         Err(PatternFault::NoSymbol)
     );
     assert_eq!(rt; pattern.items(), 1_000);
-    Ok(())
 }
 
 // The symbols below a number.
@@ -181,12 +179,19 @@ fn a_million_edges_and_one_over(rt: HostRuntime) -> Result<(), Fail> {
     );
     assert_eq!(rt; pattern.items(), 999);
     assert_eq!(rt; pattern.add_item(alloc, &thousand, false), Ok(()));
-    assert_eq!(rt; pattern.edges(alloc)?.as_slice().len(), 1_000_000);
+    assert_eq!(rt;
+        pattern
+            .edges(alloc)
+            .expect(&rt, "an answer")
+            .as_slice()
+            .len(),
+        1_000_000
+    );
     Ok(())
 }
 
 #[test]
-fn a_thousand_stars_over_a_long_stack(rt: HostRuntime) -> Result<(), Fail> {
+fn a_thousand_stars_over_a_long_stack(rt: HostRuntime) {
     let alloc = rt.alloc();
     let mut pattern = Pattern::new(alloc, 0, 2);
     for _ in 0..1_000 {
@@ -194,16 +199,22 @@ fn a_thousand_stars_over_a_long_stack(rt: HostRuntime) -> Result<(), Fail> {
     }
     let mut stack = Vec::new(alloc);
     for _ in 0..2_000 {
-        stack.push(0)?;
+        stack.push(0).expect(&rt, "an answer");
     }
-    let long = Config::new(alloc, 0, &stack)?;
+    let long = Config::new(alloc, 0, &stack).expect(&rt, "an answer");
     assert!(rt; pattern.matches(&long));
-    stack.push(1)?;
-    let other = Config::new(alloc, 0, &stack)?;
+    stack.push(1).expect(&rt, "an answer");
+    let other = Config::new(alloc, 0, &stack).expect(&rt, "an answer");
     assert!(rt; !pattern.matches(&other));
     // one edge into each item from each state below, and one back
-    assert_eq!(rt; pattern.edges(alloc)?.as_slice().len(), 501_500);
-    Ok(())
+    assert_eq!(rt;
+        pattern
+            .edges(alloc)
+            .expect(&rt, "an answer")
+            .as_slice()
+            .len(),
+        501_500
+    );
 }
 
 #[test]

@@ -26,9 +26,9 @@ fn counts_of<S: Semiring>(system: &System<S>) -> (u32, u32, u32) {
 }
 
 #[test]
-fn rules_are_kept(rt: HostRuntime) -> Result<(), Fail> {
+fn rules_are_kept(rt: HostRuntime) {
     let alloc = rt.alloc();
-    let system = call_and_return(alloc)?;
+    let system = call_and_return(alloc).expect(&rt, "an answer");
     assert_eq!(rt; counts_of(&system), (2, 2, 2));
     assert!(rt; system.semiring().same_kind(&Reach));
     let Rule {
@@ -43,13 +43,12 @@ fn rules_are_kept(rt: HostRuntime) -> Result<(), Fail> {
     assert_eq!(rt; right.as_slice(), [1, 0].as_slice());
     assert_eq!(rt; *map, Some(NoMap::Plain), "a push has the plain map");
     assert_eq!(rt; system.rule(1).map, None);
-    Ok(())
 }
 
 #[test]
-fn refusals(rt: HostRuntime) -> Result<(), Fail> {
+fn refusals(rt: HostRuntime) {
     let alloc = rt.alloc();
-    let mut system = call_and_return(alloc)?;
+    let mut system = call_and_return(alloc).expect(&rt, "an answer");
     let plain = Some(NoMap::Plain);
     let rows: [(u32, u32, u32, &[u32], Option<NoMap>, RuleFault); 9] = [
         (0, 2, 0, &[], None, RuleFault::NoSymbol),
@@ -71,14 +70,13 @@ fn refusals(rt: HostRuntime) -> Result<(), Fail> {
         system.add_rule(alloc, 1, 1, 1, &[0, 1], false, plain),
         Ok(2)
     );
-    Ok(())
 }
 
 #[test]
-fn firing(rt: HostRuntime) -> Result<(), Fail> {
+fn firing(rt: HostRuntime) {
     let alloc = rt.alloc();
-    let system = call_and_return(alloc)?;
-    let mut config = Config::new(alloc, 0, &[0])?;
+    let system = call_and_return(alloc).expect(&rt, "an answer");
+    let mut config = Config::new(alloc, 0, &[0]).expect(&rt, "an answer");
     // a rule, whether it fires, and where that leads
     let rows: [(u32, bool, u32, &[u32]); 4] = [
         (1, false, 0, &[0]),
@@ -89,7 +87,9 @@ fn firing(rt: HostRuntime) -> Result<(), Fail> {
     for (rule, fires, control, stack) in rows {
         assert!(rt; rule < system.rules());
         assert_eq!(rt;
-            system.fire(alloc, &mut config, rule)?,
+            system
+                .fire(alloc, &mut config, rule)
+                .expect(&rt, "an answer"),
             fires,
             "rule {rule}"
         );
@@ -99,7 +99,6 @@ fn firing(rt: HostRuntime) -> Result<(), Fail> {
             assert_eq!(rt; Some(config.at(i)), stack.get(i).copied());
         }
     }
-    Ok(())
 }
 
 // The same, and q a -> q a, which no run that counts takes.
@@ -141,17 +140,18 @@ fn run_values(rt: HostRuntime) -> Result<(), Fail> {
 }
 
 #[test]
-fn equal_systems(rt: HostRuntime) -> Result<(), Fail> {
+fn equal_systems(rt: HostRuntime) {
     let alloc = rt.alloc();
-    let system = call_and_return(alloc)?;
-    let mut other = call_and_return(alloc)?;
+    let system = call_and_return(alloc).expect(&rt, "an answer");
+    let mut other = call_and_return(alloc).expect(&rt, "an answer");
     assert!(rt; system.same(&other));
     assert!(rt; same_rule(&Reach, system.rule(0), other.rule(0)));
     assert!(rt; !same_rule(&Reach, system.rule(0), other.rule(1)));
-    other.add_rule(alloc, 0, 1, 1, &[], true, None)?;
+    other
+        .add_rule(alloc, 0, 1, 1, &[], true, None)
+        .expect(&rt, "an answer");
     assert!(rt; !system.same(&other), "a rule more");
     assert!(rt; !System::new(alloc, Reach, 2, 2).same(&System::new(alloc, Reach, 2, 3)));
-    Ok(())
 }
 
 // What is answered once a system of one control and one symbol is full.
@@ -177,19 +177,18 @@ fn fill(alloc: Global, count: u32) -> Result<Full, RuleFault> {
 }
 
 #[test]
-fn a_rule_over_the_limit(rt: HostRuntime) -> Result<(), Fail> {
+fn a_rule_over_the_limit(rt: HostRuntime) {
     let full = Full {
         rules: 130_000,
         one_more: Some(RuleFault::TooManyRules),
         wrong_control: Some(RuleFault::NoControl),
     };
-    assert_eq!(rt; fill(rt.alloc(), 130_000)?, full);
-    Ok(())
+    assert_eq!(rt; fill(rt.alloc(), 130_000).expect(&rt, "an answer"), full);
 }
 
 // The last controls and symbols that a largest system has, and the first that it has not.
 #[test]
-fn the_last_control_and_symbol(rt: HostRuntime) -> Result<(), Fail> {
+fn the_last_control_and_symbol(rt: HostRuntime) {
     let alloc = rt.alloc();
     let mut system = System::new(alloc, Reach, 1_000, 40_000);
     assert_eq!(rt; counts_of(&system), (1_000, 40_000, 0));
@@ -202,7 +201,6 @@ fn the_last_control_and_symbol(rt: HostRuntime) -> Result<(), Fail> {
         let added = system.add_rule(alloc, control, symbol, control, &[symbol], true, None);
         assert_eq!(rt; added, answer, "at {control} {symbol}");
     }
-    Ok(())
 }
 
 #[test]
@@ -244,8 +242,8 @@ fn six_rules(alloc: Global) -> Result<System<Reach>, RuleFault> {
 }
 
 #[test]
-fn rows_of_rules(rt: HostRuntime) -> Result<(), Fail> {
-    let system = six_rules(rt.alloc())?;
+fn rows_of_rules(rt: HostRuntime) {
+    let system = six_rules(rt.alloc()).expect(&rt, "an answer");
     let rows: [(u32, u32, [Option<u32>; 4], [Option<u32>; 4]); 4] = [
         (0, 0, [Some(0), Some(1), Some(3), None], [None; 4]),
         (
@@ -275,12 +273,11 @@ fn rows_of_rules(rt: HostRuntime) -> Result<(), Fail> {
         None,
         "the second symbol is not looked at"
     );
-    Ok(())
 }
 
 #[test]
-fn push_rules(rt: HostRuntime) -> Result<(), Fail> {
-    let system = six_rules(rt.alloc())?;
+fn push_rules(rt: HostRuntime) {
+    let system = six_rules(rt.alloc()).expect(&rt, "an answer");
     let seconds: [(u32, [Option<u32>; 3]); 3] = [
         (0, [Some(4), None, None]),
         (1, [None; 3]),
@@ -302,5 +299,4 @@ fn push_rules(rt: HostRuntime) -> Result<(), Fail> {
     for (rule, number) in numbers.into_iter().enumerate() {
         assert_eq!(rt; system.push_number(rule as u32), number, "at {rule}");
     }
-    Ok(())
 }
