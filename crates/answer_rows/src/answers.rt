@@ -108,13 +108,11 @@ fn costs_at_the_cap(rt: HostRuntime) -> Result<(), Fail> {
     Ok(())
 }
 
-// Nothing is to be saturated, or next to nothing: without a rule, by a step rule alone, or towards an empty stack, whose
-// opening has no transition.
+// Nothing is to be saturated: there is no rule.
 #[test]
-fn costs_where_little_waits(rt: HostRuntime) -> Result<(), Fail> {
-    let alloc = rt.alloc();
-    let cost = Cost::new(100).expect(&rt, "an answer");
-    let without_rules: [Row; 6] = [
+fn costs_without_rules(rt: HostRuntime) -> Result<(), Fail> {
+    let system = ruleless(rt.alloc(), Cost::new(100).expect(&rt, "an answer"));
+    let rows: [Row; 6] = [
         ((0, &[], 0, &[]), Some(0)),
         ((0, &[A], 0, &[]), None),
         ((0, &[], 0, &[A]), None),
@@ -122,7 +120,16 @@ fn costs_where_little_waits(rt: HostRuntime) -> Result<(), Fail> {
         ((0, &[A], 0, &[B]), None),
         ((0, &[SOME_A], 0, &[]), Some(0)),
     ];
-    let by_a_step: [Row; 6] = [
+    assert_eq!(rt; wrong_row(&rt, &system, &rows)?, None);
+    Ok(())
+}
+
+// Next to nothing: by a step rule alone, or towards an empty stack, whose opening has no transition.
+#[test]
+fn costs_by_one_step(rt: HostRuntime) -> Result<(), Fail> {
+    let cost = Cost::new(100).expect(&rt, "an answer");
+    let system = one_step(rt.alloc(), cost).expect(&rt, "an answer");
+    let rows: [Row; 6] = [
         ((0, &[], 0, &[]), Some(0)),
         ((0, &[A], 0, &[]), None),
         ((0, &[A], 0, &[A]), Some(0)),
@@ -130,11 +137,7 @@ fn costs_where_little_waits(rt: HostRuntime) -> Result<(), Fail> {
         ((0, &[B], 0, &[A]), None),
         ((0, &[A, A], 0, &[B, SOME_A]), Some(3)),
     ];
-    assert_eq!(rt;
-        wrong_row(&rt, &ruleless(alloc, cost), &without_rules)?,
-        None
-    );
-    assert_eq!(rt; wrong_row(&rt, &one_step(alloc, cost)?, &by_a_step)?, None);
+    assert_eq!(rt; wrong_row(&rt, &system, &rows)?, None);
     Ok(())
 }
 
