@@ -81,7 +81,10 @@ fn first_wrong(
 #[test]
 fn a_call_stays_open(rt: HostRuntime) -> Result<(), Fail> {
     let alloc = rt.alloc();
-    let system = calls_itself(alloc, Cost::new(100)?)?;
+    let system = calls_itself(alloc, Cost::new(100).expect(&rt, "an answer")).expect(
+        &rt,
+        "an answer",
+    );
     let rows = [
         (over(0, 0, 1), 0),
         (over(0, 0, 2), 1),
@@ -96,7 +99,7 @@ fn a_call_stays_open(rt: HostRuntime) -> Result<(), Fail> {
 #[test]
 fn pops_go_on_in_the_pattern(rt: HostRuntime) -> Result<(), Fail> {
     let alloc = rt.alloc();
-    let system = pops(alloc, Cost::new(100)?)?;
+    let system = pops(alloc, Cost::new(100).expect(&rt, "an answer")).expect(&rt, "an answer");
     let rows = [
         (over(0, 0, 1), 0),
         (over(1, 1, 2), 0),
@@ -114,7 +117,10 @@ fn pops_go_on_in_the_pattern(rt: HostRuntime) -> Result<(), Fail> {
 #[test]
 fn a_return_is_found_by_each_caller(rt: HostRuntime) -> Result<(), Fail> {
     let alloc = rt.alloc();
-    let system = calls_again(alloc, Cost::new(100)?)?;
+    let system = calls_again(alloc, Cost::new(100).expect(&rt, "an answer")).expect(
+        &rt,
+        "an answer",
+    );
     let rows = [
         (over(0, 0, 1), 0),
         (over(0, 1, 2), 1),
@@ -136,7 +142,7 @@ fn a_return_is_found_by_each_caller(rt: HostRuntime) -> Result<(), Fail> {
 #[test]
 fn one_head_has_two_calls(rt: HostRuntime) -> Result<(), Fail> {
     let alloc = rt.alloc();
-    let system = two_calls(alloc, Cost::new(100)?)?;
+    let system = two_calls(alloc, Cost::new(100).expect(&rt, "an answer")).expect(&rt, "an answer");
     let rows = [
         (over(0, 0, 2), 0),
         (over(1, 1, 3), 1),
@@ -190,7 +196,7 @@ fn ends_with(
 #[test]
 fn a_forbidden_return_is_not_found(rt: HostRuntime) -> Result<(), Fail> {
     let alloc = rt.alloc();
-    let system: System<Guarded> = guarded_calls(alloc)?;
+    let system: System<Guarded> = guarded_calls(alloc).expect(&rt, "an answer");
     let inner = [over(0, 1, 2), over(2, 2, 1), skip(0, 4), over(0, 2, 2)];
     assert!(rt; ends_with(alloc, &system, &[A], 15, &inner, skip(0, 2))?);
     let outer = [over(0, 1, 3), skip(0, 3), over(0, 2, 1), skip(0, 1)];
@@ -231,7 +237,7 @@ fn begins_with(
 #[test]
 fn opens_forwards(rt: HostRuntime) -> Result<(), Fail> {
     let alloc = rt.alloc();
-    let system = pops(alloc, Cost::new(100)?)?;
+    let system = pops(alloc, Cost::new(100).expect(&rt, "an answer")).expect(&rt, "an answer");
     let edges = [over(0, 0, 1), over(1, 1, 2)];
     assert!(rt; begins_with(alloc, &system, &[A, B], &edges, &[2])?);
     Ok(())

@@ -69,7 +69,7 @@ fn begins_so(
 #[test]
 fn opens_a_pattern(rt: HostRuntime) -> Result<(), Fail> {
     let alloc = rt.alloc();
-    let system = grows(alloc, Cost::new(100)?)?;
+    let system = grows(alloc, Cost::new(100).expect(&rt, "an answer")).expect(&rt, "an answer");
     let begun = Begun {
         edges: &[arrow(0, 1), arrow(1, 2), arrow(2, 3)],
         finals: &[3],
@@ -171,7 +171,7 @@ fn wrong_seat_from(
 #[test]
 fn lists_each_consequence_once(rt: HostRuntime) -> Result<(), Fail> {
     let alloc = rt.alloc();
-    let system = grows(alloc, Cost::new(100)?)?;
+    let system = grows(alloc, Cost::new(100).expect(&rt, "an answer")).expect(&rt, "an answer");
     let (call, stay) = (JobKind::PrePushControl, JobKind::PrePushOther);
     let first: &[Line] = &[
         (call, arrow(0, 0), arrow(0, 1), arrow(0, 1), 1),

@@ -101,7 +101,7 @@ fn value_from(
 #[test]
 fn return_maps(rt: HostRuntime) -> Result<(), Fail> {
     let alloc = rt.alloc();
-    let system = guarded_calls(alloc)?;
+    let system = guarded_calls(alloc).expect(&rt, "an answer");
     // a stack, a run from it, and the run's value
     let rows: [(&str, &[u32], &[u32], bool); 10] = [
         ("unmatched", &[0], &[0], true),

@@ -41,7 +41,7 @@ fn cost_of(
 #[test]
 fn costs_of_runs(rt: HostRuntime) -> Result<(), Fail> {
     let alloc = rt.alloc();
-    let start = Config::new(alloc, 0, &[0])?;
+    let start = Config::new(alloc, 0, &[0]).expect(&rt, "an answer");
     // a cap, a run, and its value
     let rows: [(u64, &[u32], Option<Option<u64>>); 6] = [
         (100, &[0, 1], Some(Some(3))),

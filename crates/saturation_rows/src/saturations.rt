@@ -83,7 +83,7 @@ fn reaches(
 #[test]
 fn a_call_returns(rt: HostRuntime) -> Result<(), Fail> {
     let alloc = rt.alloc();
-    let system = calls(alloc, Cost::new(100)?)?;
+    let system = calls(alloc, Cost::new(100).expect(&rt, "an answer")).expect(&rt, "an answer");
     let rows: &[Row] = &[(1, 0, 2, 0), (0, 1, 1, 1), (0, 0, 2, 3)];
     assert!(rt; saturates(alloc, &system, (1, &[A], rows))?);
     Ok(())
@@ -104,7 +104,7 @@ const THREE_GROWN: &[Row] = &[
 #[test]
 fn growth_costs(rt: HostRuntime) -> Result<(), Fail> {
     let alloc = rt.alloc();
-    let system = grows(alloc, Cost::new(100)?)?;
+    let system = grows(alloc, Cost::new(100).expect(&rt, "an answer")).expect(&rt, "an answer");
     assert!(rt; saturates(alloc, &system, (0, &[A, A, A], THREE_GROWN))?);
     assert!(rt; saturates(alloc, &system, (0, &[], &[(0, 0, 0, 0)]))?);
     Ok(())
@@ -115,7 +115,7 @@ fn growth_costs(rt: HostRuntime) -> Result<(), Fail> {
 fn costs_are_cut(rt: HostRuntime) -> Result<(), Fail> {
     let alloc = rt.alloc();
     for (cap, cost) in [(5, 5u64), (100, 6)] {
-        let system = steps(alloc, Cost::new(cap)?)?;
+        let system = steps(alloc, Cost::new(cap).expect(&rt, "an answer")).expect(&rt, "an answer");
         let rows: &[Row] = &[(0, 2, 1, 0), (0, 1, 1, 3), (0, 0, 1, cost)];
         assert!(rt; saturates(alloc, &system, (0, &[C], rows))?);
     }
@@ -127,7 +127,10 @@ fn costs_are_cut(rt: HostRuntime) -> Result<(), Fail> {
 #[test]
 fn one_hand_lowers_a_place_again(rt: HostRuntime) -> Result<(), Fail> {
     let alloc = rt.alloc();
-    let system = same_goals(alloc, Cost::new(100)?)?;
+    let system = same_goals(alloc, Cost::new(100).expect(&rt, "an answer")).expect(
+        &rt,
+        "an answer",
+    );
     let rows: &[Row] = &[(0, 2, 1, 0), (0, 0, 1, 3), (0, 1, 1, 2)];
     assert!(rt; saturates(alloc, &system, (0, &[C], rows))?);
     Ok(())
@@ -139,7 +142,9 @@ fn one_hand_lowers_a_place_again(rt: HostRuntime) -> Result<(), Fail> {
 fn a_pop_is_reached(rt: HostRuntime) -> Result<(), Fail> {
     let alloc = rt.alloc();
     let mut system = System::new(alloc, Reach, 2, 2);
-    system.add_rule(alloc, 0, 1, 1, &[], true, None)?;
+    system
+        .add_rule(alloc, 0, 1, 1, &[], true, None)
+        .expect(&rt, "an answer");
     let pop = Place {
         from: 0,
         label: Label::Symbol(1),
