@@ -1,4 +1,0 @@
-mod DoneLemmas
-mod SettleLemmas
-mod OpeningLemmas
-mod CallLemmas

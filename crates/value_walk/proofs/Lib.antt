@@ -1,4 +1,0 @@
-mod GivenLemmas
-mod MadeLemmas
-mod SettleLemmas
-mod TurnLemmas

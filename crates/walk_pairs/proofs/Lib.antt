@@ -1,8 +1,0 @@
-mod WayLemmas
-mod SetLemmas
-mod LoweringLemmas
-mod PairLemmas
-mod FallLemmas
-mod GivenLemmas
-mod ReadLemmas
-pub mod CallerLemmas

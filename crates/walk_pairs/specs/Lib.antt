@@ -1,5 +1,0 @@
-pub mod Ways
-pub mod Pairs
-pub mod Lowerings
-pub mod Giving
-pub mod private
