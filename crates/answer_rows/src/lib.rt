@@ -5,3 +5,5 @@
 mod answers;
 #[cfg(test)]
 mod callees;
+#[cfg(test)]
+mod ends;

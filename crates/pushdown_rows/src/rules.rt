@@ -143,24 +143,15 @@ fn run_values(rt: HostRuntime) -> Result<(), Fail> {
 fn equal_systems(rt: HostRuntime) {
     let alloc = rt.alloc();
     let system = call_and_return(alloc).expect(&rt, "an answer");
-    let other = call_and_return(alloc).expect(&rt, "an answer");
+    let mut other = call_and_return(alloc).expect(&rt, "an answer");
     assert!(rt; system.same(&other));
     assert!(rt; same_rule(&Reach, system.rule(0), other.rule(0)));
     assert!(rt; !same_rule(&Reach, system.rule(0), other.rule(1)));
-}
-
-#[test]
-fn a_rule_more(rt: HostRuntime) {
-    let system = call_and_return(rt.alloc()).expect(&rt, "an answer");
-    let other = with_a_rule_that_is_out(rt.alloc()).expect(&rt, "an answer");
-    assert!(rt; !system.same(&other));
-}
-
-#[test]
-fn a_symbol_more(rt: HostRuntime) {
-    let system = System::new(rt.alloc(), Reach, 2, 2);
-    let other = System::new(rt.alloc(), Reach, 2, 3);
-    assert!(rt; !system.same(&other));
+    other
+        .add_rule(alloc, 0, 1, 1, &[], true, None)
+        .expect(&rt, "an answer");
+    assert!(rt; !system.same(&other), "a rule more");
+    assert!(rt; !System::new(alloc, Reach, 2, 2).same(&System::new(alloc, Reach, 2, 3)));
 }
 
 // What is answered once a system of one control and one symbol is full.
