@@ -1,0 +1,6 @@
+mod MeetingLemmas
+mod DeepLemmas
+mod SoundLemmas
+mod WalkLemmas
+mod SettleLemmas
+pub mod CallerLemmas

@@ -1,0 +1,123 @@
+-- Pairs that have all given what they give are what the laws ask for.
+use Rattle.std.proofs.Common.{◌≡◌, ◌⊎◌, inl, inr, ℕ, zero, suc, ◌<◌, ◌≤◌, ◌+◌, Bool, true, false, List, [], ◌∷◌, length, drop, refl, sym, ap, ◌∙◌, subst, arith}
+use Rattle.std.specs.Prelude.{◌&&◌, IsTrue, Option, None, Some, slice_get, nat_le, if◌then◌else◌}
+use Rattle.std.specs.List.{AllByRecursion, list_all}
+use Rattle.std.proofs.lemmas.Bool.{and_parts, cases_Bool, leb-true, le-leb}
+use Rattle.wpds_base.specs.Lists.{IsIn}
+use Rattle.semiring_laws.specs.Semiring.{Operations, IsSemiring, Fits, Below}
+use Rattle.semiring_laws.proofs.CallerLemmas.{below_itself}
+use Rattle.pushdown_rules.specs.declared.rule.Rule.{Rule}
+use Rattle.pushdown_rules.specs.Configuration.{Configuration, at_stack}
+use Rattle.pushdown_rules.specs.Pushdown.{Pushdown, IsSystem}
+use Rattle.pushdown_rules.proofs.CallerLemmas.{weight_fits}
+use Rattle.config_patterns.specs.Edges.{edges_of, is_final_of, is_starred}
+use Rattle.config_patterns.specs.Membership.{PatternValue}
+use Rattle.weighted_automata.specs.declared.place.Label.{Label}
+use Rattle.weighted_automata.specs.declared.place.Label.TheVariants.{Symbol, Empty}
+use Rattle.weighted_automata.specs.declared.place.Place.{Place}
+use Rattle.weight_tables.specs.Entries.{TableEntry, NoneWaits, weight_in, settled_in}
+use Rattle.weight_tables.proofs.CallerLemmas.{place_fits, all_settled}
+use Rattle.walk_pairs.specs.declared.pairs.Stage.TheVariants.{Down}
+use Rattle.walk_pairs.specs.Pairs.{pair_place, answer_place}
+use Rattle.walk_pairs.proofs.CallerLemmas.{edge_from, edge_to}
+use Rattle.forward_value_laws.specs.Model.{Source, item, callee, IsWalked, head_of}
+use Rattle.forward_value_search.specs.Places.{arrow, number_of, place_by}
+use Rattle.forward_value_search.proofs.CallerLemmas.{item_number, callee_number}
+use Rattle.forward_value_walk.specs.Walking.{number, found_in, pair_in, pairs_of, IsSettled}
+
+module _ {S W Map : Type 0} {operations : S → Operations W Map} {p : Pushdown S W Map} (system : IsSystem operations p) (laws : IsSemiring (operations p.semiring)) (first wanted : PatternValue)
+    (base walk : List (TableEntry W)) (base_fits : AllByRecursion (λ e. Fits (operations p.semiring) e.weight) base) (walk_fits : AllByRecursion (λ e. Fits (operations p.semiring) e.weight) walk)
+    (none : NoneWaits walk) (settled : IsSettled (operations p.semiring) p first wanted base walk) where
+  abbrev s : Operations W Map
+  s = operations p.semiring
+
+  abbrev Found : Configuration → Source → W
+  Found = found_in s p first wanted base walk
+
+  abbrev pairs : ℕ → Source → W
+  pairs = pairs_of s p first wanted base walk
+
+  abbrev pair_at : ℕ → Option ℕ → W
+  pair_at j o = elim o [ None ↦ s.zero | Some m ↦ pair_in s p first wanted base walk j m ]
+
+  abbrev row_at : ℕ → Label → Option ℕ → W
+  row_at control label o = elim (place_by control (Some label) o) [ None ↦ s.zero | Some x ↦ weight_in s base x ]
+
+  fits_base : (x : Place) → Fits s (weight_in s base x)
+  fits_base x = place_fits s x base laws.fits-zero base_fits
+
+  fits_walk : (x : Place) → Fits s (weight_in s walk x)
+  fits_walk x = place_fits s x walk laws.fits-zero walk_fits
+
+  -- the pair of a source that has a number
+  pair_is : (j : ℕ) (from : Source) (n : ℕ) → number s p first wanted from ≡ Some n → pairs j from ≡ pair_in s p first wanted base walk j n
+  pair_is j from n is = ap (λ (o : Option ℕ). elim o [ None ↦ s.zero | Some m ↦ pair_in s p first wanted base walk j m ]) is
+
+  settles : (j n : ℕ) → settled_in s walk (pair_place Down j n) ≡ pair_in s p first wanted base walk j n
+  settles j n = all_settled s (pair_place Down j n) walk none
+
+  pair_fits : (j : ℕ) (from : Source) → Fits s (pairs j from)
+  pair_fits j from = elim (number s p first wanted from) as (λ o. Fits s (pair_at j o)) [
+    | None ↦ laws.fits-zero
+    | Some n ↦ fits_walk (pair_place Down j n)
+  ]
+
+  zero_below : Below s s.zero s.zero
+  zero_below = below_itself laws s.zero laws.fits-zero
+
+  tops : (g j : ℕ) → IsIn (record { from = 0; symbol = g; to = j }) (edges_of wanted.items) → (from : Source) → Below s (pairs j from) (Found (at_stack wanted.control (g ∷ [])) from)
+  tops g j edge from = elim (number s p first wanted from) as (λ o. Below s (pair_at j o) (row_at wanted.control (Symbol g) o)) [
+    | None ↦ zero_below
+    | Some n ↦ settled.tops g j edge n
+  ]
+
+  uncovered : (i : ℕ) → Below s (pairs 0 (item i)) (Found (at_stack wanted.control []) (item i))
+  uncovered i = elim (cases_Bool (nat_le i (length first.items))) [
+    | inl low ↦
+        let is = item_number (length first.items) p i (leb-true i (length first.items) low) in
+        let P : Option ℕ → Type 0 = λ o. Below s (pair_at 0 o) (row_at wanted.control Empty o) in
+        subst P (sym is) (settled.uncovered i (leb-true i (length first.items) low))
+    | inr high ↦
+        let P : Bool → Type 0 = λ b. Below s (pair_at 0 (if b then Some i else None)) (row_at wanted.control Empty (if b then Some i else None)) in
+        subst P (sym high) zero_below
+  ]
+
+  opens : (k : ℕ) (r : Rule S W Map) → slice_get p.rules k ≡ Some r → (g h : ℕ) → r.right ≡ g ∷ h ∷ [] → (i j : ℕ) → IsIn (record { from = i; symbol = h; to = j }) (edges_of wanted.items) → (from : Source)
+      → Below s (pairs j from) (s.extend (s.extend (Found (head_of r) from) r.weight) (pairs i (callee r.to g)))
+  opens k r there g h right i j edge from =
+      let fr = weight_fits system laws k r there in
+      let has = callee_number (length first.items) p k r there g (h ∷ []) right in
+      let inner : pairs i (callee r.to g) ≡ pair_in s p first wanted base walk i has.0 = pair_is i (callee r.to g) has.0 has.1 in
+      let fi = fits_walk (pair_place Down i has.0) in
+      let T : W → Type 0 = λ u. Below s (pairs j from) (s.extend (s.extend (Found (head_of r) from) r.weight) u) in
+      let nothing : s.zero ≡ s.extend (s.extend s.zero r.weight) (pair_in s p first wanted base walk i has.0) =
+      sym (ap (λ u. s.extend u (pair_in s p first wanted base walk i has.0)) (laws.extend-zero_left r.weight fr) ∙ laws.extend-zero_left (pair_in s p first wanted base walk i has.0) fi) in
+      let Z : W → Type 0 = Below s s.zero in
+      subst T (sym inner) (elim (number s p first wanted from) as (λ o. Below s (pair_at j o) (s.extend (s.extend (row_at r.control (Symbol r.symbol) o) r.weight) (pair_in s p first wanted base walk i has.0))) [
+        | None ↦ subst Z nothing zero_below
+        | Some n ↦
+            let head : W = weight_in s base (arrow r.control (Symbol r.symbol) n) in
+            let B : W → Type 0 = Below s (pair_in s p first wanted base walk j n) in
+            let C : W → Type 0 = λ u. Below s (pair_in s p first wanted base walk j n) (s.extend head (s.extend r.weight u)) in
+            subst B (sym (laws.extend_assoc head r.weight (pair_in s p first wanted base walk i has.0) (fits_base (arrow r.control (Symbol r.symbol) n)) fr fi))
+            (subst C (settles i has.0) (settled.opens k r there g h right i j edge has.0 has.1 n))
+      ])
+
+  reads : (h i j a b : ℕ) → IsIn (record { from = i; symbol = h; to = j }) (edges_of wanted.items) → IsIn (record { from = a; symbol = h; to = b }) (edges_of first.items)
+      → Below s (pairs j (item b)) (pairs i (item a))
+  reads h i j a b edge edge' =
+      let left = pair_is j (item b) b (item_number (length first.items) p b (edge_to first.items a h b edge')) in
+      let right = pair_is i (item a) a (item_number (length first.items) p a (edge_from first.items a h b edge')) in
+      let P : W → Type 0 = λ u. Below s u (pairs i (item a)) in
+      let Q : W → Type 0 = Below s (pair_in s p first wanted base walk j b) in
+      subst P (sym left) (subst Q (settles i a ∙ sym right) (settled.reads h i j a b edge edge'))
+
+  ends : (j a : ℕ) → IsTrue (is_final_of wanted.items j) → IsTrue (is_final_of first.items a) → Below s (weight_in s walk answer_place) (pairs j (item a))
+  ends j a final final' =
+      let low = and_parts (nat_le a (length first.items)) (list_all is_starred (drop a first.items)) final' in
+      let right = pair_is j (item a) a (item_number (length first.items) p a (leb-true a (length first.items) low.0)) in
+      let Q : W → Type 0 = Below s (weight_in s walk answer_place) in
+      subst Q (settles j a ∙ sym right) (settled.ends j a final final')
+
+  pub pairs_walked : IsWalked s p first.items Found wanted.control wanted.items pairs (weight_in s walk answer_place)
+  pairs_walked = record { fits = pair_fits; fits_answer = fits_walk answer_place; tops = tops; uncovered = uncovered; opens = opens; reads = reads; ends = ends }

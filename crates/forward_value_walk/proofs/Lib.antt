@@ -1,0 +1,4 @@
+mod DoneLemmas
+mod SettleLemmas
+mod OpeningLemmas
+mod CallLemmas

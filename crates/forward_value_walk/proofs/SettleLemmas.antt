@@ -1,0 +1,81 @@
+-- A turn of the walk keeps what was settled.
+use Rattle.std.proofs.Common.{◌≡◌, ◌⊎◌, inl, inr, ℕ, List, [], ◌∷◌, refl, sym, ap, ◌∙◌, subst}
+use Rattle.std.specs.Prelude.{IsTrue, Some, slice_get}
+use Rattle.wpds_base.specs.Lists.{IsIn}
+use Rattle.semiring_laws.specs.Semiring.{Operations, IsSemiring, Fits, Below}
+use Rattle.semiring_laws.proofs.CallerLemmas.{below_trans, below_zero}
+use Rattle.pushdown_rules.specs.declared.rule.Rule.{Rule}
+use Rattle.pushdown_rules.specs.Pushdown.{Pushdown, IsSystem}
+use Rattle.pushdown_rules.proofs.CallerLemmas.{weight_fits}
+use Rattle.config_patterns.specs.Edges.{edges_of, is_final_of}
+use Rattle.config_patterns.specs.Membership.{PatternValue}
+use Rattle.weighted_automata.specs.declared.place.Label.TheVariants.{Symbol, Empty}
+use Rattle.weighted_automata.specs.declared.place.Place.{Place}
+use Rattle.weight_tables.specs.Entries.{TableEntry, weight_in, settled_in}
+use Rattle.weight_tables.proofs.CallerLemmas.{place_fits, settled_or_none}
+use Rattle.walk_pairs.specs.declared.pairs.Stage.TheVariants.{Down}
+use Rattle.walk_pairs.specs.Pairs.{pair_place, answer_place}
+use Rattle.walk_pairs.proofs.CallerLemmas.{AllFit}
+use Rattle.forward_value_laws.specs.Model.{callee}
+use Rattle.forward_value_search.specs.Places.{arrow}
+use Rattle.forward_value_walk.specs.Walking.{settled_pair, IsSettled, IsPairMet}
+
+module _ {S W Map : Type 0} {operations : S → Operations W Map} {p : Pushdown S W Map} (system : IsSystem operations p) (laws : IsSemiring (operations p.semiring)) (first wanted : PatternValue)
+    (base : List (TableEntry W)) (base_fits : AllFit (operations p.semiring) base) where
+  abbrev s : Operations W Map
+  s = operations p.semiring
+
+  abbrev Kept : W → W → Type 0
+  Kept x' x = (x' ≡ x) ⊎ (x' ≡ s.zero)
+
+  -- what lay below a weight lies below what counts of it
+  pub itself_kept : (w w' x x' : W) → Fits s w → Fits s w' → Fits s x → Below s w' w → Kept x' x → Below s w x → Below s w' x'
+  itself_kept w w' x x' fw fw' fx falls (inl same) below = let P : W → Type 0 = Below s w' in subst P (sym same) (below_trans laws w' w x fw' fw fx falls below)
+  itself_kept w w' x x' fw fw' fx falls (inr none) below = let P : W → Type 0 = Below s w' in subst P (sym none) (below_zero laws w' fw')
+
+  -- the same of what a call that stays open makes of it
+  pub opened_kept : (w w' a b x x' : W) → Fits s w → Fits s w' → Fits s a → Fits s b → Fits s x → Below s w' w → Kept x' x → Below s w (s.extend a (s.extend b x)) → Below s w' (s.extend a (s.extend b x'))
+  opened_kept w w' a b x x' fw fw' fa fb fx falls (inl same) below =
+      let P : W → Type 0 = λ v. Below s w' (s.extend a (s.extend b v)) in
+      subst P (sym same) (below_trans laws w' w (s.extend a (s.extend b x)) fw' fw (laws.fits-extend a (s.extend b x) fa (laws.fits-extend b x fb fx)) falls below)
+  opened_kept w w' a b x x' fw fw' fa fb fx falls (inr none) below =
+      let P : W → Type 0 = Below s w' in
+      subst P (sym (ap (λ v. s.extend a (s.extend b v)) none ∙ ap (s.extend a) (laws.extend-zero_right b fb) ∙ laws.extend-zero_right a fa)) (below_zero laws w' fw')
+
+  module _ (old new : List (TableEntry W)) (old_fit : AllFit s old) (new_fit : AllFit s new) (falls : (x : Place) → Below s (weight_in s new x) (weight_in s old x)) where
+    fo : (x : Place) → Fits s (weight_in s old x)
+    fo x = place_fits s x old laws.fits-zero old_fit
+
+    fn : (x : Place) → Fits s (weight_in s new x)
+    fn x = place_fits s x new laws.fits-zero new_fit
+
+    fb : (x : Place) → Fits s (weight_in s base x)
+    fb x = place_fits s x base laws.fits-zero base_fits
+
+    fso : (x : Place) → Fits s (settled_in s old x)
+    fso x = elim (settled_or_none s x old) [ inl e ↦ subst (Fits s) (sym e) (fo x) | inr e ↦ subst (Fits s) (sym e) laws.fits-zero ]
+
+    -- Each pair counts as it did, or for nothing, or has given what it gives: the walk is settled.
+    pub settled_on : ((i m : ℕ) → Kept (settled_pair s p first wanted base new i m) (settled_pair s p first wanted base old i m) ⊎ IsPairMet s p first wanted base new i m) → IsSettled s p first wanted base old → IsSettled s p first wanted base new
+    settled_on each settled = record {
+      tops = λ g j edge n. below_trans laws (weight_in s new (pair_place Down j n)) (weight_in s old (pair_place Down j n)) (weight_in s base (arrow wanted.control (Symbol g) n))
+          (fn (pair_place Down j n)) (fo (pair_place Down j n)) (fb (arrow wanted.control (Symbol g) n)) (falls (pair_place Down j n)) (settled.tops g j edge n);
+      uncovered = λ i low. below_trans laws (weight_in s new (pair_place Down 0 i)) (weight_in s old (pair_place Down 0 i)) (weight_in s base (arrow wanted.control Empty i))
+          (fn (pair_place Down 0 i)) (fo (pair_place Down 0 i)) (fb (arrow wanted.control Empty i)) (falls (pair_place Down 0 i)) (settled.uncovered i low);
+      opens = λ k r there g h right i j edge m is n. elim (each i m) [
+        | inr met ↦ met.opens k r there g h right j edge is n
+        | inl kept ↦ opened_kept (weight_in s old (pair_place Down j n)) (weight_in s new (pair_place Down j n)) (weight_in s base (arrow r.control (Symbol r.symbol) n)) r.weight
+            (settled_pair s p first wanted base old i m) (settled_pair s p first wanted base new i m) (fo (pair_place Down j n)) (fn (pair_place Down j n)) (fb (arrow r.control (Symbol r.symbol) n))
+            (weight_fits system laws k r there) (fso (pair_place Down i m)) (falls (pair_place Down j n)) kept (settled.opens k r there g h right i j edge m is n)
+      ];
+      reads = λ h i j a b edge edge'. elim (each i a) [
+        | inr met ↦ met.reads h j b edge edge'
+        | inl kept ↦ itself_kept (weight_in s old (pair_place Down j b)) (weight_in s new (pair_place Down j b)) (settled_pair s p first wanted base old i a) (settled_pair s p first wanted base new i a)
+            (fo (pair_place Down j b)) (fn (pair_place Down j b)) (fso (pair_place Down i a)) (falls (pair_place Down j b)) kept (settled.reads h i j a b edge edge')
+      ];
+      ends = λ j a final final'. elim (each j a) [
+        | inr met ↦ met.ends final final'
+        | inl kept ↦ itself_kept (weight_in s old answer_place) (weight_in s new answer_place) (settled_pair s p first wanted base old j a) (settled_pair s p first wanted base new j a)
+            (fo answer_place) (fn answer_place) (fso (pair_place Down j a)) (falls answer_place) kept (settled.ends j a final final')
+      ];
+    }

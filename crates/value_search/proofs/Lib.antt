@@ -1,0 +1,11 @@
+mod ViewLemmas
+mod OnwardLemmas
+mod GrowLemmas
+mod MeetLemmas
+mod SecondLemmas
+mod HandLemmas
+mod CalleeLemmas
+mod EdgeLemmas
+mod TakeLemmas
+mod OpeningLemmas
+mod BoundLemmas

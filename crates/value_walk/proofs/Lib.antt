@@ -1,0 +1,4 @@
+mod GivenLemmas
+mod MadeLemmas
+mod SettleLemmas
+mod TurnLemmas

@@ -1,0 +1,49 @@
+use Rattle.std.proofs.Common.{◌≡◌, ℕ, true, false, refl, sym, ap, ◌∙◌, subst, List}
+use Rattle.std.specs.Prelude.{Option, None, Some, IfNone, slice_get}
+use Rattle.std.proofs.lemmas.Bool.{false≢true}
+use Rattle.weighted_automata.specs.declared.place.Place.{Place}
+use Rattle.weight_tables.specs.Entries.{TableEntry, NoneWaits}
+use Rattle.weight_tables.specs.Tables.{TablesValue, AreTables, with_entries, with_hand}
+use Rattle.value_walk.specs.private.Walking.{IsWalking, IsPlaceGiven}
+use Rattle.value_walk.proofs.TurnLemmas.{taken_at, at_hand, IsTurned, turned}
+use Rattle.value_walk.proofs.turns.turn.Goals as goal
+
+none_of : (o : Option ℕ) (P : Type 0) → o ≡ None → IfNone o P → P
+none_of o P none holds = let Q : Option ℕ → Type 0 = λ x. IfNone x P in subst Q none holds
+
+pub returns-in_default : goal.returns-in_default
+returns-in_default g c =
+    let a = c.args in
+    let v = a.tables.now in
+    let s = g.S.Semiring.operations v.system.semiring in
+    let same : c.pop.new.self ≡ v = none_of c.pop.result (c.pop.new.self ≡ v) c.in_default.is c.pop.ensures.stays in
+    let none : NoneWaits v.walk = none_of c.pop.result (NoneWaits v.walk) c.in_default.is c.pop.ensures.none in
+    let P : TablesValue g.row.S.Denot g.row.S-W.Denot g.row.S-Ret.Denot → Type 0 = IsWalking s a.from.now a.to.now in
+    let Q : TablesValue g.row.S.Denot g.row.S-W.Denot g.row.S-Ret.Denot → Type 0 = λ u. NoneWaits u.walk in
+    record {
+      walking = subst P (sym same) c.requires.walking;
+      others = same ∙ ap (λ (u : TablesValue g.row.S.Denot g.row.S-W.Denot g.row.S-Ret.Denot). record v { hand = u.hand; walk = u.walk }) (sym same);
+      done = λ _. subst Q (sym same) none;
+      fewer = λ e. absurd (false≢true e);
+    }
+
+pub returns : goal.returns
+returns g c =
+    let a = c.args in
+    let v = a.tables.now in
+    let s = g.S.Semiring.operations v.system.semiring in
+    let law = g.S.Semiring.laws v.system.semiring in
+    let t = c.in-Some.t in
+    let entry = c.in-Some.ensures.entry in
+    let e = entry.0 in
+    let there' : slice_get c.pop.new.self.walk t ≡ Some (record e { waits = false }) =
+    ap (λ (u : TablesValue g.row.S.Denot g.row.S-W.Denot g.row.S-Ret.Denot). slice_get u.walk t) c.in-Some.ensures.taken ∙ taken_at t v.walk e entry.1 in
+    let hand : c.hold.new.self ≡ at_hand g.S.Semiring.operations v c.valid.ensures.system law c.valid.ensures.tables a.from.now a.to.now c.requires.pops c.requires.enters c.requires.walking t e entry.1 entry.2 =
+    c.in_ok-hold.ensures.ok (record e { waits = false }) there' ∙ ap (λ (u : TablesValue g.row.S.Denot g.row.S-W.Denot g.row.S-Ret.Denot). with_hand e.weight u) c.in-Some.ensures.taken in
+    let V : TablesValue g.row.S.Denot g.row.S-W.Denot g.row.S-Ret.Denot → Type 0 = λ u. AreTables (g.S.Semiring.operations u.system.semiring) u in
+    let G : TablesValue g.row.S.Denot g.row.S-W.Denot g.row.S-Ret.Denot → Type 0 = λ u. IsPlaceGiven (g.S.Semiring.operations u.system.semiring) a.from.now a.to.now c.place-place.result u c.give.new.tables in
+    let given = subst G hand c.in_ok-give.ensures in
+    let P : Place → Type 0 = λ x. IsPlaceGiven s a.from.now a.to.now x (at_hand g.S.Semiring.operations v c.valid.ensures.system law c.valid.ensures.tables a.from.now a.to.now c.requires.pops c.requires.enters c.requires.walking t e entry.1 entry.2) c.give.new.tables in
+    let all = turned g.S.Semiring.operations v c.valid.ensures.system law c.valid.ensures.tables a.from.now a.to.now c.requires.pops c.requires.enters c.requires.walking t e entry.1 entry.2
+    (subst V hand c.valid-2.ensures.tables) c.give.new.tables c.valid-3.ensures.tables.walk.few (subst P (c.place-place.ensures (record e { waits = false }) there') given) in
+    record { walking = all.walking; others = all.others; done = λ e. absurd (false≢true (sym e)); fewer = λ _. all.fewer }

@@ -1,0 +1,14 @@
+use Rattle.std.proofs.Common.{◌≡◌}
+use Rattle.weight_tables.specs.Turns.{turns_left}
+use Rattle.value_walk.specs.Answering.{IsWalkedOver}
+use Rattle.value_walk.specs.private.Walking.{IsWalking}
+use Rattle.value_walk.proofs.turns.walk.Given as goal
+
+abbrev pub invariant-turns : goal.invariant-turns
+invariant-turns g l =
+    let v = l.fn.tables in
+    let s = g.S.Semiring.operations v.system.semiring in
+    IsWalkedOver v l.tables × IsWalking s l.from l.to l.tables
+
+abbrev pub decreases-turns : goal.decreases-turns
+decreases-turns g l = turns_left (g.S.Semiring.operations l.fn.tables.system.semiring) l.tables.walk

@@ -1,0 +1,8 @@
+mod WayLemmas
+mod SetLemmas
+mod LoweringLemmas
+mod PairLemmas
+mod FallLemmas
+mod GivenLemmas
+mod ReadLemmas
+pub mod CallerLemmas

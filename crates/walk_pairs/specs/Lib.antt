@@ -1,0 +1,5 @@
+pub mod Ways
+pub mod Pairs
+pub mod Lowerings
+pub mod Giving
+pub mod private

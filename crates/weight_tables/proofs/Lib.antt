@@ -1,0 +1,11 @@
+mod FitLemmas
+mod EntryLemmas
+mod TurnLemmas
+mod RowLemmas
+mod MarkLemmas
+mod CellLemmas
+mod ValueLemmas
+mod LayerLemmas
+mod ListLemmas
+mod IndexLemmas
+pub mod CallerLemmas

@@ -1,0 +1,8 @@
+use Rattle.std.proofs.Common.{◌≡◌, ap, ◌∙◌}
+use Rattle.weight_tables.proofs.FitLemmas.{extended_ok}
+use Rattle.weight_tables.proofs.plain.PlainWeigherWeigher.extend.Goals as goal
+
+pub returns-clause-known : goal.returns-clause-known
+returns-clause-known g c =
+    let is : c.semiring.result.now ≡ c.args.self.now.semiring = c.semiring.ensures.value ∙ ap (λ p. p.semiring) c.self.view_is in
+    extended_ok g.S.Semiring.operations g.S.Semiring.laws _ _ is _ _ _ c.requires.left c.requires.right c.extend.ensures

@@ -1,0 +1,11 @@
+use Rattle.std.proofs.Common.{◌≡◌, ◌<◌, ℕ, ◌+◌, Bool, true, false, List, [], ◌∷◌, ◌++◌, length, set, refl, sym, ap, ◌∙◌, subst, arith}
+use Rattle.std.specs.Prelude.{Some, None, IfSome, slice_get}
+use Rattle.weighted_automata.specs.Places.{same_place}
+use Rattle.weight_tables.proofs.LayerLemmas.{seen_where, seen_within}
+use Rattle.weight_tables.proofs.tables.Tables.find.Goals as goal
+
+pub returns-clause-number : goal.returns-clause-number
+returns-clause-number g c = c.find.ensures.number ∙ seen_where (g.M.Weigher.worth c.self.inside.weigher) _ _ c.self.inside.layers c.args.self.now c.self.view_is c.args.layer (λ e. same_place e.place c.args.place) (λ e. same_place e.place c.args.place) (λ e. refl) _ c.list.ensures
+
+pub returns-clause-within : goal.returns-clause-within
+returns-clause-within g c = seen_within (g.M.Weigher.worth c.self.inside.weigher) _ _ c.self.inside.layers c.args.self.now c.self.view_is c.args.layer c.find.result _ c.list.ensures c.find.ensures.within

@@ -1,0 +1,23 @@
+use Rattle.std.proofs.Common.{◌≡◌, ◌<◌, ℕ, ◌+◌, Bool, true, false, List, [], ◌∷◌, ◌++◌, length, set, refl, sym, ap, ◌∙◌, subst, arith}
+use Rattle.std.specs.Prelude.{Some, None, IfSome, slice_get}
+use Rattle.pushdown_rules.specs.Pushdown.{Pushdown}
+use Rattle.weight_tables.proofs.LayerLemmas.{kept_grown, kept_taken, layers_grown, hand_written}
+use Rattle.weight_tables.proofs.tables.Tables.hold_rule.Goals as goal
+
+pub rule-requires : goal.rule-requires
+rule-requires g c = let sys : g.M.Weigher.pushdown c.self.inside.weigher ≡ c.args.self.now.system = c.self.invariant.system ∙ ap (λ v. v.system) c.self.view_is in
+    subst (λ (q : Pushdown _ _ _). c.args.k < length q.rules) (sym sys) c.requires
+
+pub invariant_of-self : goal.invariant_of-self
+invariant_of-self g c = kept_grown c.rule.ensures.grows _ _ _ c.self.invariant
+
+pub invariant_of-self-2 : goal.invariant_of-self-2
+invariant_of-self-2 g c = kept_taken c.rule.ensures.grows _ _ _ c.self.invariant c.in_ok-w.w c.in_ok-w.ensures.known
+
+pub returns-clause-ok : goal.returns-clause-ok
+returns-clause-ok g c = λ r there.
+    let old = g.M.Weigher.worth c.self.inside.weigher in
+    let new = g.M.Weigher.worth c.rule.new.self in
+    let sys : g.M.Weigher.pushdown c.self.inside.weigher ≡ c.args.self.now.system = c.self.invariant.system ∙ ap (λ v. v.system) c.self.view_is in
+    hand_written old new _ _ c.self.inside.layers c.args.self.now c.self.view_is (layers_grown c.rule.ensures.grows c.self.inside.layers c.self.invariant.layers) (new c.in_ok-w.w) _
+    (c.in_ok-w.ensures.worth r (ap (λ q. slice_get q.rules c.args.k) sys ∙ there))

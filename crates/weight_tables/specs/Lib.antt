@@ -1,0 +1,5 @@
+pub mod Growth
+pub mod Entries
+pub mod Tables
+pub mod Turns
+pub mod private
