@@ -14,4 +14,4 @@ mod take;
 #[cfg(test)]
 mod tries;
 
-pub use search::ForwardSearch;
+pub use search::{close, open, turn};
