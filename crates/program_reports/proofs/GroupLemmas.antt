@@ -1,9 +1,8 @@
 -- Queries that are answered together.
-use Rattle.std.proofs.Common.{◌≡◌, ℕ, ◌<◌, false, List, length, get_or, take, drop, map, refl, sym, ap, subst, ◌∙◌, arith}
+use Rattle.std.proofs.Common.{◌≡◌, ℕ, ◌<◌, false, List, length, get_or, map, refl, sym, ap, subst, ◌∙◌, arith}
 use Rattle.std.specs.Prelude.{All, Some, slice_get, option_map}
 use Rattle.std.proofs.lemmas.Option.{slice_get-get_or, slice_get-map, slice_get_read}
 use Rattle.std.proofs.lemmas.List.{length-map}
-use Rattle.std.proofs.lemmas.List.Elements.{All-take, All-drop}
 use Rattle.relation_laws.specs.Building.{Parts}
 use Rattle.relation_weights.specs.Relations.{relation_operations}
 use Rattle.config_patterns.specs.Membership.{PatternValue}
@@ -19,9 +18,9 @@ use Rattle.program_reports.specs.private.Asked.{IsValueFor, program_in}
 abbrev pub none_there : Point
 none_there = record { line = 0; failed = false }
 
--- what each query has, each of a group has
-pub each_of_group : {Q : Type 0} (P : Q → Type 0) (qs : List Q) (place n : ℕ) → Each P qs → All P (take n (drop place qs))
-each_of_group P qs place n each = All-take P n (drop place qs) (All-drop P place qs (λ k d within. each k (get_or qs k d) (slice_get-get_or qs k d within)))
+-- what each query has, all have
+pub all_of_each : {Q : Type 0} (P : Q → Type 0) (qs : List Q) → Each P qs → All P qs
+all_of_each P qs each = λ k d within. each k (get_or qs k d) (slice_get-get_or qs k d within)
 
 -- the value at the place of a point is the point's
 pub value_for : (a : Asked) (points : List Point) (from : PatternValue) (ends : List PatternValue) (values : List Parts) (k : ℕ) (d : Point) (v : Parts)

@@ -3,12 +3,6 @@ use Rattle.std.proofs.Common.{◌≡◌, ℕ, ◌+◌, ◌<◌, ◌≤◌, List,
 use Rattle.std.proofs.lemmas.List.{take_more, take_all, take-take, drop-take, length-take-le}
 use Rattle.report_text.specs.Reports.{ByQuery}
 
--- a front, and some more behind it
-pub front_more : {Q : Type 0} (qs : List Q) (place n : ℕ) → take (place + n) qs ≡ take place qs ++ take n (drop place qs)
-front_more qs place n =
-    sym (take-append-drop place (take (place + n) qs))
-    ∙ ap₂ (λ xs ys. xs ++ ys) (take-take place (place + n) qs (omega arith)) (drop-take place n qs)
-
 module _ {Q : Type 0} (P : ℕ → Q → List ℕ → Type 0) where
   -- the parts of some queries, and then those of the queries behind them
   many_more : (i : ℕ) (qs rs : List Q) (text more : List ℕ) → ByQuery P i qs text → ByQuery P (i + length qs) rs more → ByQuery P i (qs ++ rs) (text ++ more)
@@ -23,14 +17,6 @@ module _ {Q : Type 0} (P : ℕ → Q → List ℕ → Type 0) where
         is.3,
         many_more (i + 1) qs rs is.1 more is.4 (subst (λ k. ByQuery P k rs more) count then),
       )
-
-  -- a group of queries more
-  pub queries_more : (i : ℕ) (qs : List Q) (place n : ℕ) (text more : List ℕ) → place ≤ length qs → ByQuery P i (take place qs) text → ByQuery P (i + place) (take n (drop place qs)) more
-      → ByQuery P i (take (place + n) qs) (text ++ more)
-  queries_more i qs place n text more within is then =
-      let count : i + place ≡ i + length (take place qs) = ap (λ k. i + k) (sym (length-take-le place qs within)) in
-      subst (λ xs. ByQuery P i xs (text ++ more)) (sym (front_more qs place n))
-      (many_more i (take place qs) (take n (drop place qs)) text more is (subst (λ k. ByQuery P k (take n (drop place qs)) more) count then))
 
   -- the query at a place more
   pub one_query_more : (i : ℕ) (qs : List Q) (place number : ℕ) (d : Q) (text part : List ℕ) → number ≡ i + place → place < length qs → ByQuery P i (take place qs) text

@@ -2,7 +2,6 @@
 //! found together.
 
 ghost use Rattle.std.specs.Prelude.{◌≡◌, ◌+◌, ◌<◌, ◌≤◌, ◌^◌, All, IfOk, length, map};
-ghost use Rattle.wpds_base.specs.Limits.{most_queries};
 ghost use Rattle.pattern_openings.specs.PatternOpenings.{IsOver};
 ghost use Rattle.program_laws.specs.ReadPrograms.{IsPoint};
 ghost use Rattle.lowering_laws.specs.Queries.{point_pattern};
@@ -23,19 +22,7 @@ use semiring_laws::Semiring;
 use std::alloc::Global;
 use std::sync::Wait;
 use std::thread::Threads;
-use witness_graph::Side;
 use wpds_base::{Gate, OutOfMemory, Text};
-
-// How many queries are answered together at most, backwards, and how many edges their patterns may
-// have.
-const MOST_BACKWARDS: u64 = 100;
-
-const MOST_EDGES: u64 = 1_000_000;
-
-// The same forwards, and how many symbols the sets of their patterns may have.
-const MOST_FORWARDS: u64 = 1000;
-
-const MOST_SYMBOLS: u64 = 16_000_000;
 
 /// The line of the query for a point with a number, by its value.
 pub(crate) fn value_line(
@@ -58,21 +45,6 @@ pub(crate) fn value_line(
     point_line(alloc, number, reached)
 }
 
-// How many queries are answered together, over so many symbols. Backwards a group is saturated from
-// all its patterns: their edges are in memory at once, of which a point's has two for each symbol,
-// and one more. Forwards all runs begin at main's first line, so one saturation serves a whole group,
-// and the patterns alone take memory: the sets of a point's have each symbol, and one more.
-fn group_size(by: Side, symbols: u32) -> usize
-    ensures some { 0 < result }
-    ensures few { result ≤ most_queries }
-{
-    let symbols = symbols as u64;
-    match by {
-        Side::Pre => (MOST_EDGES / (2 * symbols + 1)).clamp(1, MOST_BACKWARDS) as usize,
-        Side::Post => (MOST_SYMBOLS / (symbols + 1)).clamp(1, MOST_FORWARDS) as usize,
-    }
-}
-
 // The patterns where runs to these points end.
 fn ends_of(alloc: Global, asked: &Asked<'_>, points: &[Point]) -> Result<Vec<Pattern>, OutOfMemory>
     requires asked { IsAsked asked.now }
@@ -89,40 +61,8 @@ fn ends_of(alloc: Global, asked: &Asked<'_>, points: &[Point]) -> Result<Vec<Pat
     Ok(ends)
 }
 
-// The lines of the queries for points, numbered from here on: the values of all are found together.
-fn group_lines<H: Threads + Wait + Sync, G: Gate>(
-    rt: &H,
-    alloc: Global,
-    asked: &Asked<'_>,
-    values: &mut Values<'_, Relations>,
-    number: u64,
-    points: &[Point],
-    gate: &G,
-) -> Result<Text, OutOfMemory>
-    requires asked { IsAsked asked.now }
-    requires values { values.old ≡ values_in asked.now }
-    requires brief { IsBrief asked.now.options }
-    requires points { All (IsPoint (program_in asked.now)) points.now }
-    requires few { length points.now ≤ most_queries }
-    requires numbers { number + length points.now < 2 ^ 64 }
-    ensures values { values.new ≡ values.old }
-    ensures lines { let a = asked.now in
-        let tells = TellsPoint a.options a.program.now a.lowering.system in
-        IfOk result (ByQuery tells number points.now) }
-{
-    let ends = ends_of(alloc, asked, points)?;
-    let from = asked.entry_pattern(alloc)?;
-    let found = values.values_from(rt, alloc, &from, &ends, gate)?;
-    let mut text = Vec::new(alloc);
-    for (place, point) in points.iter().enumerate() {
-        let line = value_line(alloc, asked, number + place as u64, *point, &found[place])?;
-        text.extend_from_slice(line.as_bytes())?;
-    }
-    Ok(Text::from_vec(text))
-}
-
-/// The lines of all queries, in order, where values alone are told: the values of a group of queries
-/// are found together.
+/// The lines of all queries, in order, where values alone are told: all runs begin at main's first line, and the values of all
+/// queries are found together.
 pub(crate) fn lines_by_values<H: Threads + Wait + Sync, G: Gate>(
     rt: &H,
     alloc: Global,
@@ -136,20 +76,16 @@ pub(crate) fn lines_by_values<H: Threads + Wait + Sync, G: Gate>(
         let tells = TellsPoint a.options a.program.now a.lowering.system in
         IfOk result (ByQuery tells 1 a.program.now.queries) }
 {
-    let queries = asked.program.queries.as_slice();
-    let system = &asked.lowering.system;
+    let points = asked.program.queries.as_slice();
     let (by, workers) = (asked.options.by, asked.options.workers);
-    let most = group_size(by, system.symbols());
-    let mut values = Values::new(system, by, workers);
+    let mut values = Values::new(&asked.lowering.system, by, workers);
+    let from = asked.entry_pattern(alloc)?;
+    let ends = ends_of(alloc, asked, points)?;
+    let found = values.values_from(rt, alloc, &from, &ends, gate)?;
     let mut text = Vec::new(alloc);
-    let mut place = 0;
-    while place < queries.len() {
-        let end = place + most.min(queries.len() - place);
-        let points = &queries[place..end];
-        let number = place as u64 + 1;
-        let lines = group_lines(rt, alloc, asked, &mut values, number, points, gate)?;
-        text.extend_from_slice(lines.as_bytes())?;
-        place = end;
+    for (place, point) in points.iter().enumerate() {
+        let line = value_line(alloc, asked, place as u64 + 1, *point, &found[place])?;
+        text.extend_from_slice(line.as_bytes())?;
     }
     Ok(Text::from_vec(text))
 }

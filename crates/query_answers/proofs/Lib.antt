@@ -1,6 +1,6 @@
 mod AnswerLemmas
-mod BegunLemmas
+mod AnsweredLemmas
 pub mod CallerLemmas
+mod ClosedLemmas
+mod JointLemmas
 mod ValueLemmas
-mod SharedLemmas
-mod SearchLemmas

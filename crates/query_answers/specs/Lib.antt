@@ -1,4 +1,4 @@
 pub mod Answering
-pub mod Shared
+pub mod Closed
 pub mod Values
 pub mod private

@@ -1,4 +1,2 @@
 -- What private functions cite.
-pub mod Begun
-pub mod Searched
-pub mod Shared
+pub mod Answered

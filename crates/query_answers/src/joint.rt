@@ -1,4 +1,4 @@
-//! The values of many queries backwards, by one book that several workers close.
+//! The values of many queries backwards, by books that several workers close.
 
 ghost use Rattle.std.specs.Prelude.{◌≡◌, ◌<◌, ◌≤◌, [], ℕ, All, IfOk, List, length};
 ghost use Rattle.config_patterns.specs.Membership.{PatternValue};
@@ -7,44 +7,38 @@ ghost use Rattle.pattern_openings.specs.JointOpenings.{joint_edges, joint_finals
 ghost use Rattle.pattern_openings.specs.PatternOpenings.{IsOver};
 ghost use Rattle.prestar.specs.declared.pre.Pre.{Pre as PreValue};
 ghost use Rattle.prestar_laws.specs.Ways.{pre_way};
-ghost use Rattle.pushdown_rules.specs.Pushdown.{Pushdown, IsSystem};
+ghost use Rattle.pushdown_rules.specs.Pushdown.{Pushdown};
 ghost use Rattle.saturation_laws.specs.Books.{IsClosed};
-ghost use Rattle.witness_graph.specs.declared.node.Side.TheVariants.{Pre as Backward};
 ghost use Rattle.wpds_base.specs.Limits.{most_queries};
 ghost use Rattle.worker_pool.specs.Workers.{IsWorkerCount};
-ghost use Rattle.query_answers.specs.Answering.{AreValues};
+ghost use Rattle.query_answers.specs.private.Answered.{AreAnswered};
 
+use crate::groups::group_len;
 use config_patterns::Pattern;
-use path_sum::{sum_values, sums_have_answers};
-use pattern_openings::{later_openings_read_members, openings_read_members};
+use path_sum::sum_values;
+use pattern_openings::later_openings_read_members;
 use prestar::{Pre, joint_pre_opening};
-use pushdown_rules::{System, answers_agree};
+use pushdown_rules::System;
 use saturation_core::Book;
 use saturation_laws::StateList;
 use semiring_laws::Semiring;
 use std::alloc::Global;
 use std::sync::Wait;
 use std::thread::Threads;
-use worker_pool::{one_worker_closes, saturate};
+use worker_pool::saturate;
 use wpds_base::{Gate, OutOfMemory};
 
-// What a walk gives, over a closed book that began with the edges of several patterns, is the values of answers to the queries
-// for these patterns: values are unique, and each query has an answer.
-fn walks_give_values<S: Semiring>()
-    ensures { (p : Pushdown S S.W S.Ret) (workers : ℕ) (from : PatternValue)
-        (tos : List PatternValue) (d : PreValue) (values : List S.W) →
+// What a walk gives, over a closed book that began with the edges of several patterns, answers the queries for these patterns.
+fn walks_answer<S: Semiring>()
+    ensures { (p : Pushdown S S.W S.Ret) (from : PatternValue) (tos : List PatternValue)
+        (d : PreValue) (values : List S.W) →
         let opening = edges_alone (joint_edges p.controls tos) in
-        IsSystem S.operations p → IsWorkerCount workers → from.control < p.controls →
         All (IsOver p.controls p.symbols) tos →
         AreValuesTo S.operations (pre_way S.operations) p d opening from
         (joint_finals p.controls tos) values →
-        AreValues S.operations p Backward workers from tos values }
+        AreAnswered S.operations p from tos values }
 {
-    openings_read_members();
     later_openings_read_members();
-    answers_agree::<S>();
-    sums_have_answers::<S, Pre>();
-    one_worker_closes::<S, Pre>();
 }
 
 // The values of sums over a closed book, whose opening accepts nowhere, to each of several sets of final states.
@@ -77,9 +71,38 @@ fn sums<S: Semiring>(
     )
 }
 
+// The values of the answers to queries that end at patterns of one book.
+fn group_values<
+    H: Threads + Wait + Sync,
+    S: Semiring<W: Send + Sync, Ret: Send + Sync> + Send + Sync,
+    G: Gate,
+>(
+    rt: &H,
+    alloc: Global,
+    system: &System<S>,
+    workers: u32,
+    from: &Pattern,
+    tos: &[Pattern],
+    gate: &G,
+) -> Result<Vec<S::W>, OutOfMemory>
+    requires from { from.now.control < system.now.controls }
+    requires tos { All (IsOver system.now.controls system.now.symbols) tos.now }
+    requires few { length tos.now ≤ most_queries }
+    requires workers { IsWorkerCount workers }
+    ensures { let are = AreAnswered S.operations system.now from.now tos.now in
+        IfOk result (λ vs. are vs.items) }
+{
+    walks_answer::<S>();
+    let opened = joint_pre_opening(alloc, system, tos)?;
+    let book = saturate(rt, alloc, opened.book, workers, gate)?;
+    book.system();
+    sums(alloc, &book, from, &opened.finals)
+}
+
 /// The values of the answers to queries that begin at one pattern, backwards: one for each pattern where runs end, in order. So many
-/// workers close one book, which begins with the edges of all these patterns, each with states of its own, and the values are read off
-/// one walk. Each worker calls the gate between taking a transition and settling it. Refused only when out of memory.
+/// workers close a book for as many of these patterns as [`group_len`] has it take, which begins with the edges of them all, each
+/// with states of its own; the values are read off one walk. Each worker calls the gate between taking a transition and settling
+/// it. Refused only when out of memory.
 pub(crate) fn joint_values<
     H: Threads + Wait + Sync,
     S: Semiring<W: Send + Sync, Ret: Send + Sync> + Send + Sync,
@@ -97,12 +120,17 @@ pub(crate) fn joint_values<
     requires tos { All (IsOver system.now.controls system.now.symbols) tos.now }
     requires few { length tos.now ≤ most_queries }
     requires workers { IsWorkerCount workers }
-    ensures { let are = AreValues S.operations system.now Backward workers from.now tos.now in
+    ensures { let are = AreAnswered S.operations system.now from.now tos.now in
         IfOk result (λ vs. are vs.items) }
 {
-    walks_give_values::<S>();
-    let opened = joint_pre_opening(alloc, system, tos)?;
-    let book = saturate(rt, alloc, opened.book, workers, gate)?;
-    book.system();
-    sums(alloc, &book, from, &opened.finals)
+    let mut values = Vec::new(alloc);
+    let mut place = 0;
+    while place < tos.len() {
+        let end = place + group_len(system, from, &tos[place..]);
+        let group = &tos[place..end];
+        let found = group_values(rt, alloc, system, workers, from, group, gate)?;
+        values.extend(found)?;
+        place = end;
+    }
+    Ok(values)
 }

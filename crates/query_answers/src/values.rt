@@ -5,14 +5,14 @@ ghost use Rattle.pattern_openings.specs.PatternOpenings.{IsOver};
 ghost use Rattle.path_sum.specs.Answers.{IsValueOf};
 ghost use Rattle.wpds_base.specs.Limits.{most_queries};
 ghost use Rattle.worker_pool.specs.Workers.{IsWorkerCount};
-ghost use Rattle.witness_graph.specs.declared.node.Side.TheVariants.{Pre as Backward, Post as Forward};
 ghost use Rattle.query_answers.specs.Answering.{AreValues, IsAnswer};
-ghost use Rattle.query_answers.specs.Shared.{shared_system};
 ghost use Rattle.query_answers.specs.Values.{ValuesOf};
 
-use crate::begun::{Begun, values_to};
+use crate::backward::{PlainTables, backward_values};
+use crate::book::book_values;
+use crate::forward::forward_values;
 use crate::joint::joint_values;
-use crate::shared::SharedSearch;
+use crate::laws::answers_are_values;
 use config_patterns::Pattern;
 use pushdown_rules::System;
 use semiring_laws::Semiring;
@@ -23,21 +23,21 @@ use std::thread::Threads;
 use witness_graph::Side;
 use wpds_base::{Gate, OutOfMemory};
 
-/// The values of answers to queries over a system, without listings. With one worker they are found by searches, and what queries
-/// have in common backwards is kept for those to come. With two and more, these have a thread each, and share one locked book for
-/// the queries that are asked together.
+/// The values of answers to queries over a system, without listings. With one worker they are found by the plain search, and what
+/// leads from control to control is kept for the queries to come. With two and more, these have a thread each, and share one
+/// locked book for the queries that are asked together.
 #[derive(Drop)]
 pub struct Values<'s, S: Semiring> {
     system: &'s System<S>,
     side: Side,
     workers: u32,
-    // backwards, with one worker
-    shared: Option<SharedSearch<'s, S>>,
+    // Backwards with one worker: what leads from control to control, closed.
+    closed: Option<PlainTables<'s, S>>,
 }
 
 impl<'s, S: Semiring> Model for Values<'s, S> {
     ghost use Rattle.std.specs.Prelude.{◌≡◌, IfSome};
-    ghost use Rattle.query_answers.specs.Shared.{shared_system};
+    ghost use Rattle.query_answers.specs.Closed.{IsClosedOver};
     ghost use Rattle.query_answers.specs.Values.{ValuesOf};
     ghost use Rattle.worker_pool.specs.Workers.{IsWorkerCount};
 
@@ -46,72 +46,7 @@ impl<'s, S: Semiring> Model for Values<'s, S> {
     ghost view = { λ v. record { system = v.system.now; side = v.side; workers = v.workers } };
 
     ghost invariant = { λ v. IsWorkerCount v.workers
-        × IfSome v.shared (λ q. shared_system q ≡ v.system.now) };
-}
-
-// The search that is kept, or one that is begun.
-fn search_from<'s, S: Semiring, G: Gate>(
-    alloc: Global,
-    system: &'s System<S>,
-    kept: &mut Option<SharedSearch<'s, S>>,
-    gate: &G,
-) -> Result<SharedSearch<'s, S>, OutOfMemory>
-    requires { IfSome kept.old (λ q. shared_system q ≡ system.now) }
-    ensures search { IfOk result (λ q. shared_system q ≡ system.now) }
-    ensures kept { IfSome kept.new (λ q. shared_system q ≡ system.now) }
-{
-    match kept.take() {
-        Some(search) => Ok(search),
-        None => SharedSearch::open(alloc, system, gate),
-    }
-}
-
-// The values of queries backwards by one worker, and the search that is kept with what they have in common.
-fn shared_values<'s, S: Semiring, G: Gate>(
-    alloc: Global,
-    system: &'s System<S>,
-    kept: &mut Option<SharedSearch<'s, S>>,
-    from: &Pattern,
-    tos: &[Pattern],
-    gate: &G,
-) -> Result<Vec<S::W>, OutOfMemory>
-    requires kept { IfSome kept.old (λ q. shared_system q ≡ system.now) }
-    requires from { from.now.control < system.now.controls }
-    requires tos { All (IsOver system.now.controls system.now.symbols) tos.now }
-    requires few { length tos.now ≤ most_queries }
-    ensures kept { IfSome kept.new (λ q. shared_system q ≡ system.now) }
-    ensures values { (workers : ℕ) → IsWorkerCount workers →
-        let are = AreValues S.operations system.now Backward workers from.now tos.now in
-        IfOk result (λ vs. are vs.items) }
-{
-    let search = search_from(alloc, system, kept, gate)?;
-    let (search, values) = search.values_from(alloc, from, tos, gate)?;
-    *kept = Some(search);
-    Ok(values)
-}
-
-// The values of queries forwards.
-fn forward_values<
-    H: Threads + Wait + Sync,
-    S: Semiring<W: Send + Sync, Ret: Send + Sync> + Send + Sync,
-    G: Gate,
->(
-    rt: &H,
-    alloc: Global,
-    system: &System<S>,
-    workers: u32,
-    from: &Pattern,
-    tos: &[Pattern],
-    gate: &G,
-) -> Result<Vec<S::W>, OutOfMemory>
-    requires from { IsOver system.now.controls system.now.symbols from.now }
-    requires tos { All (IsOver system.now.controls system.now.symbols) tos.now }
-    requires workers { IsWorkerCount workers }
-    ensures { let are = AreValues S.operations system.now Forward workers from.now tos.now in
-        IfOk result (λ vs. are vs.items) }
-{
-    let begun = Begun::at(rt, alloc, system, workers, from, tos.len(), gate)?;
-    values_to(alloc, &begun, tos)
+        × IfSome v.closed (IsClosedOver S.operations v.system.now) };
 }
 
 impl<'s, S: Semiring> Values<'s, S> {
@@ -124,7 +59,7 @@ impl<'s, S: Semiring> Values<'s, S> {
             system,
             side,
             workers,
-            shared: None,
+            closed: None,
         }
     }
 }
@@ -148,13 +83,17 @@ impl<'s, S: Semiring<W: Send + Sync, Ret: Send + Sync> + Send + Sync> Values<'s,
             IfOk result (λ vs. are vs.items) }
         ensures same { self.new ≡ self.old }
     {
+        answers_are_values::<S>();
+        from.control();
         let (system, workers) = (self.system, self.workers);
+        system.semiring();
         match self.side {
-            Side::Post => forward_values(rt, alloc, system, workers, from, tos, gate),
             Side::Pre if workers == 1 => {
-                shared_values(alloc, system, &mut self.shared, from, tos, gate)
+                backward_values(alloc, system, &mut self.closed, from, tos, gate)
             }
             Side::Pre => joint_values(rt, alloc, system, workers, from, tos, gate),
+            Side::Post if workers == 1 => forward_values(alloc, system, from, tos, gate),
+            Side::Post => book_values(rt, alloc, system, workers, from, tos, gate),
         }
     }
 }

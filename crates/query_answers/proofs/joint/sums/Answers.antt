@@ -3,7 +3,7 @@ use Rattle.std.specs.Prelude.{slice_index_or}
 use Rattle.path_sum.specs.Saturated.{IsSaturatedAutomaton}
 use Rattle.path_sum.specs.Values.{IsSaturatedTo, AreValuesTo}
 use Rattle.prestar_laws.specs.Ways.{pre_way}
-use Rattle.query_answers.proofs.SharedLemmas.{all_kept, all_stay, book_saturated, book_saturated_to, moved}
+use Rattle.query_answers.proofs.JointLemmas.{all_kept, all_stay, book_saturated, book_saturated_to, moved}
 use Rattle.query_answers.proofs.joint.sums.Goals as goal
 
 pub sum_values-requires-clause-automaton : goal.sum_values-requires-clause-automaton
