@@ -64,9 +64,8 @@ fn cost_among(
     }
 }
 
-// The first row whose query has another cost: forwards by one worker, alone or as one of many, for which what they have in common
-// is found, and through each callee once, since each system here has twice as many push rules as callees; and by two workers, who
-// close a book, by both directions.
+// The first row whose query has another cost: by one worker, who searches, alone or as one of many, and by two, who close a book, by
+// both directions.
 pub(crate) fn wrong_row(
     rt: &(impl Threads + Wait + Sync + AllocGlobal),
     system: &System<Cost>,
@@ -75,6 +74,8 @@ pub(crate) fn wrong_row(
     let ways = [
         (Side::Post, false, 1),
         (Side::Post, false, MOST),
+        (Side::Pre, false, 1),
+        (Side::Pre, false, MOST),
         (Side::Post, true, 1),
         (Side::Pre, true, 2),
     ];

@@ -4,7 +4,7 @@ use cost_weights::Cost;
 use row_systems::{A, B, C, D, SOME_A, calls, grows};
 use std::test::Fail;
 
-// Any number of any of three symbols, and of four: what leads on over them is found once for all rows of a system.
+// Any number of any of three symbols, and of four.
 const ANY_OF_THREE: (&[u32], bool) = (&[0, 1, 2], true);
 
 const ANY_OF_FOUR: (&[u32], bool) = (&[0, 1, 2, 3], true);

@@ -22,6 +22,7 @@ use Rattle.query_answers.specs.declared.saturation.Saturation.TheVariants.{Backw
 use Rattle.path_sum.specs.declared.answer.Answer.{Answer}
 use Rattle.path_sum.specs.Results.{IsSumOver, IsSumOf}
 use Rattle.prestar_laws.specs.Ways.{pre_way}
+use Rattle.walk_pairs.specs.Answering.{IsAnswered}
 use Rattle.query_answers.specs.Answering.{opened_of, summed_of, forward_way, ShowsAnswer, IsGrownFromBook, IsSaturatedFrom, IsSaturated, IsAnswer}
 
 -- what the law on openings says
@@ -110,9 +111,10 @@ module _ {S W Map : Type 0} (operations : S → Operations W Map) (law : Opening
   forward_answers b (Err e) summed side workers from to sums below same saturated = tt
   forward_answers b (Ok a) summed side workers from to sums below same saturated = forward_is b a summed side workers from to sums below same saturated
 
-  -- the value of a sum over a book forwards, which lists nothing
-  pub forward_value : {E : Type 0} (b : BookValue S W Map Post) (r : Result W E) (workers : ℕ) (from to : PatternValue)
-      → IfOk r (IsValueOf (IsSumOf operations (forward_way operations) b to)) → from.control < p.controls
-      → IsSaturatedFrom operations (forward_way operations) p workers from b → IfOk r (IsValueOf (IsAnswer operations p Forward workers from to))
-  forward_value b (Err e) workers from to sums below saturated = tt
-  forward_value b (Ok v) workers from to (a, sums, value) below saturated = (a, forward_is b a to Forward workers from to sums below refl saturated, value)
+  -- the value of a sum over a book forwards, which lists nothing, answers
+  pub forward_answered : (b : BookValue S W Map Post) (v : W) (workers : ℕ) (from to : PatternValue) → IsValueOf (IsSumOf operations (forward_way operations) b to) v → from.control < p.controls
+      → IsSaturatedFrom operations (forward_way operations) p workers from b → IsAnswered (operations p.semiring) p from to v
+  forward_answered b v workers from to (a, sums, value) below saturated =
+      let is = forward_is b a to Forward workers from to sums below refl saturated in
+      let runs = listed_runs a.listing in
+      (runs, subst (λ w. Answers (operations p.semiring) p (has_member from) (has_member to) w runs) (sym value) is.shows.answers)

@@ -8,7 +8,7 @@ use Rattle.value_search.specs.Finds.{FindsPops}
 use Rattle.value_search.specs.Views.{weights, counting}
 use Rattle.weight_tables.specs.Entries.{TableEntry, NoneWaits}
 use Rattle.weight_tables.specs.Tables.{TablesValue}
-use Rattle.query_answers.specs.Closed.{IsClosedOver}
+use Rattle.query_answers.specs.private.Closed.{IsClosedOver}
 
 -- they are so still where nothing between controls changed
 pub closed_stay : {S W Map : Type 0} (operations : S → Operations W Map) (p : Pushdown S W Map) (old new : TablesValue S W Map) → new.system ≡ old.system → new.base ≡ old.base

@@ -1,4 +1,3 @@
 pub mod Answering
-pub mod Closed
 pub mod Values
 pub mod private

@@ -4,7 +4,7 @@ ghost use Rattle.std.specs.Prelude.{◌≡◌, IfOk, IfSome, OnOk};
 ghost use Rattle.value_search.specs.Finds.{FindsPops};
 ghost use Rattle.walk_pairs.specs.Answering.{IsAnswered};
 ghost use Rattle.value_walk.specs.Answering.{AreEnterSums};
-ghost use Rattle.query_answers.specs.Closed.{IsClosedOver};
+ghost use Rattle.query_answers.specs.private.Closed.{IsClosedOver};
 ghost use Rattle.query_answers.specs.private.Answered.{AreAnswered};
 
 use config_patterns::Pattern;

@@ -37,7 +37,7 @@ pub struct Values<'s, S: Semiring> {
 
 impl<'s, S: Semiring> Model for Values<'s, S> {
     ghost use Rattle.std.specs.Prelude.{◌≡◌, IfSome};
-    ghost use Rattle.query_answers.specs.Closed.{IsClosedOver};
+    ghost use Rattle.query_answers.specs.private.Closed.{IsClosedOver};
     ghost use Rattle.query_answers.specs.Values.{ValuesOf};
     ghost use Rattle.worker_pool.specs.Workers.{IsWorkerCount};
 

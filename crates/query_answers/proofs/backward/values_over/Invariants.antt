@@ -1,5 +1,5 @@
 use Rattle.std.proofs.Common.{take}
-use Rattle.query_answers.specs.Closed.{IsClosedOver}
+use Rattle.query_answers.specs.private.Closed.{IsClosedOver}
 use Rattle.query_answers.specs.private.Answered.{AreAnswered}
 use Rattle.query_answers.proofs.backward.values_over.Given as goal
 
