@@ -12,5 +12,5 @@ mod pass;
 mod post;
 mod worths;
 
-pub use opening::{post_opening, post_search};
+pub use opening::post_opening;
 pub use post::Post;

@@ -32,6 +32,15 @@ above_each n (z ∷ qs) q (inl same) =
     (λ e. let low : suc z ≤ n = leb-true (suc z) n e in let rest = above_start n qs in omega (arith, low, rest))
     (λ e. let rest = above_start (suc z) qs in omega (arith, rest)))
 
+-- the least number that is above all of these is no more than another that is
+pub above_most : (n m : ℕ) (qs : List ℕ) → n ≤ m → ((q : ℕ) → IsIn q qs → q < m) → above n qs ≤ m
+above_most n m [] low each = low
+above_most n m (q ∷ qs) low each =
+    let P : ℕ → Type 0 = λ i. above i qs ≤ m in
+    let rest : (i : ℕ) → i ≤ m → above i qs ≤ m = λ i h. above_most i m qs h (λ z g. each z (inr g)) in
+    let here : q < m = each q (inl refl) in
+    cond_both (nat_le (suc q) n) n (suc q) P (λ _. rest n low) (λ _. rest (suc q) (omega (arith, here)))
+
 module _ (controls : ℕ) (o : Opening) where
   pub control_is_state : (c : ℕ) → c < controls → c < state_count controls o
   control_is_state c low = let all = above_start controls (map (λ (x : Place). x.to) o.edges ++ o.finals) in omega (arith, low, all)

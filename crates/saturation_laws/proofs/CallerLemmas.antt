@@ -22,7 +22,7 @@ pub use Rattle.saturation_laws.proofs.QueueLemmas.{all_append, get_push, has_pla
 pub use Rattle.saturation_laws.proofs.QueueLemmas.{in_left, in_queued, once_queued, queued_cases}
 pub use Rattle.saturation_laws.proofs.QueueLemmas.{queued_keeps}
 pub use Rattle.saturation_laws.proofs.ReplayLemmas.{others_leave, replay_append, step_leaves}
-pub use Rattle.saturation_laws.proofs.SearchLemmas.{hand_is, meanwhile, meanwhile_locked, search_applies}
-pub use Rattle.saturation_laws.proofs.SearchLemmas.{search_begun, search_falls, search_fits, search_turns}
+pub use Rattle.saturation_laws.proofs.SearchLemmas.{search_applies, search_begun, search_falls}
+pub use Rattle.saturation_laws.proofs.SearchLemmas.{search_turns}
 pub use Rattle.saturation_laws.proofs.SettleState.{apply_keeps, grows_further, grows_itself}
 pub use Rattle.saturation_laws.proofs.ValueLemmas.{worth_fits}
