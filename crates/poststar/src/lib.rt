@@ -1,4 +1,4 @@
-//! Forwards saturation (post*): what it draws from a transition, and the book or the search that it begins for a pattern
+//! Forwards saturation (post*): what it draws from a transition, and the book that it opens for a pattern
 //! (Schwoon 2002; Reps, Schwoon, Jha, Melski 2005).
 #![tactic(auto)]
 

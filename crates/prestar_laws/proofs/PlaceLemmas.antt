@@ -1,5 +1,5 @@
 -- The places that the backward direction can reach.
-use Rattle.std.proofs.Common.{◌≡◌, inl, inr, ℕ, suc, ◌*◌, ◌<◌, ◌≤◌, true, List, [], ◌∷◌, ◌++◌, map, length, sym, ap, ◌∙◌, subst, arith}
+use Rattle.std.proofs.Common.{◌≡◌, inl, inr, ℕ, suc, ◌*◌, ◌<◌, ◌≤◌, true, List, [], ◌∷◌, ◌++◌, map, length, refl, sym, ap, ◌∙◌, subst, arith}
 use Rattle.std.specs.Prelude.{nat_le, if◌then◌else◌}
 use Rattle.std.specs.List.{flat_map, list_all, range_with_len}
 use Rattle.std.proofs.lemmas.Bool.{and_parts, leb-true, leb-false, cond_both}
@@ -70,15 +70,6 @@ module _ (controls symbols states : ℕ) where
       let within = from_range 0 states three.before three.there in
       let to : three.before ≡ x.to = ap (λ (y : Place). y.to) three.is in
       omega (arith, within.1, to)
-
-  pub arrow_from : (x : Place) → IsIn x (arrows controls symbols states) → x.from < controls
-  arrow_from x h =
-      let one = from_flat_map with_each x (range_with_len 0 controls) h in
-      let two = from_flat_map (to_each one.before) x (range_with_len 0 symbols) one.is in
-      let three = from_map (arrow one.before two.before) x (range_with_len 0 states) two.is in
-      let within = from_range 0 controls one.before one.there in
-      let from : one.before ≡ x.from = ap (λ (y : Place). y.from) three.is in
-      omega (arith, within.1, from)
 
   pub length-arrows : length (arrows controls symbols states) ≡ controls * symbols * states
   length-arrows =
