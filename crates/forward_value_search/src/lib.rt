@@ -3,6 +3,7 @@
 //! Schwoon, Jha, Melski 2005).
 #![tactic(auto)]
 
+mod callees;
 mod ends;
 mod fire;
 mod give;
@@ -12,6 +13,7 @@ mod rules;
 mod search;
 mod take;
 #[cfg(test)]
-mod tries;
+mod tests;
 
+pub use callees::{Callee, callee_at};
 pub use search::{close, open, turn};

@@ -65,7 +65,7 @@ fn open_way<'s, S: Semiring, M: Weigher<S>>(
 }
 
 /// A call by a rule that stays open: it lies above what an entry of the walk reads.
-pub fn open_rule<'s, S: Semiring, M: Weigher<S>>(
+pub(crate) fn open_rule<'s, S: Semiring, M: Weigher<S>>(
     tables: &mut Tables<'s, S, M>,
     first: &Pattern,
     wanted: &Pattern,
@@ -93,14 +93,7 @@ pub fn open_rule<'s, S: Semiring, M: Weigher<S>>(
         [_top, below] => {
             tables.hold_rule_then(k, Layer::Walk, t)?;
             tables.valid();
-            open_ways(
-                tables,
-                wanted,
-                state,
-                *below,
-                rule.control,
-                rule.symbol,
-            )?;
+            open_ways(tables, wanted, state, *below, rule.control, rule.symbol)?;
             Ok(())
         }
         _ => Ok(()),
