@@ -1,5 +1,5 @@
 -- The answer of a sum over a book that workers have saturated.
-use Rattle.std.proofs.Common.{◌≡◌, ◌↔◌, Bool, ℕ, ◌<◌, List, IsTrue, refl, sym, subst}
+use Rattle.std.proofs.Common.{◌≡◌, ◌↔◌, ℕ, ◌<◌, List, IsTrue, refl, sym, subst}
 use Rattle.std.specs.Prelude.{nat_eq, Result, Ok, Err, IfOk, IfSome}
 use Rattle.std.proofs.lemmas.Bool.{and_parts, eqb-true}
 use Rattle.semiring_laws.specs.Semiring.{Operations}

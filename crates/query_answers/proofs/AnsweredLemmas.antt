@@ -1,9 +1,14 @@
 -- Values that answer queries are the values of answers: values are unique, and each query has an answer.
-use Rattle.std.proofs.Common.{◌≡◌, Bool, ℕ, zero, suc, ◌+◌, ◌<◌, ◌≤◌, List, [], ◌∷◌, ◌++◌, IsTrue, length, take, refl, sym, ap, subst, arith}
-use Rattle.std.specs.Prelude.{All, Some, slice_get}
+use Rattle.std.proofs.Common.{◌≡◌, Bool, ℕ, zero, suc, ◌+◌, ◌<◌, ◌≤◌, List, [], ◌∷◌, ◌++◌, IsTrue, length, take, refl, sym, ap, ◌∙◌, subst, arith}
+use Rattle.std.specs.Prelude.{All, IfOk, Result, Some, slice_get}
+use Rattle.std.specs.Iterator.{Drains}
 use Rattle.std.specs.List.{AllByRecursion}
+use Rattle.std.specs.Vec.Iter.{into_iter_items, into_iter_len, into_iter_steps}
+use Rattle.std.proofs.lemmas.Iterator.{items_from_drains}
+use Rattle.std.proofs.lemmas.Iterator.Adapters.{YieldsList-from_vec}
+use Rattle.std.proofs.lemmas.Result.{IfOk-weaker}
 use Rattle.std.proofs.Math.ListN.{get_or}
-use Rattle.std.proofs.lemmas.List.{take_more}
+use Rattle.std.proofs.lemmas.List.{map-id, take_more}
 use Rattle.std.proofs.lemmas.List.Elements.{recursion_from_All}
 use Rattle.std.proofs.lemmas.Option.{same_Some}
 use Rattle.wpds_base.specs.Limits.{most_items}
@@ -30,6 +35,7 @@ use Rattle.witness_graph.specs.declared.node.Side.TheVariants.{Pre as Backward, 
 use Rattle.worker_pool.specs.Closing.{IsClosedAlone, just_opened}
 use Rattle.worker_pool.specs.Workers.{IsWorkerCount}
 use Rattle.query_answers.specs.Answering.{forward_way, IsAnswer, AreValues}
+use Rattle.query_answers.specs.Values.{ValuesOf}
 use Rattle.query_answers.specs.private.Answered.{AreAnswered}
 use Rattle.query_answers.proofs.AnswerLemmas.{OpeningsReadMembers, backward_is, forward_is}
 
@@ -75,6 +81,11 @@ module _ {S W Map : Type 0} (operations : S → Operations W Map) (p : Pushdown 
   next_answered tos i d vs v within are one =
       subst (λ xs. Are xs (vs ++ v ∷ [])) (sym (take_more tos i d within)) (both_answered (take i tos) (get_or tos i d ∷ []) vs (v ∷ []) are (one, tt))
 
+-- what an iterator over a list gives
+pub all_given : {A Z : Type 0} → (it : _) (xs ys : List A) → into_iter_items {X = A} {Z = Z} it ≡ ys → into_iter_len {X = A} {Z = Z} it ≡ length ys
+    → Drains (into_iter_steps {X = A} {Z = Z}) it xs → xs ≡ ys
+all_given it xs ys items count given = sym (map-id xs) ∙ items_from_drains xs (given.1.0, given.1.1, λ _. (given.0, given.1.2)) (YieldsList-from_vec ys items count)
+
 -- ---- the laws that are called
 
 module _ {S W Map D : Type 0} (operations : S → Operations W Map) (way : Way S W Map D) where
@@ -100,14 +111,14 @@ over_at controls symbols (d ∷ tos) over zero to e = subst (IsOver controls sym
 over_at controls symbols (d ∷ tos) over (suc k) to e = over_at controls symbols tos over.1 k to e
 
 module _ {S W Map : Type 0} (operations : S → Operations W Map) (law : OpeningsReadMembers)
-    (pre_closes : Closes operations (pre_way operations)) (pre_opens : Opens operations (pre_way operations)) (pre_sums : HasSums operations (pre_way operations))
+    (pre_closes : Closes operations (pre_way {D = Pre} operations)) (pre_opens : Opens operations (pre_way {D = Pre} operations)) (pre_sums : HasSums operations (pre_way {D = Pre} operations))
     (post_closes : Closes operations (forward_way operations)) (post_opens : Opens operations (forward_way operations)) (post_sums : HasSums operations (forward_way operations))
     (agree : Agree operations) (p : Pushdown S W Map) (valid : IsSystem operations p) (workers : ℕ) (some : IsWorkerCount workers)
     (from : PatternValue) (few : length from.items ≤ most_items) (over : IsOver p.controls p.symbols from) where
   answer_exists : (side : Side) (to : PatternValue) → IsOver p.controls p.symbols to → (a : Answer S W Map) × IsAnswer operations p side workers from to a
   answer_exists Backward to over_to =
       let o = opening_of p.controls to in
-      let opened = just_opened operations (pre_way operations) p (record {}) o in
+      let opened = just_opened operations (pre_way {D = Pre} operations) p (record {}) o in
       let c = pre_closes opened (pre_opens p (record {}) o valid (pre_fits p to)) refl in
       let a = pre_sums c.0 from c.1.book c.1.closed (subst (λ (q : Pushdown S W Map). from.control < q.controls) (sym c.1.base.system) over.control) in (
         a.0,
@@ -137,3 +148,22 @@ module _ {S W Map : Type 0} (operations : S → Operations W Map) (law : Opening
     each = λ k to v there value.
         value_is side to (over_at p.controls p.symbols tos (recursion_from_All (IsOver p.controls p.symbols) tos overs) k to there) v (each_answered operations p from tos vs are k to v there value);
   }
+
+-- ---- by the law
+
+module _ {S W Map : Type 0} (operations : S → Operations W Map) where
+  -- what the law on answers and values says
+  abbrev pub AnswersAreValues : Type 0
+  AnswersAreValues = (p : Pushdown S W Map) (side : Side) (workers : ℕ) (from : PatternValue) (tos : List PatternValue) (vs : List W) → IsSystem operations p → IsWorkerCount workers
+      → length from.items ≤ most_items → IsOver p.controls p.symbols from → All (IsOver p.controls p.symbols) tos → AreAnswered operations p from tos vs → AreValues operations p side workers from tos vs
+
+  module _ (law : AnswersAreValues) (inside v : ValuesOf S W Map) (same : inside ≡ v) (valid : IsSystem operations inside.system) (some : IsWorkerCount inside.workers) (from : PatternValue)
+      (few : length from.items ≤ most_items) (over : IsOver v.system.controls v.system.symbols from) (tos : List PatternValue) (overs : All (IsOver v.system.controls v.system.symbols) tos) where
+    -- what was answered has the values that are asked for
+    pub values_told : {V E : Type 0} (items : V → List W) (r : Result V E) → IfOk r (λ vs. AreAnswered operations inside.system from tos (items vs))
+        → IfOk r (λ vs. AreValues operations v.system v.side v.workers from tos (items vs))
+    values_told {V} items r answered =
+        let P : ValuesOf S W Map → Type 0 = λ w. IfOk r (λ vs. AreValues operations w.system w.side w.workers from tos (items vs)) in
+        let O : ValuesOf S W Map → Type 0 = λ w. IsOver w.system.controls w.system.symbols from in
+        let T : ValuesOf S W Map → Type 0 = λ w. All (IsOver w.system.controls w.system.symbols) tos in
+        subst P same (IfOk-weaker r _ _ (λ vs are. law inside.system inside.side inside.workers from tos (items vs) valid some few (subst O (sym same) over) (subst T (sym same) overs) are) answered)

@@ -4,7 +4,6 @@ use Rattle.std.specs.Prelude.{List}
 use Rattle.semiring_laws.specs.Semiring.{Operations}
 use Rattle.pushdown_rules.specs.Pushdown.{Pushdown}
 use Rattle.value_laws.specs.Settled.{ArePops, ArePopsSettled}
-use Rattle.value_search.specs.Finds.{FindsPops}
 use Rattle.value_search.specs.Views.{weights, counting}
 use Rattle.weight_tables.specs.Entries.{TableEntry, NoneWaits}
 use Rattle.weight_tables.specs.Tables.{TablesValue}

@@ -1,9 +1,9 @@
 -- The values of queries backwards over a book that several workers close, which began with several patterns.
-use Rattle.std.proofs.Common.{◌≡◌, ◌↔◌, true, ℕ, zero, suc, ◌+◌, ◌<◌, ◌≤◌, List, [], ◌∷◌, ◌++◌, IsTrue, length, refl, sym, ap, ◌∙◌, subst, arith}
-use Rattle.std.specs.Prelude.{All, IsFalse, Some, nat_eq, nat_le, nat_lt, slice_get, slice_index_or}
+use Rattle.std.proofs.Common.{◌≡◌, ◌↔◌, ℕ, zero, suc, ◌+◌, ◌<◌, ◌≤◌, List, [], ◌∷◌, ◌++◌, IsTrue, length, refl, sym, ap, ◌∙◌, subst, arith}
+use Rattle.std.specs.Prelude.{All, Some, nat_eq, slice_get}
 use Rattle.std.specs.List.{AllByRecursion}
 use Rattle.std.proofs.lemmas.List.Elements.{All-from_recursion, recursion_from_All}
-use Rattle.std.proofs.lemmas.Bool.{and_parts, eqb-true, false_from_ne_true, leb-true, ltb-true}
+use Rattle.std.proofs.lemmas.Bool.{and_parts, eqb-true}
 use Rattle.std.proofs.lemmas.Option.{same_Some}
 use Rattle.semiring_laws.specs.Semiring.{Operations, IsSemiring}
 use Rattle.pushdown_rules.specs.Answers.{Answers}
@@ -14,7 +14,7 @@ use Rattle.pattern_openings.specs.JointOpenings.{joint_edges, joint_finals, edge
 use Rattle.pattern_openings.specs.PatternOpenings.{IsOver}
 use Rattle.path_sum.specs.Answers.{AnswersOpening}
 use Rattle.path_sum.specs.Saturated.{IsSaturatedAutomaton}
-use Rattle.path_sum.specs.Values.{with_finals, is_left_out, IsSaturatedTo, IsValueTo, AreValuesTo, StayOut}
+use Rattle.path_sum.specs.Values.{with_finals, IsSaturatedTo, IsValueTo, AreValuesTo}
 use Rattle.prestar.specs.declared.pre.Pre.{Pre}
 use Rattle.weighted_automata.specs.declared.place.Place.{Place}
 use Rattle.weighted_automata.specs.declared.transitions.Entry.{Entry}
@@ -75,16 +75,6 @@ pub moved : {S W Map : Type 0} (P : Pushdown S W Map → Pre → Opening → Lis
     {ts us : List (Entry S W Map)} {ns ms : List Node} → p ≡ q → d ≡ e → o ≡ u → ts ≡ us → ns ≡ ms → P p d o ts ns → P q e u us ms
 moved P {p} {q} {d} {e} {o} {u} {ts} {us} {ns} {ms} ps ds os tss nss at =
     subst (λ x. P x e u us ms) ps (subst (λ x. P p x u us ms) ds (subst (λ x. P p d x us ms) os (subst (λ x. P p d o x ms) tss (subst (P p d o ts) nss at))))
-
--- where the first number is the second nothing is left out
-is_none : (q : ℕ) → IsTrue (is_left_out 0 0 q) → ⊥
-is_none q out = let parts = and_parts (nat_le 0 q) (nat_lt q 0) out in let few = ltb-true q 0 parts.1 in omega (arith, few)
-
-pub all_stay : {S W Map : Type 0} (ts : List (Entry S W Map)) → StayOut 0 0 ts
-all_stay ts t there out = absurd (is_none t.place.from out)
-
-pub all_kept : (sets : List (List ℕ)) → All (All (λ q. IsFalse (is_left_out 0 0 q))) sets
-all_kept sets k d within j e inside = let q = slice_index_or (slice_index_or sets k d) j e in false_from_ne_true (is_left_out 0 0 q) (is_none q)
 
 module _ {S W Map D : Type 0} (operations : S → Operations W Map) (way : Way S W Map D) (p : Pushdown S W Map) (d : D) (o : Opening) (pattern : PatternValue) where
   value_at : (sets : List (List ℕ)) (vs : List W) → AreValuesTo operations way p d o pattern sets vs → (k : ℕ) (v : W) → slice_get vs k ≡ Some v

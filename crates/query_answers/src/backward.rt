@@ -11,9 +11,7 @@ use config_patterns::Pattern;
 use pushdown_rules::System;
 use semiring_laws::Semiring;
 use std::alloc::Global;
-use value_search::{
-    aim, closed_enters_are_sums, closed_pops_are_sums, open, turn, turn_to_target,
-};
+use value_search::{aim, closed_enters_are_sums, closed_pops_are_sums, open, turn, turn_to_target};
 use value_walk::walk;
 use weight_tables::{PlainWeigher, Tables};
 use wpds_base::{Gate, OutOfMemory};
@@ -45,7 +43,7 @@ fn close_to<S: Semiring, G: Gate>(
     to: &Pattern,
     gate: &G,
 ) -> Result<(), OutOfMemory>
-    requires closed { IsClosedOver S.operations tables.old.system tables.old }
+    requires { IsClosedOver S.operations tables.old.system tables.old }
     ensures closed { OnOk result (IsClosedOver S.operations tables.old.system tables.new) }
     ensures enters { let s = S.operations tables.new.system.semiring in
         OnOk result (AreEnterSums s tables.new to.now) }
@@ -68,7 +66,7 @@ fn value_to<S: Semiring, G: Gate>(
     to: &Pattern,
     gate: &G,
 ) -> Result<S::W, OutOfMemory>
-    requires closed { IsClosedOver S.operations tables.old.system tables.old }
+    requires { IsClosedOver S.operations tables.old.system tables.old }
     ensures closed { OnOk result (IsClosedOver S.operations tables.old.system tables.new) }
     ensures answer { let p = tables.old.system in
         IfOk result (IsAnswered (S.operations p.semiring) p from.now to.now) }
@@ -87,7 +85,7 @@ fn values_over<S: Semiring, G: Gate>(
     tos: &[Pattern],
     gate: &G,
 ) -> Result<Vec<S::W>, OutOfMemory>
-    requires closed { IsClosedOver S.operations tables.old.system tables.old }
+    requires { IsClosedOver S.operations tables.old.system tables.old }
     ensures closed { OnOk result (IsClosedOver S.operations tables.old.system tables.new) }
     ensures values { let are = AreAnswered S.operations tables.old.system from.now tos.now in
         IfOk result (λ vs. are vs.items) }

@@ -66,8 +66,6 @@ fn sums<S: Semiring>(
         book.graph(),
         from,
         finals,
-        0,
-        0,
     )
 }
 

@@ -8,7 +8,7 @@ pub values_over-requires : goal.values_over-requires
 values_over-requires g c =
     let is = c.in_ok-tables.ensures.closed in
     let P : Pushdown _ _ _ → Type 0 = λ q. IsClosedOver g.S.Semiring.operations q c.in_ok-tables.tables in
-    subst P (sym is.system) is
+    (c.type_bounds.sync-G, subst P (sym is.system) is)
 
 pub returns-clause-kept : goal.returns-clause-kept
 returns-clause-kept g c =

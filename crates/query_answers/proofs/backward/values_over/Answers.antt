@@ -1,4 +1,4 @@
-use Rattle.std.proofs.Common.{◌+◌, take, sym, subst, arith}
+use Rattle.std.proofs.Common.{◌+◌, [], take, sym, subst, arith}
 use Rattle.std.proofs.lemmas.List.{take_all}
 use Rattle.pushdown_rules.specs.Pushdown.{Pushdown}
 use Rattle.walk_pairs.specs.Answering.{IsAnswered}
@@ -10,7 +10,10 @@ use Rattle.query_answers.proofs.backward.values_over.Goals as goal
 pub value_to-requires : goal.value_to-requires
 value_to-requires g c =
     let P : Pushdown _ _ _ → Type 0 = λ q. IsClosedOver g.S.Semiring.operations q c.loop-to.tables in
-    subst P (sym c.loop-to.invariant.0.system) c.loop-to.invariant.0
+    (c.type_bounds.sync-G, subst P (sym c.loop-to.invariant.0.system) c.loop-to.invariant.0)
+
+pub loop-to-init : goal.loop-to-init
+loop-to-init g c = (c.requires, subst (AreAnswered g.S.Semiring.operations c.args.tables.now.system c.args.from.now []) (sym c.new-values.ensures.items) tt)
 
 pub loop-to-preserved : goal.loop-to-preserved
 loop-to-preserved g c =
@@ -22,11 +25,11 @@ loop-to-preserved g c =
     let v = c.in_ok-value_to.field-0 in
     let same = c.loop-to.invariant.0.system in
     let P : Pushdown _ _ _ → Type 0 = λ q. IsClosedOver operations q c.value_to.new.tables in
-    let A : Pushdown _ _ _ → Type 0 = λ q. IsAnswered (operations q.semiring) q from c.to.now v in
+    let A : Pushdown _ _ _ → Type 0 = λ q. IsAnswered (operations q.semiring) q from c.to-item.result v in
     let one = subst (λ t. IsAnswered (operations p.semiring) p from t v) c.to-item.is (subst A same c.in_ok-value_to.ensures.answer) in (
       subst P same c.in_ok-value_to.ensures.closed,
       subst (AreAnswered operations p from (take (i + 1) tos)) (sym c.in_ok-push.ensures.items)
-      (next_answered operations p from tos i c.to-item.result c.loop-to.values.items v c.loop-to-test.true c.loop-to.invariant.1 one),
+          (next_answered operations p from tos i c.to-item.result c.loop-to.values.items v c.loop-to-test.true c.loop-to.invariant.1 one),
     )
 
 pub returns-clause-values : goal.returns-clause-values

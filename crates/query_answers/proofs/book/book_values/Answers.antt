@@ -1,4 +1,4 @@
-use Rattle.std.proofs.Common.{◌+◌, ◌<◌, take, sym, ◌∙◌, subst, arith}
+use Rattle.std.proofs.Common.{◌+◌, ◌<◌, [], take, sym, ◌∙◌, subst, arith}
 use Rattle.std.proofs.lemmas.List.{take_all}
 use Rattle.pushdown_rules.specs.Pushdown.{Pushdown}
 use Rattle.pattern_openings.specs.PatternOpenings.{IsOver}
@@ -13,7 +13,10 @@ sum_value-requires-clause-pattern g c =
     let p = c.args.system.now in
     let i = c.loop-to.to-index in
     let over = subst (IsOver p.controls p.symbols) (sym c.to-item.is) (c.requires.tos i c.to-item.result c.loop-to-test.true) in
-    subst (λ (q : Pushdown _ _ _). c.to.now.control < q.controls) (sym (c.in_ok-book.ensures.base.system ∙ c.in_ok-opened.ensures.system)) over.control
+    subst (λ (q : Pushdown _ _ _). c.to-item.result.control < q.controls) (sym (c.in_ok-book.ensures.base.system ∙ c.in_ok-opened.ensures.system)) over.control
+
+pub loop-to-init : goal.loop-to-init
+loop-to-init g c = subst (AreAnswered g.S.Semiring.operations c.args.system.now c.args.from.now []) (sym c.new-values.ensures.items) tt
 
 pub loop-to-preserved : goal.loop-to-preserved
 loop-to-preserved g c =
@@ -25,7 +28,7 @@ loop-to-preserved g c =
     let v = c.in_ok-sum_value.field-0 in
     let kept = c.in_ok-book.ensures in
     let begun = c.in_ok-opened.ensures in
-    let is = forward_answered operations c.openings_read_members.ensures p c.in_ok-book.book v c.args.workers from c.to.now c.in_ok-sum_value.ensures c.requires.from.control
+    let is = forward_answered operations c.openings_read_members.ensures p c.in_ok-book.book v c.args.workers from c.to-item.result c.in_ok-sum_value.ensures c.requires.from.control
     (record { system = kept.base.system ∙ begun.system; opening = kept.base.opening ∙ begun.opening; book = kept.book; closed = kept.closed; seats = kept.seats; alone = kept.alone }) in
     let one = subst (λ t. IsAnswered (operations p.semiring) p from t v) c.to-item.is is in
     subst (AreAnswered operations p from (take (i + 1) tos)) (sym c.in_ok-push.ensures.items)

@@ -1,4 +1,4 @@
-use Rattle.std.proofs.Common.{◌+◌, take, sym, ap, ◌∙◌, subst, arith}
+use Rattle.std.proofs.Common.{◌+◌, [], take, sym, ap, ◌∙◌, subst, arith}
 use Rattle.std.proofs.lemmas.List.{take_all}
 use Rattle.pushdown_rules.specs.Pushdown.{Pushdown}
 use Rattle.forward_value_search.specs.Search.{IsFinished}
@@ -10,7 +10,11 @@ use Rattle.query_answers.proofs.FinishedLemmas.{finished_stays}
 use Rattle.query_answers.proofs.forward.forward_values.Goals as goal
 
 pub loop-to-init : goal.loop-to-init
-loop-to-init g c = (c.in_ok-tables.ensures.system, c.in_ok-tables.ensures.finished, tt)
+loop-to-init g c = (
+  c.in_ok-tables.ensures.system,
+  c.in_ok-tables.ensures.finished,
+  subst (AreAnswered g.S.Semiring.operations c.args.system.now c.args.from.now []) (sym c.new-values.ensures.items) tt,
+)
 
 pub walk-requires : goal.walk-requires
 walk-requires g c =
@@ -27,12 +31,12 @@ loop-to-preserved g c =
     let v = c.in_ok-walk.field-0 in
     let same = c.loop-to.invariant.0 in
     let walked = c.in_ok-walk.ensures.others in
-    let A : Pushdown _ _ _ → Type 0 = λ q. IsAnswered (operations q.semiring) q from c.to.now v in
+    let A : Pushdown _ _ _ → Type 0 = λ q. IsAnswered (operations q.semiring) q from c.to-item.result v in
     let one = subst (λ t. IsAnswered (operations p.semiring) p from t v) c.to-item.is (subst A same c.in_ok-walk.ensures.answer) in (
       ap (λ (u : TablesValue _ _ _). u.system) walked ∙ same,
       finished_stays operations p from c.loop-to.tables c.walk.new.tables walked c.loop-to.invariant.1,
       subst (AreAnswered operations p from (take (i + 1) tos)) (sym c.in_ok-push.ensures.items)
-      (next_answered operations p from tos i c.to-item.result c.loop-to.values.items v c.loop-to-test.true c.loop-to.invariant.2 one),
+          (next_answered operations p from tos i c.to-item.result c.loop-to.values.items v c.loop-to-test.true c.loop-to.invariant.2 one),
     )
 
 pub returns : goal.returns

@@ -1,9 +1,9 @@
 use Rattle.std.proofs.Common.{sym}
 use Rattle.std.specs.Prelude.{slice_index_or}
 use Rattle.path_sum.specs.Saturated.{IsSaturatedAutomaton}
-use Rattle.path_sum.specs.Values.{IsSaturatedTo, AreValuesTo}
+use Rattle.path_sum.specs.Values.{IsSaturatedTo}
 use Rattle.prestar_laws.specs.Ways.{pre_way}
-use Rattle.query_answers.proofs.JointLemmas.{all_kept, all_stay, book_saturated, book_saturated_to, moved}
+use Rattle.query_answers.proofs.JointLemmas.{book_saturated, book_saturated_to, moved}
 use Rattle.query_answers.proofs.joint.sums.Goals as goal
 
 pub sum_values-requires-clause-automaton : goal.sum_values-requires-clause-automaton
@@ -20,9 +20,3 @@ sum_values-requires-clause-each g c = λ k d within.
     moved (λ p w o ts ns. IsSaturatedTo operations (pre_way operations) p w o ts ns finals) (sym c.system-system.ensures.value) (sym c.direction-direction.ensures)
     (sym c.opening-opening.ensures) (sym c.transitions-transitions.ensures) (sym c.graph.ensures.nodes)
     (book_saturated_to operations g.S.Semiring.laws c.args.book.now c.system-system.ensures.book c.requires.closed finals)
-
-pub sum_values-requires-clause-apart : goal.sum_values-requires-clause-apart
-sum_values-requires-clause-apart g c = all_stay c.transitions-transitions.result.now.transitions
-
-pub sum_values-requires-clause-kept : goal.sum_values-requires-clause-kept
-sum_values-requires-clause-kept g c = all_kept c.args.finals.now

@@ -1,4 +1,4 @@
-use Rattle.std.proofs.Common.{◌∷◌, [], length, refl, ap, ◌∙◌, subst}
+use Rattle.std.proofs.Common.{refl, ap, subst}
 use Rattle.std.specs.Prelude.{slice_get}
 use Rattle.query_answers.specs.Answering.{AreValues}
 use Rattle.query_answers.specs.Values.{ValuesOf}
