@@ -83,23 +83,6 @@ module _ {S W Map : Type 0} (operations : S → Operations W Map) (p : Pushdown 
           subst P from met;
     }
 
-  -- which rule a callee's number is that of
-  pub first_onto_end : (to a : ℕ) → number_of items p (callee to a) ≡ Some x.to → (index_where (goes_onto to a) p.rules ≡ Some (x.to - items - 1)) × (x.to - items - 1 < length p.rules)
-  first_onto_end to a number =
-      let is = callee_is items p to a x.to number in
-      let at = is.number in
-      let k : is.k ≡ x.to - items - 1 = omega (arith, at) in
-      let low = slice_get_within p.rules is.k is.rule is.there in
-      (is.first_at ∙ ap Some k, omega (arith, k, low))
-
-  pub first_rule_onto : (to a : ℕ) → number_of items p (callee to a) ≡ Some x.to → (r : Rule S W Map) → slice_get p.rules (x.to - items - 1) ≡ Some r → (r.to ≡ to) × (first_of r.right ≡ Some a)
-  first_rule_onto to a number r there =
-      let is = callee_is items p to a x.to number in
-      let at = is.number in
-      let k : is.k ≡ x.to - items - 1 = omega (arith, at) in
-      let same : is.rule ≡ r = same_Some is.rule r (sym is.there ∙ ap (slice_get p.rules) k ∙ there) in
-      (ap (λ (q : Rule S W Map). q.to) (sym same) ∙ is.into, ap (λ (q : Rule S W Map). first_of q.right) (sym same) ∙ is.first)
-
 module _ {S W Map : Type 0} {operations : S → Operations W Map} {p : Pushdown S W Map} (valid : IsSystem operations p) (laws : IsSemiring (operations p.semiring)) (first : PatternValue) where
   pub returned_later : (v new : TablesValue S W Map) → IsReady operations p first v → IsOnward operations p first v new → (k : ℕ) (x : Place) → HasReturned operations p first v k x → HasReturned operations p first new k x
   returned_later v new ready onward k x met r there a b right n = met_later valid laws first k r there a b right v new ready onward (head_at r n) x (met r there a b right n)

@@ -15,3 +15,4 @@ mod StepLemmas
 mod SearchLemmas
 mod ItemLemmas
 mod WordLemmas
+pub mod CallerLemmas

@@ -1,5 +1,5 @@
 -- The numbers of sources: each is of one source, and a callee that a rule calls has one.
-use Rattle.std.proofs.Common.{◌≡◌, ℕ, zero, suc, ◌+◌, ◌≤◌, ◌<◌, Bool, true, false, List, [], ◌∷◌, length, refl, sym, ap, ap₂, ◌∙◌, arith}
+use Rattle.std.proofs.Common.{◌≡◌, ℕ, zero, suc, ◌+◌, ◌-◌, ◌≤◌, ◌<◌, Bool, true, false, List, [], ◌∷◌, length, refl, sym, ap, ap₂, ◌∙◌, subst, arith}
 use Rattle.std.specs.Prelude.{Option, None, Some, option_map, slice_get, nat_le, nat_eq, if◌then◌else◌}
 use Rattle.std.proofs.lemmas.Bool.{cond-true, cond_both, and_parts, and_from, eqb-true, eq-eqb, leb-true, le-leb}
 use Rattle.std.proofs.lemmas.Option.{same_Some, slice_get_within}
@@ -10,6 +10,14 @@ use Rattle.pushdown_rules.specs.Rows.{goes_onto, first_of, is_symbol}
 use Rattle.pushdown_rules.proofs.CallerLemmas.{index_found, index_from_start, IsFound}
 use Rattle.forward_value_laws.specs.Model.{Source, item, callee}
 use Rattle.forward_value_search.specs.Places.{number_of}
+
+abbrev to_of : Source → ℕ
+to_of (item i) = 0
+to_of (callee to g) = to
+
+abbrev top_of : Source → ℕ
+top_of (item i) = 0
+top_of (callee to g) = g
 
 first_is : (word : List ℕ) (g : ℕ) → is_symbol g (first_of word) ≡ true → first_of word ≡ Some g
 first_is [] g h = cc
@@ -64,6 +72,33 @@ module _ {S W Map : Type 0} (items : ℕ) (p : Pushdown S W Map) where
   pub callee_is : (to g n : ℕ) → number_of items p (callee to g) ≡ Some n → CalleeIs to g n
   callee_is to g n e = callee_by to g n (index_where (goes_onto to g) p.rules) refl e
 
+  -- which rule the number of a callee is that of
+  module _ (to g n : ℕ) (number : number_of items p (callee to g) ≡ Some n) where
+    pub callee_behind : items < n
+    callee_behind = let at = (callee_is to g n number).number in omega (arith, at)
+
+    pub callee_first : index_where (goes_onto to g) p.rules ≡ Some (n - items - 1)
+    callee_first =
+        let is = callee_is to g n number in
+        let at = is.number in
+        let k : is.k ≡ n - items - 1 = omega (arith, at) in
+        is.first_at ∙ ap Some k
+
+    pub callee_within : n - items - 1 < length p.rules
+    callee_within =
+        let is = callee_is to g n number in
+        let at = is.number in
+        let low = slice_get_within p.rules is.k is.rule is.there in
+        omega (arith, at, low)
+
+    pub callee_rule : (r : Rule S W Map) → slice_get p.rules (n - items - 1) ≡ Some r → (r.to ≡ to) × (first_of r.right ≡ Some g)
+    callee_rule r there =
+        let is = callee_is to g n number in
+        let at = is.number in
+        let k : is.k ≡ n - items - 1 = omega (arith, at) in
+        let same : is.rule ≡ r = same_Some is.rule r (sym is.there ∙ ap (slice_get p.rules) k ∙ there) in
+        (ap (λ (q : Rule S W Map). q.to) (sym same) ∙ is.into, ap (λ (q : Rule S W Map). first_of q.right) (sym same) ∙ is.first)
+
   -- a number is of one source
   pub one_source : (a b : Source) (n : ℕ) → number_of items p a ≡ Some n → number_of items p b ≡ Some n → a ≡ b
   one_source (item i) (item j) n e f =
@@ -98,6 +133,15 @@ module _ {S W Map : Type 0} (items : ℕ) (p : Pushdown S W Map) where
   -- the rule of a number goes onto what it calls
   pub onto_itself : (r : Rule S W Map) (g : ℕ) (rest : List ℕ) → r.right ≡ g ∷ rest → goes_onto r.to g r ≡ true
   onto_itself r g rest right = and_from (nat_eq r.to r.to) (is_symbol g (first_of r.right)) (eq-eqb r.to r.to refl) (ap (λ w. is_symbol g (first_of w)) right ∙ eq-eqb g g refl)
+
+  -- a rule that calls the callee of a number goes onto it
+  pub goes_there : (to top n : ℕ) → number_of items p (callee to top) ≡ Some n → (r : Rule S W Map) (g : ℕ) (rest : List ℕ) → r.right ≡ g ∷ rest → number_of items p (callee r.to g) ≡ Some n
+      → goes_onto to top r ≡ true
+  goes_there to top n number r g rest right entered =
+      let same : callee r.to g ≡ callee to top = one_source (callee r.to g) (callee to top) n entered number in
+      let P : ℕ → Type 0 = λ a. goes_onto a top r ≡ true in
+      let Q : ℕ → Type 0 = λ b. goes_onto r.to b r ≡ true in
+      subst P (ap to_of same) (subst Q (ap top_of same) (onto_itself r g rest right))
 
   -- a callee that a rule calls has a number
   pub callee_number : (k : ℕ) (r : Rule S W Map) → slice_get p.rules k ≡ Some r → (g : ℕ) (rest : List ℕ) → r.right ≡ g ∷ rest → (n : ℕ) × (number_of items p (callee r.to g) ≡ Some n)

@@ -7,6 +7,7 @@ ghost use Rattle.key_rows.specs.Rows.{index_where};
 ghost use Rattle.forward_value_search.specs.Settled.{head_at};
 ghost use Rattle.forward_value_search.specs.Search.{StandsAt, IsReady, IsOnward, IsReturn, HoldsReturn, HasMet, HasReturned, HasGivenAll, Enters};
 
+use crate::callees::callee_at;
 use crate::give::give_after;
 use config_patterns::Pattern;
 use pushdown_rules::System;
@@ -164,22 +165,10 @@ pub(crate) fn end_callee<S: Semiring, M: Weigher<S>>(
         (HasGivenAll S.operations system.now first.now tables.new end) }
 {
     let _semiring = system.semiring();
-    let number = end.to - first.items() - 1;
-    if number >= system.rules() {
-        return Ok(());
-    }
-    let rule = system.rule(number);
-    let [top, ..] = rule.right.as_slice() else {
+    let Some(callee) = callee_at(system, first.items(), end.to) else {
         return Ok(());
     };
-    let (to, top) = (rule.to, *top);
-    let onto = system.first_onto(to, top);
-    let Some(k) = onto else {
-        return Ok(());
-    };
-    if k == number {
-        meet_onto(system, first, tables, to, top, number, t, end)?;
-        return Ok(());
-    }
+    let (to, top, rule) = (callee.to, callee.top, callee.rule);
+    meet_onto(system, first, tables, to, top, rule, t, end)?;
     Ok(())
 }

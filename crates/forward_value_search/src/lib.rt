@@ -3,6 +3,7 @@
 //! Schwoon, Jha, Melski 2005).
 #![tactic(auto)]
 
+mod callees;
 mod ends;
 mod fire;
 mod give;
@@ -14,4 +15,5 @@ mod take;
 #[cfg(test)]
 mod tries;
 
-pub use search::ForwardSearch;
+pub use callees::{Callee, callee_at};
+pub use search::{close, open, turn};

@@ -1,4 +1,4 @@
-ghost use Rattle.std.specs.Prelude.{◌≡◌, ◌<◌, ℕ, true, false, IfOk, OnOk};
+ghost use Rattle.std.specs.Prelude.{◌≡◌, ◌<◌, true, false, IfOk, OnOk};
 ghost use Rattle.weight_tables.specs.Turns.{turns_left};
 ghost use Rattle.forward_value_search.specs.Search.{IsSearch, IsFinished};
 
@@ -9,79 +9,74 @@ use weight_tables::{Layer, Tables, Weigher};
 use weighted_automata::{Label, Place};
 use wpds_base::OutOfMemory;
 
-/// A search from one pattern, and the tables whose base has what it found: by control, by the symbol on top or nothing, and by the
-/// number of a source. The number of an item of the pattern is its own, from 0; that of a callee is behind them, by the
-/// first rule that goes onto what it begins with.
-#[derive(Drop)]
-pub struct ForwardSearch<'s, S: Semiring, M: Weigher<S>> {
-    pub first: Pattern,
-    pub tables: Tables<'s, S, M>,
+/// Begins a search from a pattern: what the base of the tables had goes, and is what the search finds from now on: by control, by the
+/// symbol on top or nothing, and by the number of a source. The number of an item of the pattern is its own, from 0; that
+/// of a callee is behind them, by the first rule that goes onto what it begins with. One entry waits, from which all others
+/// come: the pattern's control over nothing, of which nothing has been read. Out of memory is its only error.
+pub fn open<'s, S: Semiring, M: Weigher<S>>(
+    tables: &mut Tables<'s, S, M>,
+    first: &Pattern,
+) -> Result<(), OutOfMemory>
+    ensures system { OnOk result (tables.new.system ≡ tables.old.system) }
+    ensures target { OnOk result (tables.new.target ≡ tables.old.target) }
+    ensures walk { OnOk result (tables.new.walk ≡ tables.old.walk) }
+    ensures search { OnOk result
+        (IsSearch S.operations tables.old.system first.now tables.new) }
+{
+    tables.renew(Layer::Base);
+    tables.hold_one()?;
+    let place = Place {
+        from: first.control(),
+        label: Label::Empty,
+        to: 0,
+    };
+    tables.lower(Layer::Base, place)?;
+    tables.valid();
+    Ok(())
 }
 
-impl<'s, S: Semiring, M: Weigher<S>> ForwardSearch<'s, S, M> {
-    /// Begins: what the base of the tables had goes. One entry waits, from which all others come: the pattern's control over
-    /// nothing, of which nothing has been read. Out of memory is its only error.
-    pub fn open(
-        first: Pattern,
-        mut tables: Tables<'s, S, M>,
-    ) -> Result<ForwardSearch<'s, S, M>, OutOfMemory>
-        ensures first { IfOk result (λ f. f.first ≡ first) }
-        ensures system { IfOk result (λ f. f.tables.system ≡ tables.entry.system) }
-        ensures others { IfOk result (λ f. (f.tables.target ≡ tables.entry.target)
-            × (f.tables.walk ≡ tables.entry.walk)) }
-        ensures search { IfOk result (λ f. IsSearch S.operations f.tables.system f.first f.tables) }
-    {
-        tables.renew(Layer::Base);
-        tables.hold_one()?;
-        let place = Place {
-            from: first.control(),
-            label: Label::Empty,
-            to: 0,
-        };
-        tables.lower(Layer::Base, place)?;
-        tables.valid();
-        Ok(ForwardSearch { first, tables })
-    }
+/// Takes an entry that waits, which gives all that it makes; whether there was one. If not, the search is done. After out of
+/// memory an entry may have given a part of it, and the search is to be let go.
+pub fn turn<'s, S: Semiring, M: Weigher<S>>(
+    tables: &mut Tables<'s, S, M>,
+    first: &Pattern,
+) -> Result<bool, OutOfMemory>
+    requires { IsSearch S.operations tables.old.system first.now tables.old }
+    ensures system { OnOk result (tables.new.system ≡ tables.old.system) }
+    ensures target { OnOk result (tables.new.target ≡ tables.old.target) }
+    ensures walk { OnOk result (tables.new.walk ≡ tables.old.walk) }
+    ensures search { OnOk result
+        (IsSearch S.operations tables.old.system first.now tables.new) }
+    ensures fewer { let s = S.operations tables.old.system.semiring in IfOk result (λ some.
+        some ≡ true → turns_left s tables.new.base < turns_left s tables.old.base) }
+    ensures done { IfOk result (λ some. some ≡ false →
+        IsFinished S.operations tables.old.system first.now tables.new) }
+{
+    let system = tables.system();
+    let Some(t) = tables.pop(Layer::Base) else {
+        return Ok(false);
+    };
+    tables.valid();
+    take(system, first, tables, t)?;
+    Ok(true)
+}
 
-    /// Takes an entry that waits, which gives all that it makes; whether there was one. If not, the search is done. After out
-    /// of memory an entry may have given a part of it, and the search is to be let go.
-    pub fn turn(&mut self) -> Result<bool, OutOfMemory>
-        requires { IsSearch S.operations self.old.tables.system self.old.first self.old.tables }
-        ensures first { self.new.first ≡ self.old.first }
-        ensures system { OnOk result (self.new.tables.system ≡ self.old.tables.system) }
-        ensures others { OnOk result ((self.new.tables.target ≡ self.old.tables.target)
-            × (self.new.tables.walk ≡ self.old.tables.walk)) }
-        ensures search { OnOk result
-            (IsSearch S.operations self.old.tables.system self.old.first self.new.tables) }
-        ensures fewer { let s = S.operations self.old.tables.system.semiring in
-            IfOk result (λ some. some ≡ true →
-            turns_left s self.new.tables.base < turns_left s self.old.tables.base) }
-        ensures done { IfOk result (λ some. some ≡ false →
-            IsFinished S.operations self.old.tables.system self.old.first self.new.tables) }
-    {
-        let system = self.tables.system();
-        let Some(t) = self.tables.pop(Layer::Base) else {
-            return Ok(false);
-        };
-        self.tables.valid();
-        take(system, &self.first, &mut self.tables, t)?;
-        Ok(true)
-    }
-
-    /// Takes entries until none waits. After out of memory the search is to be let go.
-    pub fn close(&mut self) -> Result<(), OutOfMemory>
-        requires { IsSearch S.operations self.old.tables.system self.old.first self.old.tables }
-        ensures first { self.new.first ≡ self.old.first }
-        ensures system { OnOk result (self.new.tables.system ≡ self.old.tables.system) }
-        ensures others { OnOk result ((self.new.tables.target ≡ self.old.tables.target)
-            × (self.new.tables.walk ≡ self.old.tables.walk)) }
-        ensures done { OnOk result
-            (IsFinished S.operations self.old.tables.system self.old.first self.new.tables) }
-    {
-        'turns: loop {
-            if !self.turn()? {
-                return Ok(());
-            }
+/// Takes entries until none waits. A caller that has more to do between turns loops over `turn` itself. After out of memory the
+/// search is to be let go.
+pub fn close<'s, S: Semiring, M: Weigher<S>>(
+    tables: &mut Tables<'s, S, M>,
+    first: &Pattern,
+) -> Result<(), OutOfMemory>
+    requires { IsSearch S.operations tables.old.system first.now tables.old }
+    ensures system { OnOk result (tables.new.system ≡ tables.old.system) }
+    ensures target { OnOk result (tables.new.target ≡ tables.old.target) }
+    ensures walk { OnOk result (tables.new.walk ≡ tables.old.walk) }
+    ensures done { OnOk result
+        (IsFinished S.operations tables.old.system first.now tables.new) }
+{
+    'turns: loop {
+        if !turn(tables, first)? {
+            return Ok(());
         }
     }
 }

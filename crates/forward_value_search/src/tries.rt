@@ -1,4 +1,4 @@
-use crate::ForwardSearch;
+use crate::{close, open};
 use config_patterns::Pattern;
 use pushdown_rules::System;
 use semiring_laws::Reach;
@@ -7,7 +7,7 @@ use std::test::Fail;
 use weight_tables::{Layer, PlainWeigher, Tables};
 use weighted_automata::{Label, Place};
 
-type Search<'s> = ForwardSearch<'s, Reach, PlainWeigher<'s, Reach>>;
+type Reached<'s> = Tables<'s, Reach, PlainWeigher<'s, Reach>>;
 
 // 0 over 0 calls 1 above 2; 1 goes from control 0 to 1, and is popped there; 2 is popped at control 1 into 2.
 fn calls(alloc: Global) -> Result<System<Reach>, Fail> {
@@ -20,17 +20,17 @@ fn calls(alloc: Global) -> Result<System<Reach>, Fail> {
 }
 
 // From the one stack of 0 alone at control 0: the source of number 1 is that stack, and 2 the callee.
-fn closed(alloc: Global, system: &System<Reach>) -> Result<Search<'_>, Fail> {
+fn closed(alloc: Global, system: &System<Reach>) -> Result<Reached<'_>, Fail> {
     let mut first = Pattern::new(alloc, 0, 3);
     first.add_item(alloc, &[0], false)?;
-    let tables = Tables::new(alloc, system, PlainWeigher::new(alloc, system));
-    let mut search = ForwardSearch::open(first, tables)?;
-    search.close()?;
-    Ok(search)
+    let mut tables = Tables::new(alloc, system, PlainWeigher::new(alloc, system));
+    open(&mut tables, &first)?;
+    close(&mut tables, &first)?;
+    Ok(tables)
 }
 
-fn reaches(search: &Search<'_>, from: u32, label: Label, to: u32) -> Result<bool, Fail> {
-    let reached = search.tables.value(Layer::Base, Place { from, label, to })?;
+fn reaches(tables: &Reached<'_>, from: u32, label: Label, to: u32) -> Result<bool, Fail> {
+    let reached = tables.value(Layer::Base, Place { from, label, to })?;
     Ok(reached)
 }
 
@@ -38,12 +38,12 @@ fn reaches(search: &Search<'_>, from: u32, label: Label, to: u32) -> Result<bool
 fn a_call_returns(rt: HostRuntime) -> Result<(), Fail> {
     let alloc = rt.alloc();
     let system = calls(alloc)?;
-    let search = closed(alloc, &system)?;
-    assert!(rt; reaches(&search, 0, Label::Symbol(1), 2)?);
-    assert!(rt; reaches(&search, 1, Label::Empty, 2)?);
-    assert!(rt; reaches(&search, 1, Label::Symbol(2), 1)?);
-    assert!(rt; reaches(&search, 2, Label::Empty, 1)?);
-    assert!(rt; !reaches(&search, 2, Label::Empty, 2)?);
-    assert_eq!(rt; search.tables.len(Layer::Base), 7);
+    let tables = closed(alloc, &system)?;
+    assert!(rt; reaches(&tables, 0, Label::Symbol(1), 2)?);
+    assert!(rt; reaches(&tables, 1, Label::Empty, 2)?);
+    assert!(rt; reaches(&tables, 1, Label::Symbol(2), 1)?);
+    assert!(rt; reaches(&tables, 2, Label::Empty, 1)?);
+    assert!(rt; !reaches(&tables, 2, Label::Empty, 2)?);
+    assert_eq!(rt; tables.len(Layer::Base), 7);
     Ok(())
 }

@@ -1,4 +1,9 @@
 mod DoneLemmas
 mod SettleLemmas
 mod OpeningLemmas
-mod CallLemmas
+mod MadeLemmas
+mod GoingLemmas
+mod LoopLemmas
+mod GivenLemmas
+mod BeginLemmas
+mod TurnLemmas

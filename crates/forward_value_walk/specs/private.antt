@@ -1,2 +1,3 @@
 -- What private functions promise.
 pub mod Opening
+pub mod Going

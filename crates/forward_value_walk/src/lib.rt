@@ -2,8 +2,12 @@
 //! of what lies below begin.
 #![tactic(auto)]
 
+mod beginning;
+mod calls;
+mod giving;
 mod laws;
 mod opening;
+mod turns;
 
-pub use opening::open_rule;
 pub use laws::{open_calls_make_sums, settled_pairs_answer, settled_pairs_stay_settled};
+pub use turns::walk;

@@ -65,7 +65,7 @@ fn open_way<'s, S: Semiring, M: Weigher<S>>(
 }
 
 /// A call by a rule that stays open: it lies above what an entry of the walk reads.
-pub fn open_rule<'s, S: Semiring, M: Weigher<S>>(
+pub(crate) fn open_rule<'s, S: Semiring, M: Weigher<S>>(
     tables: &mut Tables<'s, S, M>,
     first: &Pattern,
     wanted: &Pattern,

@@ -8,4 +8,3 @@ mod CalleeLemmas
 mod EdgeLemmas
 mod TakeLemmas
 mod OpeningLemmas
-mod BoundLemmas

@@ -1,13 +1,12 @@
-ghost use Rattle.std.specs.Prelude.{◌≡◌, ◌≤◌, ◌+◌, ◌*◌, ◌^◌, ℕ, List};
+ghost use Rattle.std.specs.Prelude.{◌≡◌, ℕ};
 ghost use Rattle.semiring_laws.specs.Semiring.{Operations};
 ghost use Rattle.pushdown_rules.specs.Pushdown.{Pushdown, IsSystem};
 ghost use Rattle.pushdown_rules.specs.Values.{value_of};
 ghost use Rattle.config_patterns.specs.Membership.{PatternValue};
 ghost use Rattle.config_patterns.specs.Edges.{edges_of};
 ghost use Rattle.value_laws.specs.Runs.{Pops, Enters, IsSum};
-ghost use Rattle.weight_tables.specs.Entries.{TableEntry, IsTable, NoneWaits};
+ghost use Rattle.weight_tables.specs.Entries.{NoneWaits};
 ghost use Rattle.weight_tables.specs.Tables.{TablesValue, AreTables};
-ghost use Rattle.weight_tables.specs.Turns.{turns_left};
 ghost use Rattle.value_search.specs.Views.{weights};
 ghost use Rattle.value_search.specs.Finds.{FindsPops, FindsEnters};
 
@@ -30,10 +29,4 @@ pub fn closed_enters_are_sums<S: Semiring>()
         (from g to : ℕ) → IsSum s (value_of s p)
         (Enters p target.control (edges_of target.items) from g to)
         (weights s v.target from g to) }
-{}
-
-/// The turns of a search are bounded by the rank of zero: each turn lowers `turns_left`, which is never more than this.
-pub fn turns_are_bounded<S: Semiring>()
-    ensures { (x : S) → let s = S.operations x in (es : List (TableEntry S.W)) →
-        IsTable s es → turns_left s es ≤ 2 ^ 32 * (2 * s.top_rank + 1) }
 {}

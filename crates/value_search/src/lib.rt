@@ -12,7 +12,7 @@ mod opening;
 mod search;
 mod take;
 
-pub use laws::{closed_enters_are_sums, closed_pops_are_sums, turns_are_bounded};
+pub use laws::{closed_enters_are_sums, closed_pops_are_sums};
 pub use opening::{aim, open};
 pub use search::{close, close_to_target, turn, turn_to_target};
 

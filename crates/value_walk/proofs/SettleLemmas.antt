@@ -15,21 +15,11 @@ use Rattle.walk_pairs.specs.declared.pairs.Stage.{Stage}
 use Rattle.walk_pairs.specs.declared.pairs.Stage.TheVariants.{Down, Across}
 use Rattle.walk_pairs.specs.Pairs.{pair_place, answer_place}
 use Rattle.walk_pairs.specs.Lowerings.{AreLowered}
-use Rattle.walk_pairs.proofs.CallerLemmas.{AllFit, lowered_all_fit, lowered_falls, lowered_counts}
+use Rattle.walk_pairs.proofs.CallerLemmas.{AllFit, pair_parts, pair_apart, lowered_all_fit, lowered_falls, lowered_counts}
 use Rattle.value_laws.specs.Settled.{Table, AreWeights}
 use Rattle.value_laws.specs.Walk.{Pairs, IsWalkSettled, ArePairsFurther, IsDownMet, IsAcrossMet, without_pair}
 use Rattle.value_laws.proofs.CallerLemmas.{walk_kept, down_done, across_done}
 use Rattle.value_walk.specs.private.Walking.{down_in, across_in, answer_in, settled_down, settled_across}
-
-symbol_is : (a b : ℕ) → Symbol a ≡ Symbol b → a ≡ b
-symbol_is a b e = cc
-
--- two pairs of one stage are one where their parts are
-pub pair_parts : (stage : Stage) (i x j y : ℕ) → pair_place stage i x ≡ pair_place stage j y → (i ≡ j) × (x ≡ y)
-pair_parts stage i x j y e = (symbol_is i j (ap (λ (p : Place). p.label) e), ap (λ (p : Place). p.to) e)
-
-pub pair_apart : (i x j y : ℕ) → pair_place Down i x ≡ pair_place Across j y → ⊥
-pair_apart i x j y e = let f : 0 ≡ 1 = ap (λ (p : Place). p.from) e in omega (arith, f)
 
 module _ {W Map : Type 0} {s : Operations W Map} (laws : IsSemiring s) where
   settled_fits : (es : List (TableEntry W)) → AllFit s es → (x : Place) → Fits s (settled_in s es x)

@@ -21,7 +21,8 @@ use Rattle.walk_pairs.specs.Lowerings.{AreLowered, ArePairsLowered}
 use Rattle.walk_pairs.proofs.CallerLemmas.{AllFit, none_pairs, one_lowered, lowered_all_fit, lowered_counts, lowered_holds, lowered_all_turns, one_below}
 use Rattle.value_laws.specs.Settled.{AreWeights}
 use Rattle.value_laws.proofs.CallerLemmas.{answer_below, sum_answers}
-use Rattle.value_walk.specs.Answering.{pops_in, enters_in, ArePopSums, AreEnterSums, IsAnswered, IsWalkedOver}
+use Rattle.walk_pairs.specs.Answering.{IsAnswered, IsWalkedOver}
+use Rattle.value_walk.specs.Answering.{pops_in, enters_in, ArePopSums, AreEnterSums}
 use Rattle.value_walk.specs.private.Walking.{IsMade, IsWalking, IsGivenDown, IsGivenAcross, IsPlaceGiven, down_in, across_in, answer_in}
 use Rattle.value_walk.proofs.GivenLemmas.{down_fits, across_fits}
 use Rattle.value_walk.proofs.MadeLemmas.{made_none, made_joins, made_first, at_place, down_made, across_made}

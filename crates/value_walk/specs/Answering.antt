@@ -1,13 +1,10 @@
--- What tables say that a walk goes over, and what it finds.
-use Rattle.std.specs.Prelude.{◌≡◌, ℕ, List}
+-- What tables say that a walk goes over.
+use Rattle.std.specs.Prelude.{◌≡◌, ℕ}
 use Rattle.semiring_laws.specs.Semiring.{Operations}
-use Rattle.pushdown_rules.specs.Pushdown.{Pushdown}
-use Rattle.pushdown_rules.specs.Answers.{Answers}
 use Rattle.config_patterns.specs.Edges.{edges_of}
-use Rattle.config_patterns.specs.Membership.{PatternValue, has_member}
+use Rattle.config_patterns.specs.Membership.{PatternValue}
 use Rattle.weight_tables.specs.Entries.{weight_in}
-use Rattle.weight_tables.specs.Tables.{TablesValue, with_entries, with_hand}
-use Rattle.weight_tables.specs.declared.layer.Layer.TheVariants.{Walk}
+use Rattle.weight_tables.specs.Tables.{TablesValue}
 use Rattle.walk_pairs.specs.Pairs.{place_over}
 use Rattle.value_laws.specs.Runs.{Pops, Enters, IsSum}
 use Rattle.value_laws.specs.Settled.{Table}
@@ -28,11 +25,3 @@ module _ {S W Map : Type 0} (s : Operations W Map) (v : TablesValue S W Map) whe
   -- and each to the target
   abbrev pub AreEnterSums : PatternValue → Type 0
   AreEnterSums to = (from g state : ℕ) → IsSum s (value_of s v.system) (Enters v.system to.control (edges_of to.items) from g state) (enters_in from g state)
-
--- the weight answers the query for runs from one pattern to the other: some list of runs shows it
-abbrev pub IsAnswered : {S W Map : Type 0} → Operations W Map → Pushdown S W Map → PatternValue → PatternValue → W → Type 0
-IsAnswered s p from to w = (runs : List (List ℕ)) × Answers s p (has_member from) (has_member to) w runs
-
--- nothing but the pairs of the walk and the hand is other than it was
-abbrev pub IsWalkedOver : {S W Map : Type 0} → TablesValue S W Map → TablesValue S W Map → Type 0
-IsWalkedOver old new = new ≡ with_hand new.hand (with_entries Walk new.walk old)

@@ -1,7 +1,8 @@
 ghost use Rattle.std.specs.Prelude.{◌≡◌, ◌<◌, true, false, OnOk, IfOk};
 ghost use Rattle.weight_tables.specs.Entries.{NoneWaits};
 ghost use Rattle.weight_tables.specs.Turns.{turns_left};
-ghost use Rattle.value_walk.specs.Answering.{ArePopSums, AreEnterSums, IsAnswered, IsWalkedOver};
+ghost use Rattle.walk_pairs.specs.Answering.{IsAnswered, IsWalkedOver};
+ghost use Rattle.value_walk.specs.Answering.{ArePopSums, AreEnterSums};
 ghost use Rattle.value_walk.specs.private.Walking.{IsWalking};
 
 use crate::giving::give;

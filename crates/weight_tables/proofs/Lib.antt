@@ -8,4 +8,5 @@ mod ValueLemmas
 mod LayerLemmas
 mod ListLemmas
 mod IndexLemmas
+mod BoundLemmas
 pub mod CallerLemmas

@@ -15,7 +15,7 @@ mod tables;
 mod tests;
 mod weigher;
 
-pub use laws::turns_fall;
+pub use laws::{turns_are_bounded, turns_fall};
 pub use layer::Layer;
 pub use plain::PlainWeigher;
 pub use tables::Tables;

@@ -9,11 +9,11 @@ use Rattle.config_patterns.specs.Membership.{PatternValue}
 use Rattle.weighted_automata.specs.declared.place.Label.TheVariants.{Symbol}
 use Rattle.weighted_automata.specs.declared.place.Place.{Place}
 use Rattle.weight_tables.specs.Entries.{TableEntry, weight_in, settled_in}
-use Rattle.weight_tables.specs.Tables.{TablesValue, with_entries, with_hand}
-use Rattle.weight_tables.specs.declared.layer.Layer.TheVariants.{Walk}
+use Rattle.weight_tables.specs.Tables.{TablesValue}
 use Rattle.walk_pairs.specs.declared.pairs.Stage.TheVariants.{Down}
 use Rattle.walk_pairs.specs.Pairs.{pair_place, place_over}
 use Rattle.walk_pairs.specs.Lowerings.{AreLowered, ArePairsLowered}
+use Rattle.walk_pairs.specs.Answering.{IsWalkedOver}
 use Rattle.walk_pairs.specs.Ways.{TakesAt}
 use Rattle.forward_value_laws.specs.Model.{callee}
 use Rattle.forward_value_walk.specs.Walking.{number, IsMade}
@@ -66,11 +66,13 @@ module _ {S W Map : Type 0} (s : Operations W Map) (first wanted : PatternValue)
     pub made : IsMade s v.system first wanted (pair_place Down state source) worth
     pub weight : w ≡ s.extend (weight_in s v.base (place_over rule.control rule.symbol from)) (s.extend rule.weight worth)
 
-  -- Only such pairs were lowered, and each is, by what counts of the pair below; the hand may be another.
+  -- what a call by the rule asks of pairs is there, by what counts of the pair below
+  abbrev pub IsCallMet : TablesValue S W Map → List (TableEntry W) → Rule S W Map → Type 0
+  IsCallMet v now r = (g h : ℕ) → r.right ≡ g ∷ h ∷ [] → (j : ℕ) → IsIn (record { from = state; symbol = h; to = j }) (edges_of wanted.items) → (n : ℕ)
+      → Below s (weight_in s now (pair_place Down j n)) (s.extend (weight_in s v.base (place_over r.control r.symbol n)) (s.extend r.weight (settled_in s now (pair_place Down state source))))
+
+  -- Only such pairs were lowered, and each is; the hand may be another.
   pub record AreRuleCallsGiven (v new : TablesValue S W Map) : Type 0 where
     pub lowered : AreLowered s (IsCall v) v.walk new.walk
-    pub others : new ≡ with_hand new.hand (with_entries Walk new.walk v)
-    pub met : (r : Rule S W Map) → slice_get v.system.rules k ≡ Some r → (g h : ℕ) → r.right ≡ g ∷ h ∷ [] → (j : ℕ)
-        → IsIn (record { from = state; symbol = h; to = j }) (edges_of wanted.items) → (n : ℕ)
-        → Below s (weight_in s new.walk (pair_place Down j n))
-        (s.extend (weight_in s v.base (place_over r.control r.symbol n)) (s.extend r.weight (settled_in s new.walk (pair_place Down state source))))
+    pub others : IsWalkedOver v new
+    pub met : (r : Rule S W Map) → slice_get v.system.rules k ≡ Some r → IsCallMet v new.walk r

@@ -6,7 +6,7 @@ use Rattle.walk_pairs.specs.declared.pairs.Pair.{Pair}
 use Rattle.walk_pairs.specs.declared.pairs.Stage.TheVariants.{Down, Across}
 use Rattle.walk_pairs.specs.Pairs.{pair_place}
 use Rattle.value_walk.specs.private.Walking.{IsDownGiven, IsAcrossGiven}
-use Rattle.value_walk.proofs.SettleLemmas.{pair_parts, pair_apart}
+use Rattle.walk_pairs.proofs.CallerLemmas.{pair_parts, pair_apart}
 use Rattle.value_walk.proofs.giving.give.Goals as goal
 
 none_of : (o : Option Pair) (P : Type 0) → o ≡ None → IfNone o P → P

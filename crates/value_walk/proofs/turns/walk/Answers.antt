@@ -5,7 +5,8 @@ use Rattle.weight_tables.specs.Tables.{TablesValue, AreTables, with_entries, wit
 use Rattle.weight_tables.specs.Turns.{turns_left}
 use Rattle.weight_tables.specs.declared.layer.Layer.TheVariants.{Walk}
 use Rattle.walk_pairs.specs.Pairs.{answer_place}
-use Rattle.value_walk.specs.Answering.{ArePopSums, AreEnterSums, IsAnswered, IsWalkedOver}
+use Rattle.walk_pairs.specs.Answering.{IsAnswered, IsWalkedOver}
+use Rattle.value_walk.specs.Answering.{ArePopSums, AreEnterSums}
 use Rattle.value_walk.specs.private.Walking.{IsWalking}
 use Rattle.value_walk.proofs.TurnLemmas.{ended}
 use Rattle.value_walk.proofs.turns.walk.Goals as goal

@@ -1,6 +1,6 @@
 use Rattle.std.proofs.Common.{◌≡◌}
 use Rattle.weight_tables.specs.Turns.{turns_left}
-use Rattle.value_walk.specs.Answering.{IsWalkedOver}
+use Rattle.walk_pairs.specs.Answering.{IsWalkedOver}
 use Rattle.value_walk.specs.private.Walking.{IsWalking}
 use Rattle.value_walk.proofs.turns.walk.Given as goal
 

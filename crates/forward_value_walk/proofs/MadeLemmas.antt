@@ -1,0 +1,123 @@
+-- What a walk makes of weights that combine runs combines runs.
+use Rattle.std.proofs.Common.{◌≡◌, ℕ, zero, suc, ◌≤◌, drop, [], ◌∷◌, List, length, sym, ap, ◌∙◌, subst, arith}
+use Rattle.std.specs.Prelude.{IsTrue, Option, None, Some, nat_le}
+use Rattle.std.specs.List.{list_all}
+use Rattle.std.proofs.lemmas.Bool.{and_parts, leb-true}
+use Rattle.wpds_base.specs.Lists.{IsIn}
+use Rattle.semiring_laws.specs.Semiring.{Operations, IsSemiring, Fits}
+use Rattle.pushdown_rules.specs.Configuration.{at_stack}
+use Rattle.pushdown_rules.specs.Pushdown.{Pushdown, IsSystem}
+use Rattle.pushdown_rules.specs.Values.{value_of}
+use Rattle.pushdown_rules.specs.Answers.{Leads}
+use Rattle.pushdown_rules.proofs.CallerLemmas.{weight_fits, value_fits}
+use Rattle.config_patterns.specs.Edges.{edges_of, is_final_of, is_starred}
+use Rattle.config_patterns.specs.Membership.{PatternValue, has_member}
+use Rattle.weighted_automata.specs.declared.place.Label.{Label}
+use Rattle.weighted_automata.specs.declared.place.Label.TheVariants.{Symbol, Empty}
+use Rattle.weighted_automata.specs.declared.place.Place.{Place}
+use Rattle.weight_tables.specs.Entries.{weight_in}
+use Rattle.weight_tables.specs.Tables.{TablesValue}
+use Rattle.weight_tables.proofs.CallerLemmas.{place_fits}
+use Rattle.walk_pairs.specs.declared.pairs.Stage.TheVariants.{Down}
+use Rattle.walk_pairs.specs.Pairs.{pair_place, place_over, answer_place}
+use Rattle.walk_pairs.proofs.CallerLemmas.{AllFit, edge_from, edge_to}
+use Rattle.value_laws.specs.Runs.{Sums}
+use Rattle.value_laws.proofs.CallerLemmas.{sums_none, sums_combine}
+use Rattle.forward_value_laws.specs.Model.{Source, item, callee, head_of, Comes, Walks, IsSound}
+use Rattle.forward_value_laws.proofs.CallerLemmas.{tops_sum, uncovered_top_sum, opens_sum, reads_sum, ends_sum}
+use Rattle.forward_value_search.specs.Places.{arrow, place_by}
+use Rattle.forward_value_search.proofs.CallerLemmas.{item_number, one_source}
+use Rattle.forward_value_walk.specs.Walking.{number, found_in, IsMade, IsMadeAt}
+use Rattle.forward_value_walk.specs.private.Opening.{IsCall}
+
+module _ {S W Map : Type 0} {operations : S → Operations W Map} {p : Pushdown S W Map} (system : IsSystem operations p) (laws : IsSemiring (operations p.semiring)) (first wanted : PatternValue) where
+  abbrev ours : Operations W Map
+  ours = operations p.semiring
+
+  abbrev Pair : ℕ → Source → List ℕ → Type 0
+  Pair j from = Walks first.control first.items wanted.control wanted.items p j from
+
+  abbrev Lead : List ℕ → Type 0
+  Lead = Leads ours p (has_member first) (has_member wanted)
+
+  none_at : (f : ℕ) (l : Label) (n : ℕ) → IsMadeAt ours p first wanted f l n ours.zero
+  none_at zero (Symbol j) n = λ from is. sums_none laws (value_of ours p) (value_fits system laws) (Pair j from)
+  none_at (suc m) (Symbol j) n = tt
+  none_at zero Empty n = sums_none laws (value_of ours p) (value_fits system laws) Lead
+  none_at (suc m) Empty n = sums_none laws (value_of ours p) (value_fits system laws) Lead
+
+  pub made_none : (x : Place) → IsMade ours p first wanted x ours.zero
+  made_none x = none_at x.from x.label x.to
+
+  joins_at : (f : ℕ) (l : Label) (n : ℕ) (v w : W) → IsMadeAt ours p first wanted f l n v → IsMadeAt ours p first wanted f l n w → IsMadeAt ours p first wanted f l n (ours.combine v w)
+  joins_at zero (Symbol j) n v w one two = λ from is. sums_combine laws (value_of ours p) (value_fits system laws) (Pair j from) v w (one from is) (two from is)
+  joins_at (suc m) (Symbol j) n v w one two = tt
+  joins_at zero Empty n v w one two = sums_combine laws (value_of ours p) (value_fits system laws) Lead v w one two
+  joins_at (suc m) Empty n v w one two = sums_combine laws (value_of ours p) (value_fits system laws) Lead v w one two
+
+  pub made_joins : (x : Place) (v w : W) → Fits ours v → Fits ours w → IsMade ours p first wanted x v → IsMade ours p first wanted x w → IsMade ours p first wanted x (ours.combine v w)
+  made_joins x v w _ _ one two = joins_at x.from x.label x.to v w one two
+
+  pub reading_made : (h i j a b : ℕ) → IsIn (record { from = i; symbol = h; to = j }) (edges_of wanted.items) → IsIn (record { from = a; symbol = h; to = b }) (edges_of first.items) → (w : W)
+      → IsMade ours p first wanted (pair_place Down i a) w → IsMade ours p first wanted (pair_place Down j b) w
+  reading_made h i j a b edge edge' w made from numbered =
+      let same : item b ≡ from = one_source (length first.items) p (item b) from b (item_number (length first.items) p b (edge_to first.items a h b edge')) numbered in
+      let T : Source → Type 0 = λ y. Sums ours (value_of ours p) (Pair j y) w in
+      subst T same (reads_sum system laws first wanted h i j a b edge edge' w (made (item a) (item_number (length first.items) p a (edge_from first.items a h b edge'))))
+
+  pub ending_made : (j a : ℕ) → IsTrue (is_final_of wanted.items j) → IsTrue (is_final_of first.items a) → (w : W) → IsMade ours p first wanted (pair_place Down j a) w → IsMade ours p first wanted answer_place w
+  ending_made j a final final' w made =
+      let low = leb-true a (length first.items) (and_parts (nat_le a (length first.items)) (list_all is_starred (drop a first.items)) final').0 in
+      ends_sum system laws first wanted j a final final' w (made (item a) (item_number (length first.items) p a low))
+
+module _ {S W Map : Type 0} {operations : S → Operations W Map} (v : TablesValue S W Map) (system : IsSystem operations v.system) (laws : IsSemiring (operations v.system.semiring)) (base_fits : AllFit (operations v.system.semiring) v.base)
+    (first wanted : PatternValue) (sound : IsSound (operations v.system.semiring) v.system first.control (edges_of first.items) (found_in (operations v.system.semiring) v.system first wanted v.base v.walk)) where
+  abbrev s : Operations W Map
+  s = operations v.system.semiring
+
+  -- what stands at a row combines runs to it
+  row_sums : (control g n : ℕ) (from : Source) → number s v.system first wanted from ≡ Some n
+      → Sums s (value_of s v.system) (Comes v.system first.control (edges_of first.items) (at_stack control (g ∷ [])) from) (weight_in s v.base (place_over control g n))
+  row_sums control g n from numbered =
+      let found : found_in s v.system first wanted v.base v.walk (at_stack control (g ∷ [])) from ≡ weight_in s v.base (place_over control g n) =
+      ap (λ (o : Option ℕ). let u : W = elim (place_by control (Some (Symbol g)) o) [ None ↦ s.zero | Some z ↦ weight_in s v.base z ] in u) numbered in
+      let T : W → Type 0 = Sums s (value_of s v.system) (Comes v.system first.control (edges_of first.items) (at_stack control (g ∷ [])) from) in
+      subst T found (sound.sums (at_stack control (g ∷ [])) from (omega arith))
+
+  bare_sums : (control n : ℕ) (from : Source) → number s v.system first wanted from ≡ Some n
+      → Sums s (value_of s v.system) (Comes v.system first.control (edges_of first.items) (at_stack control []) from) (weight_in s v.base (arrow control Empty n))
+  bare_sums control n from numbered =
+      let found : found_in s v.system first wanted v.base v.walk (at_stack control []) from ≡ weight_in s v.base (arrow control Empty n) =
+      ap (λ (o : Option ℕ). let u : W = elim (place_by control (Some Empty) o) [ None ↦ s.zero | Some z ↦ weight_in s v.base z ] in u) numbered in
+      let T : W → Type 0 = Sums s (value_of s v.system) (Comes v.system first.control (edges_of first.items) (at_stack control []) from) in
+      subst T found (sound.sums (at_stack control []) from (omega arith))
+
+  pub top_made : (g j n : ℕ) → IsIn (record { from = 0; symbol = g; to = j }) (edges_of wanted.items) → IsMade s v.system first wanted (pair_place Down j n) (weight_in s v.base (place_over wanted.control g n))
+  top_made g j n edge from numbered =
+      tops_sum system laws first wanted g j edge from (weight_in s v.base (place_over wanted.control g n)) (row_sums wanted.control g n from numbered)
+
+  pub uncovered_made : (i : ℕ) → i ≤ length first.items → IsMade s v.system first wanted (pair_place Down 0 i) (weight_in s v.base (arrow wanted.control Empty i))
+  uncovered_made i low from numbered =
+      let is = item_number (length first.items) v.system i low in
+      let same : item i ≡ from = one_source (length first.items) v.system (item i) from i is numbered in
+      let T : Source → Type 0 = λ y. Sums s (value_of s v.system) (Walks first.control first.items wanted.control wanted.items v.system 0 y) (weight_in s v.base (arrow wanted.control Empty i)) in
+      subst T same (uncovered_top_sum system laws first wanted i (weight_in s v.base (arrow wanted.control Empty i)) (bare_sums wanted.control i (item i) is))
+
+  pub call_made : (state source k : ℕ) (x : Place) (w : W) → IsCall s first wanted state source k v x w → IsMade s v.system first wanted x w
+  call_made state source k x w is =
+      let r = is.rule in
+      let head : Place = place_over r.control r.symbol is.from in
+      let there : IsMade s v.system first wanted (pair_place Down is.next is.from) w = λ y numbered.
+      let all = opens_sum system laws first wanted k r is.there is.top is.below is.right state is.next is.edge y (weight_in s v.base head) is.worth (row_sums r.control r.symbol is.from y numbered) (is.made (callee r.to is.top) is.entered) in
+      let U : W → Type 0 = Sums s (value_of s v.system) (Walks first.control first.items wanted.control wanted.items v.system is.next y) in
+      subst U (laws.extend_assoc (weight_in s v.base head) r.weight is.worth (place_fits s head v.base laws.fits-zero base_fits) (weight_fits system laws k r is.there) is.fits ∙ sym is.weight) all in
+      let P : Place → Type 0 = λ z. IsMade s v.system first wanted z w in
+      subst P (sym is.place) there
+
+  pub call_fits : (state source k : ℕ) (x : Place) (w : W) → IsCall s first wanted state source k v x w → Fits s w
+  call_fits state source k x w is =
+      let r = is.rule in
+      let head : Place = place_over r.control r.symbol is.from in
+      subst (Fits s) (sym is.weight)
+      (laws.fits-extend (weight_in s v.base head) (s.extend r.weight is.worth) (place_fits s head v.base laws.fits-zero base_fits)
+      (laws.fits-extend r.weight is.worth (weight_fits system laws k r is.there) is.fits))

@@ -1,0 +1,11 @@
+use Rattle.std.proofs.Common.{length}
+use Rattle.pushdown_rules.specs.Rows.{goes_onto}
+use Rattle.weight_tables.proofs.CallerLemmas.{to_go}
+use Rattle.forward_value_walk.proofs.LoopLemmas.{IsCallLoop}
+use Rattle.forward_value_walk.proofs.calls.open_onto.Given as goal
+
+abbrev pub invariant-rules : goal.invariant-rules
+invariant-rules g l = IsCallLoop g.S.Semiring.operations l.first l.wanted l.initial.tables l.state l.source (goes_onto l.callee.to l.callee.top) l.tables l.at
+
+abbrev pub decreases-rules : goal.decreases-rules
+decreases-rules g l = to_go (length l.initial.tables.system.rules) l.at

@@ -1,5 +1,0 @@
-use Rattle.value_search.proofs.BoundLemmas.{turns_bounded}
-use Rattle.value_search.proofs.laws.turns_are_bounded.Goals as goal
-
-pub returns : goal.returns
-returns g c = λ x es table. turns_bounded (g.S.Semiring.laws x) es table
