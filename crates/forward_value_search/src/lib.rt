@@ -13,7 +13,7 @@ mod rules;
 mod search;
 mod take;
 #[cfg(test)]
-mod tries;
+mod tests;
 
 pub use callees::{Callee, callee_at};
 pub use search::{close, open, turn};

@@ -104,7 +104,7 @@ module _ {S W Map : Type 0} (operations : S → Operations W Map) (laws : (x : S
       tops_empty : AreFallsGiven ours empty Then Base Down wanted.control (edges_of wanted.items) 0 v2
       tops_empty = let P : TablesValue S W Map → Type 0 = λ u. AreFallsGiven (of u) u Then Base Down wanted.control (edges_of wanted.items) 0 v2 in subst P is tops
 
-      row : ℕ → ℕ → W
+      abbrev row : ℕ → ℕ → W
       row g n = weight_in ours v.base (place_over wanted.control g n)
 
       row_fits : (g n : ℕ) → Fits ours (row g n)

@@ -100,7 +100,7 @@ module _ {S W Map : Type 0} (operations : S → Operations W Map) (laws : (x : S
       since_read : Gone v2 v4
       since_read = gone_then operations laws first wanted v2 v3 v4 from_read_end calls.gone
 
-      falls_since (u : TablesValue S W Map) (over : Gone v u) (since : Gone u v4) : (y : Place) → Below s (weight_in s v4.walk y) (weight_in s u.walk y)
+      falls_since : (u : TablesValue S W Map) → Gone v u → Gone u v4 → (y : Place) → Below s (weight_in s v4.walk y) (weight_in s u.walk y)
       falls_since u over since y =
           let P : TablesValue S W Map → Type 0 = λ z. Below (operations z.system.semiring) (weight_in (operations z.system.semiring) v4.walk y) (weight_in (operations z.system.semiring) z.walk y) in
           subst P over.others (gone_falls operations laws first wanted u v4 (gone_walkable operations laws first wanted v u walkable over) since y)

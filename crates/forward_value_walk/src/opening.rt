@@ -93,14 +93,7 @@ pub(crate) fn open_rule<'s, S: Semiring, M: Weigher<S>>(
         [_top, below] => {
             tables.hold_rule_then(k, Layer::Walk, t)?;
             tables.valid();
-            open_ways(
-                tables,
-                wanted,
-                state,
-                *below,
-                rule.control,
-                rule.symbol,
-            )?;
+            open_ways(tables, wanted, state, *below, rule.control, rule.symbol)?;
             Ok(())
         }
         _ => Ok(()),

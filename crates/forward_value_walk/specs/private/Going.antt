@@ -1,5 +1,5 @@
 -- What holds of a walk while it goes on.
-use Rattle.std.specs.Prelude.{◌≡◌, ◌×◌, ℕ, List, [], ◌∷◌, Some, slice_get}
+use Rattle.std.specs.Prelude.{◌≡◌, ℕ, List, [], ◌∷◌, Some, slice_get}
 use Rattle.semiring_laws.specs.Semiring.{Operations, Fits, Below}
 use Rattle.pushdown_rules.specs.declared.rule.Rule.{Rule}
 use Rattle.config_patterns.specs.Membership.{PatternValue}

@@ -16,7 +16,7 @@ uncover-requires g c =
     let walkable = walkable_of g.S.Semiring.operations a.first.now a.wanted.now v c.valid.ensures.system c.valid.ensures.tables c.requires.finished c.requires.made in
     let now = gone_walkable g.S.Semiring.operations (λ x. g.S.Semiring.laws x) a.first.now a.wanted.now v c.loop-item.tables walkable c.loop-item.invariant.0 in
     let low = c.loop-item-test.true in
-    let items = c.items.ensures.value in
+    let items = c.items-states.ensures.value in
     record { item = omega (arith, low, items); finished = now.finished }
 
 pub loop-item-preserved : goal.loop-item-preserved
@@ -46,5 +46,5 @@ loop-item-preserved g c =
 pub returns : goal.returns
 returns g c = record {
   gone = c.loop-item.invariant.0;
-  met = λ i low. let items = c.items.ensures.value in let end = c.loop-item-test.false in c.loop-item.invariant.1 i (omega (arith, low, items, end));
+  met = λ i low. let items = c.items-states.ensures.value in let end = c.loop-item-test.false in c.loop-item.invariant.1 i (omega (arith, low, items, end));
 }

@@ -19,15 +19,15 @@ none_of o P none holds = let Q : Option Pair → Type 0 = λ x. IfNone x P in su
 pub returns-in_default : goal.returns-in_default
 returns-in_default g c = λ e there.
     let a = c.args in
-    let here = c.place-place.ensures e there in
-    let none : (stage : Stage) (i x : ℕ) → c.place-place.result ≡ pair_place stage i x → ⊥ = none_of c.pair_at.result ((stage : Stage) (i x : ℕ) → c.place-place.result ≡ pair_place stage i x → ⊥) c.in_default.is c.pair_at.ensures.none in
+    let here = c.place.ensures e there in
+    let none : (stage : Stage) (i x : ℕ) → c.place.result ≡ pair_place stage i x → ⊥ = none_of c.pair_at.result ((stage : Stage) (i x : ℕ) → c.place.result ≡ pair_place stage i x → ⊥) c.in_default.is c.pair_at.ensures.none in
     record { gone = none_gone g.S.Semiring.operations (λ x. g.S.Semiring.laws x) a.first.now a.wanted.now a.tables.now; met = λ i m is. absurd (none Down i m (here ∙ is)) }
 
-pub give_pair-in-Down-requires-clause-entry : goal.give_pair-in-Down-requires-clause-entry
-give_pair-in-Down-requires-clause-entry g c =
+pub give_pair-requires-clause-entry : goal.give_pair-requires-clause-entry
+give_pair-requires-clause-entry g c =
     let entry = entry_at c.args.tables.now.walk c.args.t c.requires.entry in
     let p = c.in-Some.pair in
-    (entry.0, entry.1, sym (c.place-place.ensures entry.0 entry.1) ∙ c.in-Some.ensures.pair ∙ ap (λ st. pair_place st p.state p.to) c.in-Down.is)
+    (entry.0, entry.1, sym (c.place.ensures entry.0 entry.1) ∙ c.in-Some.ensures.pair ∙ ap (λ st. pair_place st p.state p.to) c.in-Down.is)
 
 pub returns-in_ok-give_pair-in-Down : goal.returns-in_ok-give_pair-in-Down
 returns-in_ok-give_pair-in-Down g c = λ e there.
@@ -36,7 +36,7 @@ returns-in_ok-give_pair-in-Down g c = λ e there.
     let s = g.S.Semiring.operations v.system.semiring in
     let p = c.in-Some.pair in
     let given = c.in_ok-give_pair-in-Down.ensures in
-    let here : e.place ≡ pair_place Down p.state p.to = sym (c.place-place.ensures e there) ∙ c.in-Some.ensures.pair ∙ ap (λ st. pair_place st p.state p.to) c.in-Down.is in
+    let here : e.place ≡ pair_place Down p.state p.to = sym (c.place.ensures e there) ∙ c.in-Some.ensures.pair ∙ ap (λ st. pair_place st p.state p.to) c.in-Down.is in
     record {
       gone = given.gone;
       met = λ i m is.
@@ -50,5 +50,5 @@ pub returns-in-Across : goal.returns-in-Across
 returns-in-Across g c = λ e there.
     let a = c.args in
     let p = c.in-Some.pair in
-    let here : e.place ≡ pair_place Across p.state p.to = sym (c.place-place.ensures e there) ∙ c.in-Some.ensures.pair ∙ ap (λ st. pair_place st p.state p.to) c.in-Across.is in
+    let here : e.place ≡ pair_place Across p.state p.to = sym (c.place.ensures e there) ∙ c.in-Some.ensures.pair ∙ ap (λ st. pair_place st p.state p.to) c.in-Across.is in
     record { gone = none_gone g.S.Semiring.operations (λ x. g.S.Semiring.laws x) a.first.now a.wanted.now a.tables.now; met = λ i m is. absurd (pair_apart i m p.state p.to (sym is ∙ here)) }
