@@ -1,5 +1,5 @@
 -- A walk begins: what rows give waits, and nothing else is there.
-use Rattle.std.proofs.Common.{◌≡◌, inl, inr, ℕ, ◌≤◌, List, [], length, refl, sym, ap, ◌∙◌, subst}
+use Rattle.std.proofs.Common.{◌≡◌, inl, inr, ℕ, suc, ◌≤◌, List, [], length, refl, sym, ap, ◌∙◌, subst}
 use Rattle.std.specs.Prelude.{Some, slice_get}
 use Rattle.semiring_laws.specs.Semiring.{Operations, IsSemiring, Fits, Below}
 use Rattle.semiring_laws.proofs.CallerLemmas.{below_trans, below_zero}
@@ -14,7 +14,7 @@ use Rattle.weight_tables.specs.Tables.{TablesValue, AreTables, with_entries, wit
 use Rattle.weight_tables.specs.declared.layer.Layer.TheVariants.{Base, Walk}
 use Rattle.weight_tables.proofs.CallerLemmas.{place_fits}
 use Rattle.walk_pairs.specs.declared.pairs.Order.TheVariants.{Then}
-use Rattle.walk_pairs.specs.declared.pairs.Stage.TheVariants.{Down}
+use Rattle.walk_pairs.specs.declared.pairs.Stage.TheVariants.{Down, Before}
 use Rattle.walk_pairs.specs.Pairs.{pair_place, answer_place, place_over}
 use Rattle.walk_pairs.specs.Giving.{IsFall, AreFallsGiven}
 use Rattle.walk_pairs.specs.Answering.{IsWalkedOver}
@@ -159,8 +159,18 @@ module _ {S W Map : Type 0} (operations : S → Operations W Map) (laws : (x : S
               below_none (pair_place Down j n) (ours.extend head (ours.extend r.weight (settled_in ours v3.walk (pair_place Down i m))))
               (ap (λ u. ours.extend head (ours.extend r.weight u)) (none_counts (pair_place Down i m)) ∙ ap (ours.extend head) (our.extend-zero_right r.weight (weight_fits system our k r there))
               ∙ our.extend-zero_right head (place_fits ours (arrow r.control (Symbol r.symbol) n) v.base our.fits-zero valid.base.fits));
-          reads = λ h i j a b edge edge'. below_none (pair_place Down j b) (settled_in ours v3.walk (pair_place Down i a)) (none_counts (pair_place Down i a));
-          ends = λ j a final final'. below_none answer_place (settled_in ours v3.walk (pair_place Down j a)) (none_counts (pair_place Down j a));
+          readings = record {
+            pairs = λ i a. record { stands = λ _ _ k l _ _. below_none (pair_place Before k l) (settled_in ours v3.walk (pair_place Down i a)) (none_counts (pair_place Down i a)) };
+            befores = λ k l.
+                let none = none_counts (pair_place Before k l) in
+                let w : W = settled_in ours v3.walk (pair_place Before k l) in
+                record {
+                  skips = λ _ _. below_none (pair_place Before (suc k) l) w none;
+                  skips_other = λ _ _. below_none (pair_place Before k (suc l)) w none;
+                  reads = λ _ _ _. below_none (pair_place Down (suc k) (suc l)) w none;
+                  ends = λ _ _. below_none answer_place w none;
+                };
+          };
         }
 
         pub begun_walking : IsWalking ours first wanted v3

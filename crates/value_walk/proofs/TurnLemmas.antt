@@ -34,10 +34,6 @@ number_small Down = omega arith
 number_small Across = omega arith
 number_small Before = omega arith
 
--- pairs of different stages stand at different places
-pub stages_apart : (stage stage' : Stage) (i x j y : ℕ) → (number_of stage ≡ number_of stage' → ⊥) → pair_place stage i x ≡ pair_place stage' j y → ⊥
-stages_apart stage stage' i x j y differ e = differ (ap (λ (p : Place). p.from) e)
-
 abbrev IsNoPair : Place → Type 0
 IsNoPair x = (stage : Stage) (i y : ℕ) → x ≡ pair_place stage i y → ⊥
 

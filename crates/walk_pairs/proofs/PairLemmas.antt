@@ -11,7 +11,7 @@ use Rattle.weight_tables.specs.declared.layer.Layer.TheVariants.{Base, Target, W
 use Rattle.weight_tables.proofs.CallerLemmas.{place_fits}
 use Rattle.walk_pairs.specs.declared.pairs.Stage.{Stage}
 use Rattle.walk_pairs.specs.declared.pairs.Stage.TheVariants.{Down, Across}
-use Rattle.walk_pairs.specs.Pairs.{pair_place}
+use Rattle.walk_pairs.specs.Pairs.{number_of, pair_place}
 use Rattle.walk_pairs.specs.Lowerings.{ArePairsLowered}
 use Rattle.walk_pairs.specs.Giving.{IsKept}
 use Rattle.walk_pairs.proofs.LoweringLemmas.{AllFit, none_lowered, one_lowered, lowered_then, lowered_wider, lowered_all_fit, lowered_falls}
@@ -22,6 +22,10 @@ symbol_is a b e = cc
 -- two pairs of one stage are one where their parts are
 pub pair_parts : (stage : Stage) (i x j y : ℕ) → pair_place stage i x ≡ pair_place stage j y → (i ≡ j) × (x ≡ y)
 pair_parts stage i x j y e = (symbol_is i j (ap (λ (p : Place). p.label) e), ap (λ (p : Place). p.to) e)
+
+-- pairs of different stages stand at different places
+pub stages_apart : (stage stage' : Stage) (i x j y : ℕ) → (number_of stage ≡ number_of stage' → ⊥) → pair_place stage i x ≡ pair_place stage' j y → ⊥
+stages_apart stage stage' i x j y differ e = differ (ap (λ (p : Place). p.from) e)
 
 module _ {S W Map : Type 0} where
   -- a layer that a walk leaves is as it was

@@ -6,9 +6,8 @@ use Rattle.walk_pairs.specs.declared.pairs.Pair.{Pair}
 use Rattle.walk_pairs.specs.declared.pairs.Stage.TheVariants.{Down, Across, Before}
 use Rattle.walk_pairs.specs.Pairs.{pair_place}
 use Rattle.walk_pairs.specs.Reading.{IsPairGiven, IsBeforeGiven}
-use Rattle.walk_pairs.proofs.CallerLemmas.{pair_parts}
+use Rattle.walk_pairs.proofs.CallerLemmas.{pair_parts, stages_apart}
 use Rattle.value_walk.specs.private.Walking.{IsDownGiven}
-use Rattle.value_walk.proofs.TurnLemmas.{stages_apart}
 use Rattle.value_walk.proofs.giving.give.Goals as goal
 
 none_of : (o : Option Pair) (P : Type 0) → o ≡ None → IfNone o P → P
