@@ -1,4 +1,4 @@
-ghost use Rattle.std.specs.Prelude.{◌≡◌, ℕ, List, ◌<◌, ◌≤◌, ◌++◌, ◌∷◌, [], length, ◌+◌, ◌*◌, if◌then◌else◌, IsTrue, IfOk, OnOk, OnErr, All, nat_le, false, slice_get, Some};
+ghost use Rattle.std.specs.Prelude.{◌≡◌, ℕ, List, ◌<◌, ◌≤◌, ◌++◌, ◌∷◌, [], length, ◌+◌, ◌*◌, if◌then◌else◌, IsTrue, IfOk, OnOk, OnErr, IsOk, All, nat_le, false, slice_get, None, Some};
 ghost use Rattle.std.specs.List.{list_any, list_all, range_with_len};
 ghost use Rattle.wpds_base.specs.Limits.{most_items};
 ghost use Rattle.config_patterns.specs.declared.pattern.PatternFault.TheVariants.{Memory};
@@ -52,6 +52,18 @@ impl<T: Drop> From<AllocFailed<T>> for PatternFault {
 
     fn from(_: AllocFailed<T>) -> Self {
         PatternFault::Memory
+    }
+}
+
+/// An answer to an item that is not refused, which only memory can lack.
+pub fn unrefused(added: Result<(), PatternFault>) -> Result<(), OutOfMemory>
+    requires { refusal_of added ≡ None }
+    ensures { OnOk result (IsOk added) }
+{
+    match added {
+        Ok(()) => Ok(()),
+        Err(PatternFault::Memory) => Err(OutOfMemory),
+        Err(_) => unreachable!(),
     }
 }
 

@@ -1,6 +1,6 @@
 use config_patterns::{
     Edge, EdgeList, Pattern, PatternFault, SymbolSet, edges_skip_starred_items, edges_stand_once,
-    is_set, members_are_read,
+    is_set, members_are_read, unrefused,
 };
 use pushdown_rules::Config;
 use std::alloc::Global;
@@ -139,7 +139,7 @@ fn items_of_all_symbols(rt: HostRuntime) {
     let alloc = rt.alloc();
     for (before, after) in [(false, false), (false, true), (true, false), (true, true)] {
         let mut all = Pattern::new(alloc, 7, 3);
-        assert_eq!(rt; all.add_all(before), Ok(()));
+        assert_eq!(rt; unrefused(all.add_all(before)), Ok(()));
         assert_eq!(rt; all.add_item(alloc, &[1], after), Ok(()));
         let items: Items<'_> = &[(&[0, 1, 2], before), (&[1], after)];
         let listed = pattern_of(alloc, items).expect(&rt, "an answer");
