@@ -1,9 +1,9 @@
 -- What a finished walk comes to, for any final states over the same edges.
 use Rattle.std.proofs.Common.{◌≡◌, inl, inr, IsTrue, ℕ, suc, ◌<◌, true, false, List, [], ◌∷◌, ◌++◌, cond, length, map, refl, sym, ap, ap₂, ◌∙◌, subst}
-use Rattle.std.specs.Prelude.{All, IsFalse, None, Some, ◌&&◌, option_and_then, option_map}
+use Rattle.std.specs.Prelude.{All, None, Some, ◌&&◌, option_and_then, option_map}
 use Rattle.std.specs.List.{AllByRecursion, range_with_len}
 use Rattle.std.proofs.lemmas.Bool.{cond_both, cond-true, and_from}
-use Rattle.std.proofs.lemmas.List.Elements.{All-from_recursion, recursion_from_All}
+use Rattle.std.proofs.lemmas.List.Elements.{All-from_recursion}
 use Rattle.semiring_laws.specs.Semiring.{Operations, IsSemiring, Fits, Below}
 use Rattle.semiring_laws.specs.Combination.{combination}
 use Rattle.semiring_laws.proofs.CallerLemmas.{fits, below_trans, combine_zero, combine_below_left, combine_below_right}
@@ -22,8 +22,7 @@ use Rattle.pattern_openings.proofs.CallerLemmas.{is_final}
 use Rattle.pushdown_rules.specs.Pushdown.{Pushdown, IsSystem}
 use Rattle.pushdown_rules.specs.Values.{value_of}
 use Rattle.pushdown_rules.specs.Answers.{Answers}
-use Rattle.pushdown_rules.specs.Configuration.{Configuration}
-use Rattle.saturation_laws.specs.Paths.{in_order, IsMet}
+use Rattle.saturation_laws.specs.Paths.{in_order}
 use Rattle.saturation_laws.specs.declared.opening.Opening.{Opening}
 use Rattle.saturation_laws.specs.States.{CoreState, weight_of, weight_at, lower_state, apply}
 use Rattle.saturation_laws.specs.Openings.{AreKept}
@@ -34,14 +33,13 @@ use Rattle.path_sum.specs.Answers.{first_of, last_of}
 use Rattle.path_sum.specs.Saturated.{IsSaturatedAutomaton}
 use Rattle.path_sum.specs.Sums.{Ways, ways_of, pair_place, answer_place, has_state, Move, Along, End, Done, end_change, move, grow, bare_sum, IsGrown}
 use Rattle.path_sum.specs.private.Ends.{pairs_with, pairs_to, weights_at, total_to}
-use Rattle.path_sum.specs.private.Inputs.{SumInputValue, followed}
+use Rattle.path_sum.specs.private.Inputs.{SumInputValue}
 use Rattle.path_sum.specs.private.Paths.{SumRun, IsSummable, IsQuery, answer_runs}
 use Rattle.path_sum.specs.private.Work.{IsSummed}
-use Rattle.path_sum.specs.Values.{with_finals, IsSaturatedTo, IsValueTo, AreValuesTo, StayOut, is_left_out}
+use Rattle.path_sum.specs.Values.{with_finals, IsSaturatedTo, IsValueTo, AreValuesTo}
 use Rattle.path_sum.proofs.BookLemmas.{finished_answers}
 use Rattle.path_sum.proofs.EntryLemmas.{in_right, present_here}
-use Rattle.path_sum.proofs.FollowedLemmas.{ArePart, followed_part, met_still}
-use Rattle.path_sum.proofs.WalkLemmas.{summable}
+use Rattle.path_sum.proofs.FinishedLemmas.{summable}
 use Rattle.path_sum.proofs.MemberLemmas.{members_way}
 use Rattle.path_sum.proofs.MoveLemmas.{has_state_from, grown_on}
 use Rattle.path_sum.specs.private.Rounds.{IsWalked, input_of}
@@ -51,7 +49,7 @@ use Rattle.path_sum.proofs.RoundLemmas.{sum_good, ended}
 
 module _ {W Map : Type 0} {s : Operations W Map} (laws : IsSemiring s) where
   -- a combination lies below each of its weights
-  pub below_each : (ws : List W) (w : W) → AllByRecursion (Fits s) ws → IsIn w ws → Below s (combination s ws) w
+  below_each : (ws : List W) (w : W) → AllByRecursion (Fits s) ws → IsIn w ws → Below s (combination s ws) w
   below_each [] w fit h = absurd h
   below_each (v ∷ ws) w fit (inl is) =
       let P : W → Type 0 = Below s (combination s (v ∷ ws)) in
@@ -235,9 +233,7 @@ module _ {S W Map D : Type 0} (operations : S → Operations W Map) (laws : (x :
     (pattern : PatternValue) (control : pattern.control < p.controls)
     (bare : IsSaturatedTo operations way p d plain ts nodes []) (bare_sums : HasPathSums operations way d p (with_finals plain []))
     (finals : List ℕ) (is : IsSaturatedTo operations way p d plain ts nodes finals) (path_sums : HasPathSums operations way d p (with_finals plain finals))
-    (low high : ℕ) (us : List (Entry S W Map)) (part : ArePart us ts)
-    (still : (c : Configuration) (v : W) → IsMet (operations p.semiring) (way.tables d p).side finals ts c v → IsMet (operations p.semiring) (way.tables d p).side finals us c v)
-    (st : CoreState S W Map) (walked : IsWalked operations way p d (with_finals plain []) us nodes pattern low high st) where
+    (st : CoreState S W Map) (walked : IsWalked operations way p d (with_finals plain []) ts nodes pattern st) where
   abbrev o : Opening
   o = with_finals plain finals
 
@@ -248,10 +244,10 @@ module _ {S W Map D : Type 0} (operations : S → Operations W Map) (laws : (x :
   side = (way.tables d p).side
 
   abbrev bare_input : SumInputValue S W Map
-  bare_input = input_of operations way p d (with_finals plain []) us nodes pattern low high
+  bare_input = input_of operations way p d (with_finals plain []) ts nodes pattern
 
   abbrev over : SumInputValue S W Map
-  over = input_of operations way p d o us nodes pattern low high
+  over = input_of operations way p d o ts nodes pattern
 
   abbrev bare_runs : Place → List ℕ → Type 0
   bare_runs = way.runs d p (with_finals plain [])
@@ -263,13 +259,13 @@ module _ {S W Map D : Type 0} (operations : S → Operations W Map) (laws : (x :
   totalled = pairs_to (finals_of_items pattern.items) finals
 
   at_bare : IsSummable s (value_of s p) p bare_runs bare_input nodes
-  at_bare = summable laws valid bare bare_sums pattern control low high part
+  at_bare = summable laws valid bare bare_sums pattern control
 
   at : IsSummable s (value_of s p) p runs over nodes
-  at = summable laws valid is path_sums pattern control low high part
+  at = summable laws valid is path_sums pattern control
 
-  grown : IsGrown s side o us nodes (ways_of pattern) st
-  grown = grown_same s side (with_finals plain []) o us (ways_of pattern) refl nodes st walked.under_way.grown
+  grown : IsGrown s side o ts nodes (ways_of pattern) st
+  grown = grown_same s side (with_finals plain []) o ts (ways_of pattern) refl nodes st walked.under_way.grown
 
   abbrev AreEnds : List Place → Type 0
   AreEnds xs = AllByRecursion (IsEnd (laws p.semiring) (value_of s p) p runs over nodes at) xs
@@ -299,7 +295,7 @@ module _ {S W Map D : Type 0} (operations : S → Operations W Map) (laws : (x :
       let total = total_to s st.transitions (finals_of_items pattern.items) finals in
       added.weight ∙ ap (λ w. s.combine w total) zero ∙ (laws p.semiring).combine_zero total (fits (laws p.semiring) (weights_at s st.transitions totalled) weights_fit_all)
 
-  summed : IsSummed s side o us (ways_of pattern) added.new.transitions
+  summed : IsSummed s side o ts (ways_of pattern) added.new.transitions
   summed =
       let all = ended (laws p.semiring) (value_of s p) p bare_runs bare_input nodes at_bare st walked.under_way walked.ended in
       record {
@@ -321,7 +317,7 @@ module _ {S W Map D : Type 0} (operations : S → Operations W Map) (laws : (x :
     answer_runs side added.new,
     λ far far_is.
         let query : IsQuery p o (ways_of pattern) (has_member pattern) far = record { near_is = members_way pattern; far_is = far_is } in
-        let found = finished_answers operations laws way p valid d o ts nodes is path_sums (ways_of pattern) control (has_member pattern) far query us part still added.new added.grown summed in
+        let found = finished_answers operations laws way p valid d o ts nodes is path_sums (ways_of pattern) control (has_member pattern) far query added.new added.grown summed in
         subst (λ v. Answers s p (first_of side (has_member pattern) far) (last_of side (has_member pattern) far) v (answer_runs side added.new)) total_is found,
   )
 
@@ -344,30 +340,22 @@ weights_kept {s = s} laws ts n kept xs ws is = let P : List _ → Type 0 = All (
 module _ {S W Map D : Type 0} (operations : S → Operations W Map) (laws : (x : S) → IsSemiring (operations x)) (way : Way S W Map D)
     (p : Pushdown S W Map) (valid : IsSystem operations p) (d : D) (sums : (u : Opening) → IsTrue (way.fits_opening d p u) → HasPathSums operations way d p u)
     (o : Opening) (ts : List (Entry S W Map)) (nodes : List Node) (is : IsSaturatedAutomaton operations way p d o ts nodes) (none : o.finals ≡ [])
-    (pattern : PatternValue) (control : pattern.control < p.controls) (low high : ℕ) (apart : StayOut low high ts)
-    (st : CoreState S W Map) (walked : IsWalked operations way p d o (followed low high ts) nodes pattern low high st) where
-  abbrev us : List (Entry S W Map)
-  us = followed low high ts
-
-  abbrev AreKeptFinals : List ℕ → Type 0
-  AreKeptFinals = All (λ q. IsFalse (is_left_out low high q))
-
+    (pattern : PatternValue) (control : pattern.control < p.controls) (st : CoreState S W Map) (walked : IsWalked operations way p d o ts nodes pattern st) where
   bare : o ≡ with_finals o []
   bare = ap (with_finals o) none
 
   bare_is : IsSaturatedTo operations way p d o ts nodes []
   bare_is = subst (λ u. IsSaturatedAutomaton operations way p d u ts nodes) bare is
 
-  bare_walked : IsWalked operations way p d (with_finals o []) us nodes pattern low high st
-  bare_walked = subst (λ u. IsWalked operations way p d u us nodes pattern low high st) bare walked
+  bare_walked : IsWalked operations way p d (with_finals o []) ts nodes pattern st
+  bare_walked = subst (λ u. IsWalked operations way p d u ts nodes pattern st) bare walked
 
   -- the totals of a walk are values
-  pub all_values : (sets : List (List ℕ)) → AllByRecursion (IsSaturatedTo operations way p d o ts nodes) sets → AllByRecursion AreKeptFinals sets
+  pub all_values : (sets : List (List ℕ)) → AllByRecursion (IsSaturatedTo operations way p d o ts nodes) sets
       → AreValuesTo operations way p d o pattern sets (map (total_to (operations p.semiring) st.transitions (finals_of_items pattern.items)) sets)
-  all_values [] each kept = tt
-  all_values (finals ∷ sets) each kept = (
+  all_values [] each = tt
+  all_values (finals ∷ sets) each = (
     total_answers operations laws way p valid d o ts nodes pattern control bare_is (sums (with_finals o []) bare_is.fits) finals
-        each.0 (sums (with_finals o finals) each.0.fits) low high us (followed_part low high ts is.shape.places)
-        (met_still low high ts apart (recursion_from_All (λ q. IsFalse (is_left_out low high q)) finals kept.0)) st bare_walked,
-    all_values sets each.1 kept.1,
+        each.0 (sums (with_finals o finals) each.0.fits) st bare_walked,
+    all_values sets each.1,
   )

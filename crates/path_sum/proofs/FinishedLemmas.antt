@@ -3,8 +3,9 @@ use Rattle.std.proofs.Common.{◌≡◌, ◌++◌, ℕ, ◌+◌, ◌*◌, ◌<�
 use Rattle.std.specs.Prelude.{◌↔◌, Option, None, Some, IfSome}
 use Rattle.std.proofs.lemmas.List.{append_cancel_left}
 use Rattle.semiring_laws.specs.Semiring.{Operations, IsSemiring}
+use Rattle.weighted_automata.specs.declared.place.Place.{Place}
 use Rattle.weighted_automata.specs.declared.transitions.Entry.{Entry}
-use Rattle.weighted_automata.specs.Entries.{entry_at}
+use Rattle.weighted_automata.specs.Entries.{entry_at, index_at}
 use Rattle.witness_graph.specs.declared.node.Node.{Node}
 use Rattle.witness_graph.specs.declared.node.Node.TheVariants.{Start}
 use Rattle.witness_graph.specs.declared.node.Side.{Side}
@@ -18,26 +19,26 @@ use Rattle.config_patterns.specs.Membership.{PatternValue, has_member}
 use Rattle.pushdown_rules.specs.Pushdown.{Pushdown, IsSystem}
 use Rattle.pushdown_rules.specs.Values.{value_of}
 use Rattle.pushdown_rules.specs.Answers.{Answers}
+use Rattle.pushdown_rules.proofs.CallerLemmas.{value_fits}
 use Rattle.saturation_laws.specs.declared.opening.Opening.{Opening}
 use Rattle.saturation_laws.specs.Openings.{AreKept}
 use Rattle.saturation_laws.specs.States.{CoreState, weight_of, weight_at}
 use Rattle.path_sum.specs.declared.answer.Answer.{Answer}
-use Rattle.path_sum.specs.Sums.{ways_of, answer_place}
+use Rattle.path_sum.specs.Sums.{ways_of, answer_place, bare_sum}
 use Rattle.path_sum.specs.private.Paths.{SumRun, IsSummable, IsQuery, answer_runs, listed}
 use Rattle.path_sum.specs.private.Inputs.{SumInputValue}
-use Rattle.path_sum.specs.private.Work.{sum_places}
+use Rattle.path_sum.specs.private.Work.{moves_of, sum_places}
+use Rattle.path_sum.specs.private.Growing.{IsReady, GrowsBy}
 use Rattle.path_sum.specs.Pairs.{states_of}
 use Rattle.path_sum.specs.Saturated.{IsSaturatedAutomaton}
 use Rattle.path_sum.specs.Answers.{first_of, last_of, AnswersOpening, listed_runs, IsListingOf, IsGrownAnswer}
 use Rattle.path_sum.specs.Results.{IsSumOver}
 use Rattle.path_sum.proofs.AddedLemmas.{grown_begins}
 use Rattle.path_sum.proofs.EntryLemmas.{present_here}
-use Rattle.path_sum.proofs.FollowedLemmas.{all_are}
-use Rattle.path_sum.proofs.WalkLemmas.{summable as part_summable, kept_at as part_kept_at}
 use Rattle.path_sum.proofs.GrowingLemmas.{IsSum}
 use Rattle.path_sum.proofs.BookLemmas.{finished_answers}
 use Rattle.path_sum.specs.private.Rounds.{IsUnderWay, input_of}
-use Rattle.path_sum.proofs.RoundLemmas.{sum_good, ended, few_nodes}
+use Rattle.path_sum.proofs.RoundLemmas.{left_of, past, sum_good, begun, front_ready, round_keeps, round_falls, ended, all_kept, few_nodes}
 use Rattle.path_sum.proofs.PlaceLemmas.{places_count}
 use Rattle.path_sum.proofs.MemberLemmas.{members_way}
 use Rattle.saturation_laws.specs.Ways.{Way, HasPathSums}
@@ -55,15 +56,45 @@ module _ {S W Map D : Type 0} {operations : S → Operations W Map} (laws : (x :
   abbrev side : Side
   side = (way.tables d p).side
 
-  -- no state is left out
   abbrev pub input : SumInputValue S W Map
-  input = input_of operations way p d o ts nodes pattern 0 0
+  input = input_of operations way p d o ts nodes pattern
+
+  -- what the code goes over
+  pub input_is : (t : SumInputValue S W Map) (m : S) (sd : Side) → t ≡ record { semiring = m; side = sd; opening = o; transitions = ts; pattern = pattern } → m ≡ p.semiring → side ≡ sd → t ≡ input
+  input_is t m sd is same goes =
+      let of : S → Side → SumInputValue S W Map = λ n b. record { semiring = n; side = b; opening = o; transitions = ts; pattern = pattern } in
+      is ∙ ap (λ n. of n sd) same ∙ ap (of p.semiring) (sym goes)
 
   pub summable : IsSummable s (value_of s p) p (way.runs d p o) input nodes
-  summable = part_summable laws valid is sums pattern control 0 0 (all_are ts is.shape.places)
+  summable = record { fits = value_fits valid (laws p.semiring); control = control; gives = sums.gives; sound = is.sound; shape = is.shape }
+
+  -- the rounds, as the code sees them
+  pub begun_at : (t : SumInputValue S W Map) → t ≡ input → (st : CoreState S W Map) → st ≡ bare_sum (operations t.semiring) t.side nodes (ways_of t.pattern) → IsUnderWay s input nodes st
+  begun_at t e st is =
+      let P : SumInputValue S W Map → Type 0 = λ u. st ≡ bare_sum (operations u.semiring) u.side nodes (ways_of u.pattern) in
+      begun (laws p.semiring) (value_of s p) p (way.runs d p o) input nodes summable st (subst P e is)
+
+  pub ready_at : (t : SumInputValue S W Map) → t ≡ input → (st mid : CoreState S W Map) (k : ℕ) (x : Place) (q : List Place) → IsUnderWay s input nodes st → mid ≡ past st q → index_at x mid.transitions ≡ Some k
+      → IsReady (operations t.semiring) t.transitions k x mid
+  ready_at t e st mid k x q now taken at =
+      let P : SumInputValue S W Map → Type 0 = λ u. IsReady (operations u.semiring) u.transitions k x mid in
+      let Q : CoreState S W Map → Type 0 = λ m. index_at x m.transitions ≡ Some k in
+      let R : CoreState S W Map → Type 0 = IsReady s input.transitions k x in
+      subst P (sym e) (subst R (sym taken) (front_ready (laws p.semiring) (value_of s p) p (way.runs d p o) input nodes summable st k x q now (subst Q taken at)))
+
+  pub round_at : (t : SumInputValue S W Map) → t ≡ input → (st mid new : CoreState S W Map) (x : Place) (q : List Place) → IsUnderWay s input nodes st → mid ≡ past st q → st.queue ≡ x ∷ q
+      → GrowsBy operations t (moves_of t.opening (ways_of t.pattern) t.transitions x) mid new
+      → IsUnderWay s input nodes new × (left_of s input nodes new < left_of s input nodes st)
+  round_at t e st mid new x q now taken front drawn =
+      let P : SumInputValue S W Map → Type 0 = λ u. GrowsBy operations u (moves_of u.opening (ways_of u.pattern) u.transitions x) mid new in
+      let Q : CoreState S W Map → Type 0 = λ m. GrowsBy operations input (moves_of input.opening (ways_of input.pattern) input.transitions x) m new in
+      let at : Q (past st q) = subst Q taken (subst P e drawn) in (
+        round_keeps (laws p.semiring) (value_of s p) p (way.runs d p o) input nodes summable st new x q now front at,
+        round_falls (laws p.semiring) (value_of s p) p (way.runs d p o) input nodes summable st new x q now front at,
+      )
 
   pub kept_at : (st : CoreState S W Map) → IsUnderWay s input nodes st → AreKept s st.transitions (length st.nodes)
-  kept_at st now = part_kept_at laws valid is sums pattern control 0 0 (all_are ts is.shape.places) st now
+  kept_at st now = all_kept (laws p.semiring) (value_of s p) p (way.runs d p o) input nodes summable st now
 
   module _ (st : CoreState S W Map) (now : IsUnderWay s input nodes st) (empty : st.queue ≡ []) (a : Answer S W Map)
       (value_is : a.value ≡ weight_at s answer_place st.transitions) (added : List Node) (nodes_are : st.nodes ≡ nodes ++ added)
@@ -79,7 +110,7 @@ module _ {S W Map D : Type 0} {operations : S → Operations W Map} (laws : (x :
     answer_answers : AnswersOpening s side p o (has_member pattern) a.value (listed_runs a.listing)
     answer_answers far far_is =
         let query : IsQuery p o (ways_of pattern) (has_member pattern) far = record { near_is = members_way pattern; far_is = far_is } in
-        let found = finished_answers operations laws way p valid d o ts nodes is sums (ways_of pattern) control (has_member pattern) far query ts (all_are ts is.shape.places) (λ c v met. met) st now.grown
+        let found = finished_answers operations laws way p valid d o ts nodes is sums (ways_of pattern) control (has_member pattern) far query st now.grown
         (ended (laws p.semiring) (value_of s p) p (way.runs d p o) input nodes summable st now empty) in
         let P : W → Type 0 = λ v. Answers s p (first_of side (has_member pattern) far) (last_of side (has_member pattern) far) v (answer_runs side st) in
         let Q : List (List ℕ) → Type 0 = Answers s p (first_of side (has_member pattern) far) (last_of side (has_member pattern) far) a.value in

@@ -20,14 +20,4 @@ mod MemberLemmas
 mod FinishedLemmas
 mod ExistLemmas
 mod EndsLemmas
-mod FollowedLemmas
 mod ReadLemmas
-mod WalkLemmas
-mod SplitLemmas
-mod SettlingLemmas
-mod HeadLemmas
-mod WalkedLemmas
-mod ValueLemmas
-mod ThroughLemmas
-mod OverLemmas
-mod TopLemmas

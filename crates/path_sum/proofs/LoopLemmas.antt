@@ -1,6 +1,6 @@
 -- The moves of a pair, one after another.
-use Rattle.std.proofs.Common.{◌≡◌, ℕ, ◌+◌, List, [], ◌∷◌, ◌++◌, map, true, false, drop, refl, sym, ap, ◌∙◌}
-use Rattle.std.specs.Prelude.{Option, None, Some, not, cond, slice_get, option_and_then}
+use Rattle.std.proofs.Common.{◌≡◌, ℕ, ◌+◌, List, [], ◌∷◌, ◌++◌, map, drop, sym, ap, ◌∙◌}
+use Rattle.std.specs.Prelude.{Option, None, Some, cond, slice_get, option_and_then}
 use Rattle.std.specs.List.{All}
 use Rattle.std.proofs.lemmas.Bool.{eq-eqb}
 use Rattle.semiring_laws.specs.Semiring.{Operations}
@@ -16,9 +16,7 @@ use Rattle.saturation_laws.specs.States.{CoreState}
 use Rattle.saturation_core.proofs.CallerLemmas.{drop_at}
 use Rattle.path_sum.specs.Sums.{Ways, edge_place, Move, move, grow}
 use Rattle.path_sum.proofs.ItemLemmas.{HasSet, by_items, on_step}
-use Rattle.path_sum.specs.Values.{is_left_out}
-use Rattle.path_sum.specs.private.Inputs.{followed}
-use Rattle.path_sum.specs.private.Work.{edge_moves, into_moves, on_moves, back_moves, item_at, moves_by, followed_moves, pair_moves, end_moves, moves_of}
+use Rattle.path_sum.specs.private.Work.{edge_moves, into_moves, on_moves, back_moves, item_at, moves_by, pair_moves, end_moves, moves_of}
 
 module _ {S W Map : Type 0} (s : Operations W Map) (side : Side) (o : Opening) (ts : List (Entry S W Map)) (ways : Ways) where
   abbrev growing : CoreState S W Map → List Move → Option (CoreState S W Map)
@@ -48,27 +46,14 @@ module _ {S W Map : Type 0} (s : Operations W Map) (side : Side) (o : Opening) (
   edges_made i g x items now mid new sets first second =
       ap (growing now) (by_items i g x items sets) ∙ grow_on (back_moves i g x (item_at i items)) (on_moves i g x (i + 1) (drop i items)) now mid first ∙ second
 
-  -- the moves by a transition of the state, and those behind it
-  first_moves : (low high i q : ℕ) (t : Entry S W Map) (us : List (Entry S W Map)) → t.place.from ≡ q
-      → pair_moves o ways i q (followed low high (t ∷ us)) ≡ followed_moves o ways low high i t ++ pair_moves o ways i q (followed low high us)
-  first_moves low high i q t us from =
-      let vs = followed low high us in
-      let rest = pair_moves o ways i q vs in
-      let here = moves_by o ways i t in
-      elim (is_left_out low high t.place.to) as (λ b. pair_moves o ways i q (cond (not b) (t ∷ vs) vs) ≡ cond b [] here ++ rest) [
-        | true ↦ refl
-        | false ↦ ap (λ b. cond b (here ++ rest) rest) (eq-eqb t.place.from q from)
-      ]
-
   -- one transition more
-  pub pair_more : (low high i q k : ℕ) (us : List (Entry S W Map)) (t : Entry S W Map) (now new : CoreState S W Map) (all : Option (CoreState S W Map)) → slice_get us k ≡ Some t → t.place.from ≡ q
-      → growing now (pair_moves o ways i q (followed low high (drop k us))) ≡ all → growing now (followed_moves o ways low high i t) ≡ Some new
-      → growing new (pair_moves o ways i q (followed low high (drop (k + 1) us))) ≡ all
-  pair_more low high i q k us t now new all there from was made =
-      let rest = pair_moves o ways i q (followed low high (drop (k + 1) us)) in
-      sym (grow_on (followed_moves o ways low high i t) rest now new made)
-      ∙ sym (ap (growing now) (first_moves low high i q t (drop (k + 1) us) from))
-      ∙ sym (ap (λ vs. growing now (pair_moves o ways i q (followed low high vs))) (drop_at us k t there)) ∙ was
+  pub pair_more : (i q k : ℕ) (us : List (Entry S W Map)) (t : Entry S W Map) (now new : CoreState S W Map) (all : Option (CoreState S W Map)) → slice_get us k ≡ Some t → t.place.from ≡ q
+      → growing now (pair_moves o ways i q (drop k us)) ≡ all → growing now (moves_by o ways i t) ≡ Some new → growing new (pair_moves o ways i q (drop (k + 1) us)) ≡ all
+  pair_more i q k us t now new all there from was made =
+      let rest = pair_moves o ways i q (drop (k + 1) us) in
+      sym (grow_on (moves_by o ways i t) rest now new made)
+      ∙ sym (ap (λ b. growing now (cond b (moves_by o ways i t ++ rest) rest)) (eq-eqb t.place.from q from))
+      ∙ sym (ap (λ vs. growing now (pair_moves o ways i q vs)) (drop_at us k t there)) ∙ was
 
   -- all that goes on from a pair
   pub drawn_all : (x : Place) (now mid new : CoreState S W Map) → x.label ≡ Empty → growing now (pair_moves o ways x.from x.to ts) ≡ Some mid → growing mid (end_moves o ways x.from x.to) ≡ Some new

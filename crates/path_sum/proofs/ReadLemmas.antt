@@ -1,6 +1,6 @@
 -- Where the pattern reads one label alone, the moves of a pair are those over the rows of that label and of nothing.
-use Rattle.std.proofs.Common.{◌≡◌, inl, inr, ℕ, suc, ◌+◌, ◌≤◌, Bool, true, false, zero, List, [], ◌∷◌, ◌++◌, cond, drop, length, refl, sym, ap, ap₂, ◌∙◌, arith}
-use Rattle.std.specs.Prelude.{Option, None, Some, not, ◌&&◌, ◌||◌, nat_eq, slice_get}
+use Rattle.std.proofs.Common.{◌≡◌, inl, inr, ℕ, suc, ◌+◌, ◌≤◌, true, false, zero, List, [], ◌∷◌, ◌++◌, cond, drop, length, refl, sym, ap, ap₂, ◌∙◌, arith}
+use Rattle.std.specs.Prelude.{Option, None, Some, ◌&&◌, ◌||◌, nat_eq, slice_get}
 use Rattle.std.proofs.lemmas.Bool.{and_parts, or_cases, cond-true, eqb-true, eq-eqb, ne_eqb}
 use Rattle.key_rows.specs.Rows.{index_from}
 use Rattle.pushdown_rules.proofs.CallerLemmas.{by_number, index_found}
@@ -15,16 +15,10 @@ use Rattle.weighted_automata.specs.Places.{same_label}
 use Rattle.weighted_automata.specs.Entries.{is_from}
 use Rattle.saturation_laws.specs.declared.opening.Opening.{Opening}
 use Rattle.path_sum.specs.Sums.{Ways, ways_of, Move, Along}
-use Rattle.path_sum.specs.Values.{is_left_out}
-use Rattle.path_sum.specs.private.Inputs.{followed}
-use Rattle.path_sum.specs.private.Work.{edge_moves, into_moves, on_moves, back_moves, item_at, moves_by, followed_moves, pair_moves, ReadsAlone}
+use Rattle.path_sum.specs.private.Work.{edge_moves, into_moves, on_moves, back_moves, item_at, moves_by, pair_moves, ReadsAlone}
 use Rattle.path_sum.proofs.ItemLemmas.{by_items, on_step, sets_of}
 
 -- ---- over the rows
-
-no_moves : (b : Bool) (ms : List Move) → ms ≡ [] → cond b [] ms ≡ []
-no_moves true ms none = refl
-no_moves false ms none = none
 
 same_is : (l m : Label) → same_label l m ≡ true → l ≡ m
 same_is (Symbol a) (Symbol b) h = ap Symbol (eqb-true a b h)
@@ -50,27 +44,22 @@ module _ {S W Map : Type 0} where
       goes found.item found.there
       ∙ ap₂ (λ n l. index_from (is_from {S = S} {W = W} {Map = Map} n l) (k + 1) ts) (eqb-true found.item.place.from q parts.0) (same_is found.item.place.label label parts.1)
 
-module _ {S W Map : Type 0} (o : Opening) (ways : Ways) (low high i q : ℕ) where
+module _ {S W Map : Type 0} (o : Opening) (ways : Ways) (i q : ℕ) where
   -- the moves by one transition
   abbrev pub one_by : ℕ → Entry S W Map → List Move
-  one_by k t = cond (nat_eq t.place.from q) (followed_moves o ways low high i t) []
+  one_by k t = cond (nat_eq t.place.from q) (moves_by o ways i t) []
 
-  pub one_here : (k : ℕ) (t : Entry S W Map) → t.place.from ≡ q → one_by k t ≡ followed_moves o ways low high i t
-  one_here k t from = cond-true (nat_eq t.place.from q) (followed_moves o ways low high i t) [] (eq-eqb t.place.from q from)
+  pub one_here : (k : ℕ) (t : Entry S W Map) → t.place.from ≡ q → one_by k t ≡ moves_by o ways i t
+  one_here k t from = cond-true (nat_eq t.place.from q) (moves_by o ways i t) [] (eq-eqb t.place.from q from)
 
   -- the moves by all are those by each
-  pub by_each : (n : ℕ) (ts : List (Entry S W Map)) → pair_moves o ways i q (followed low high ts) ≡ by_number one_by n ts
+  pub by_each : (n : ℕ) (ts : List (Entry S W Map)) → pair_moves o ways i q ts ≡ by_number one_by n ts
   by_each n [] = refl
   by_each n (t ∷ ts) =
-      let us = followed low high ts in
-      let rest = pair_moves o ways i q us in
+      let rest = pair_moves o ways i q ts in
       let here = moves_by o ways i t in
-      let goes = nat_eq t.place.from q in
-      let first : pair_moves o ways i q (followed low high (t ∷ ts)) ≡ one_by n t ++ rest =
-      elim (is_left_out low high t.place.to) as (λ b. pair_moves o ways i q (cond (not b) (t ∷ us) us) ≡ cond goes (cond b [] here) [] ++ rest) [
-        | true ↦ elim goes as (λ c. rest ≡ cond c [] [] ++ rest) [ true ↦ refl | false ↦ refl ]
-        | false ↦ elim goes as (λ c. cond c (here ++ rest) rest ≡ cond c here [] ++ rest) [ true ↦ refl | false ↦ refl ]
-      ] in
+      let first : pair_moves o ways i q (t ∷ ts) ≡ one_by n t ++ rest =
+      elim (nat_eq t.place.from q) as (λ c. cond c (here ++ rest) rest ≡ cond c here [] ++ rest) [ true ↦ refl | false ↦ refl ] in
       first ∙ ap (λ ms. one_by n t ++ ms) (by_each (suc n) ts)
 
   module _ (label : Label) (alone : ReadsAlone ways.edges i label) where
@@ -84,8 +73,8 @@ module _ {S W Map : Type 0} (o : Opening) (ways : Ways) (low high i q : ℕ) whe
 
     pub none_else : (k : ℕ) (t : Entry S W Map) → is_from q label t ≡ false → is_from q Empty t ≡ false → one_by k t ≡ []
     none_else k t e f =
-        elim (nat_eq t.place.from q) as (λ b. (b && same_label t.place.label label) ≡ false → (b && same_label t.place.label Empty) ≡ false → cond b (followed_moves o ways low high i t) [] ≡ []) [
-          | true ↦ λ a b. no_moves (is_left_out low high t.place.to) (moves_by o ways i t) (other_label t a b)
+        elim (nat_eq t.place.from q) as (λ b. (b && same_label t.place.label label) ≡ false → (b && same_label t.place.label Empty) ≡ false → cond b (moves_by o ways i t) [] ≡ []) [
+          | true ↦ λ a b. other_label t a b
           | false ↦ λ a b. refl
         ] e f
 

@@ -1,6 +1,6 @@
--- The moves of a pair, from one transition of its state to the next, by those that are followed.
+-- The moves of a pair, from one transition of its state to the next.
 use Rattle.std.proofs.Common.{◌≡◌, ℕ, ◌+◌, ◌-◌, ◌<◌, Bool, true, false, List, [], ◌∷◌, ◌++◌, drop, length, refl, sym, ap, ◌∙◌, subst, arith}
-use Rattle.std.specs.Prelude.{suc, Option, None, Some, not, cond, nat_eq, option_map, slice_get}
+use Rattle.std.specs.Prelude.{suc, Option, None, Some, cond, nat_eq, option_map, slice_get}
 use Rattle.std.proofs.lemmas.Bool.{eqb-true}
 use Rattle.std.proofs.lemmas.Option.{same_Some, slice_get_within}
 use Rattle.std.proofs.lemmas.List.{drop-drop}
@@ -10,50 +10,39 @@ use Rattle.weighted_automata.specs.declared.transitions.Entry.{Entry}
 use Rattle.weighted_automata.specs.Entries.{is_out_of}
 use Rattle.saturation_laws.specs.declared.opening.Opening.{Opening}
 use Rattle.path_sum.specs.Sums.{Ways, Move}
-use Rattle.path_sum.specs.Values.{is_left_out}
-use Rattle.path_sum.specs.private.Inputs.{followed}
 use Rattle.path_sum.specs.private.Work.{moves_by, pair_moves}
 
-module _ {S W Map : Type 0} (o : Opening) (ways : Ways) (low high i q : ℕ) where
+module _ {S W Map : Type 0} (o : Opening) (ways : Ways) (i q : ℕ) where
   -- the moves from a transition on, and none where there is none
   abbrev pub given : Option ℕ → List (Entry S W Map) → List Move
-  given at ts = elim at [ None ↦ [] | Some k ↦ pair_moves o ways i q (followed low high (drop k ts)) ]
+  given at ts = elim at [ None ↦ [] | Some k ↦ pair_moves o ways i q (drop k ts) ]
 
-  -- a transition of another state has no moves
-  passed : (t : Entry S W Map) (ts : List (Entry S W Map)) → nat_eq t.place.from q ≡ false → pair_moves o ways i q (followed low high (t ∷ ts)) ≡ pair_moves o ways i q (followed low high ts)
-  passed t ts other =
-      let us = followed low high ts in
-      let rest = pair_moves o ways i q us in
-      elim (is_left_out low high t.place.to) as (λ b. pair_moves o ways i q (cond (not b) (t ∷ us) us) ≡ rest) [
-        | true ↦ refl
-        | false ↦ ap (λ b. cond b (moves_by o ways i t ++ rest) rest) other
-      ]
-
-  skip : (ts : List (Entry S W Map)) → pair_moves o ways i q (followed low high ts) ≡ given (index_where (is_out_of q) ts) ts
+  skip : (ts : List (Entry S W Map)) → pair_moves o ways i q ts ≡ given (index_where (is_out_of q) ts) ts
   skip [] = refl
   skip (t ∷ ts) =
-      let all = pair_moves o ways i q (followed low high (t ∷ ts)) in
+      let rest = pair_moves o ways i q ts in
+      let here = moves_by o ways i t in
       let next : Option ℕ = option_map (λ k. k + 1) (index_where (is_out_of q) ts) in
-      elim (nat_eq t.place.from q) as (λ b. nat_eq t.place.from q ≡ b → all ≡ given (cond b (Some 0) next) (t ∷ ts)) [
-        | true ↦ λ is. refl
-        | false ↦ λ is. passed t ts is ∙ skip ts ∙ elim (index_where (is_out_of q) ts) as (λ a. given a ts ≡ given (option_map (λ k. k + 1) a) (t ∷ ts)) [
+      elim (nat_eq t.place.from q) as (λ b. nat_eq t.place.from q ≡ b → cond b (here ++ rest) rest ≡ given (cond b (Some 0) next) (t ∷ ts)) [
+        | true ↦ λ is. sym (ap (λ b. cond b (here ++ rest) rest) is)
+        | false ↦ λ _. skip ts ∙ elim (index_where (is_out_of q) ts) as (λ a. given a ts ≡ given (option_map (λ k. k + 1) a) (t ∷ ts)) [
           | None ↦ refl
-          | Some k ↦ let more : suc k ≡ k + 1 = omega arith in ap (λ n. pair_moves o ways i q (followed low high (drop n (t ∷ ts)))) more
+          | Some k ↦ let more : suc k ≡ k + 1 = omega arith in ap (λ n. pair_moves o ways i q (drop n (t ∷ ts))) more
         ]
       ] refl
 
   -- the same from a transition on
-  pub skip_from : (n : ℕ) (ts : List (Entry S W Map)) → pair_moves o ways i q (followed low high (drop n ts)) ≡ given (index_from (is_out_of q) n ts) ts
+  pub skip_from : (n : ℕ) (ts : List (Entry S W Map)) → pair_moves o ways i q (drop n ts) ≡ given (index_from (is_out_of q) n ts) ts
   skip_from n ts = skip (drop n ts) ∙ elim (index_where (is_out_of q) (drop n ts)) as (λ a. given a (drop n ts) ≡ given (option_map (λ k. k + n) a) ts) [
     | None ↦ refl
-    | Some k ↦ let same : n + k ≡ k + n = omega arith in ap (λ us. pair_moves o ways i q (followed low high us)) (drop-drop k n ts) ∙ ap (λ m. pair_moves o ways i q (followed low high (drop m ts))) same
+    | Some k ↦ let same : n + k ≡ k + n = omega arith in ap (pair_moves o ways i q) (drop-drop k n ts) ∙ ap (λ m. pair_moves o ways i q (drop m ts)) same
   ]
 
   -- where a transition of the state stands, its moves and those behind it are all that are left
-  pub row_left : (n k : ℕ) (ts : List (Entry S W Map)) → index_from (is_out_of q) n ts ≡ Some k → pair_moves o ways i q (followed low high (drop n ts)) ≡ pair_moves o ways i q (followed low high (drop k ts))
+  pub row_left : (n k : ℕ) (ts : List (Entry S W Map)) → index_from (is_out_of q) n ts ≡ Some k → pair_moves o ways i q (drop n ts) ≡ pair_moves o ways i q (drop k ts)
   row_left n k ts at = skip_from n ts ∙ ap (λ a. given a ts) at
 
-  pub row_ended : (n : ℕ) (ts : List (Entry S W Map)) → index_from (is_out_of q) n ts ≡ None → pair_moves o ways i q (followed low high (drop n ts)) ≡ []
+  pub row_ended : (n : ℕ) (ts : List (Entry S W Map)) → index_from (is_out_of q) n ts ≡ None → pair_moves o ways i q (drop n ts) ≡ []
   row_ended n ts at = skip_from n ts ∙ ap (λ a. given a ts) at
 
 module _ {S W Map : Type 0} (q n k : ℕ) (ts : List (Entry S W Map)) (at : index_from (is_out_of q) n ts ≡ Some k) where

@@ -30,14 +30,13 @@ use Rattle.saturation_laws.specs.Directions.{AreRuns}
 use Rattle.saturation_laws.specs.Invariants.{IsSound, HasShape}
 use Rattle.witness_graph.specs.Nodes.{AreNodes, is_orderly}
 use Rattle.witness_graph.specs.Tight.{IsTightNode}
-use Rattle.saturation_laws.specs.Paths.{IsPath, EachRun, IsOpened, Joins, IsMet, IsSaturated, IsGiven, HasSums}
+use Rattle.saturation_laws.specs.Paths.{IsPath, EachRun, IsOpened, Joins, IsSaturated, IsGiven, HasSums}
 use Rattle.saturation_laws.proofs.CallerLemmas.{get_push, IsSoundChange, weights_fit, tight_same, apply_keeps}
 use Rattle.path_sum.specs.Sums.{Ways, pair_place, answer_place, can_move, has_state, Move, Along, End, Done, along_change, end_change, move, grow, bare_sum, IsGrown}
 use Rattle.path_sum.specs.private.Paths.{HasWay, Moves, AnswerRun, SumRun, IsQuery, listed, answer_runs}
 use Rattle.path_sum.specs.private.Work.{IsSummed}
 use Rattle.pushdown_rules.specs.Answers.{Leads, Answers}
 use Rattle.path_sum.specs.Answers.{first_of, last_of}
-use Rattle.path_sum.proofs.FollowedLemmas.{ArePart}
 use Rattle.path_sum.proofs.PairLemmas.{met_below}
 use Rattle.path_sum.proofs.GrowingLemmas.{can_move_is, has_state_is, IsSum, along_sound, end_sound}
 
@@ -240,17 +239,9 @@ module _ {S W Map : Type 0} {s : Operations W Map} (laws : IsSemiring s) (p : Pu
   joins_of Pre run leads = (leads.0, leads.1, (query.near_is leads.0).0 leads.2, (query.far_is leads.1).0 leads.3, leads.4)
   joins_of Post run leads = (leads.1, leads.0, (query.near_is leads.1).0 leads.3, (query.far_is leads.0).0 leads.2, leads.4)
 
-  -- a sum over some of the transitions, along which each configuration is met that is met along all
-  module _ (us : List (Entry S W Map)) (part : ArePart us ts) (still : (c : Configuration) (v : W) → IsMet s side o.finals ts c v → IsMet s side o.finals us c v)
-      (st : CoreState S W Map) (grown : IsGrown s side o us nodes ways st) (summed : IsSummed s side o us ways st.transitions) where
-    part_sound : (t : Entry S W Map) → Present us t → IsSound s value runs side nodes t
-    part_sound t there = sound t (part.there t.place t there)
-
-    part_fit : (t : Entry S W Map) → Present us t → Fits s t.weight
-    part_fit t there = saturated.fit t (part.there t.place t there)
-
+  module _ (st : CoreState S W Map) (grown : IsGrown s side o ts nodes ways st) (summed : IsSummed s side o ts ways st.transitions) where
     good : IsSum s value (SumRun p side o ways runs) side ways nodes st
-    good = grown_good laws value fits_value p side o ways runs control laws_on_sums.gives us nodes part_sound shape st grown
+    good = grown_good laws value fits_value p side o ways runs control laws_on_sums.gives ts nodes sound shape st grown
 
     answer_is : (e : Option (Entry S W Map)) → entry_at answer_place st.transitions ≡ e
         → AllByRecursion (AnswerRun p side o ways runs) (listed side st e) × (weight_of s e ≡ combination s (map value (listed side st e)))
@@ -271,9 +262,8 @@ module _ {S W Map : Type 0} {s : Operations W Map} (laws : IsSemiring s) (p : Pu
         let low : j.0.control < p.controls = let Q : ℕ → Type 0 = λ n. n < p.controls in subst Q (sym j.2.0) control in
         elim (cases_Bool (s.same v s.zero)) [
           | inl e ↦ subst P (sym (decides.0 e)) (below_zero laws (weight_at s answer_place st.transitions) (fit answer_place))
-          | inr e ↦
-              let met = laws_on_sums.met ts saturated run j.0 j.1 low j.3.1 j.4 j.3.0 (λ z. let f : true ≡ false = sym (decides.1 z) ∙ e in cc) in
-              met_below laws side o us ways st.transitions part_fit fit good.opens summed j.0 v (fits_value run) j.2 (still j.0 v met)
+          | inr e ↦ met_below laws side o ts ways st.transitions saturated.fit fit good.opens summed j.0 v (fits_value run) j.2
+              (laws_on_sums.met ts saturated run j.0 j.1 low j.3.1 j.4 j.3.0 (λ z. let f : true ≡ false = sym (decides.1 z) ∙ e in cc))
         ]
 
     -- the sum answers the query, with the runs of the answer's node

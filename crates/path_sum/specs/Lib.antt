@@ -4,6 +4,4 @@ pub mod Saturated
 pub mod Pairs
 pub mod Results
 pub mod Values
-pub mod Tails
-pub mod Tops
 pub mod private

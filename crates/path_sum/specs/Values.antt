@@ -1,23 +1,14 @@
 -- The values of sums that go over one walk, to several sets of final states.
-use Rattle.std.specs.Prelude.{ℕ, Bool, IsTrue, ◌&&◌, nat_le, nat_lt, List, [], ◌∷◌}
+use Rattle.std.specs.Prelude.{ℕ, List, [], ◌∷◌}
 use Rattle.config_patterns.specs.Membership.{PatternValue, has_member}
 use Rattle.saturation_laws.specs.declared.opening.Opening.{Opening}
 use Rattle.pushdown_rules.specs.Pushdown.{Pushdown}
 use Rattle.saturation_laws.specs.Ways.{Way}
 use Rattle.semiring_laws.specs.Semiring.{Operations}
-use Rattle.weighted_automata.specs.Entries.{Present}
 use Rattle.weighted_automata.specs.declared.transitions.Entry.{Entry}
 use Rattle.witness_graph.specs.declared.node.Node.{Node}
 use Rattle.path_sum.specs.Answers.{AnswersOpening}
 use Rattle.path_sum.specs.Saturated.{IsSaturatedAutomaton}
-
--- the state is left out: it is one of those from the first number up to the second, without it
-abbrev pub is_left_out : ℕ → ℕ → ℕ → Bool
-is_left_out low high q = nat_le low q && nat_lt q high
-
--- what goes on from a state that is left out leads to such a state again
-abbrev pub StayOut : {S W Map : Type 0} → ℕ → ℕ → List (Entry S W Map) → Type 0
-StayOut low high ts = (t : Entry _ _ _) → Present ts t → IsTrue (is_left_out low high t.place.from) → IsTrue (is_left_out low high t.place.to)
 
 -- an opening's edges, with these final states
 abbrev pub with_finals : Opening → List ℕ → Opening

@@ -6,6 +6,3 @@ pub mod Growing
 pub mod Lookups
 pub mod Ends
 pub mod Rounds
-pub mod Settling
-pub mod Heads
-pub mod Over

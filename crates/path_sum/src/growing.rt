@@ -1,4 +1,4 @@
-ghost use Rattle.std.specs.Prelude.{ℕ, ◌≡◌, ◌<◌, ◌≤◌, ◌+◌, ◌++◌, nat_eq, None, Some, IfOk, OnOk, IfSome, IsTrue, IsFalse, length, drop, slice_get, if◌then◌else◌, [], ◌∷◌};
+ghost use Rattle.std.specs.Prelude.{ℕ, ◌≡◌, ◌<◌, ◌≤◌, ◌+◌, ◌++◌, nat_eq, None, Some, IfOk, OnOk, IfSome, IsTrue, length, drop, slice_get, if◌then◌else◌, [], ◌∷◌};
 ghost use Rattle.config_patterns.specs.declared.item.Item.{Item as ItemValue};
 ghost use Rattle.wpds_base.specs.Limits.{most_items};
 ghost use Rattle.semiring_laws.specs.Semiring.{Fits};
@@ -11,8 +11,7 @@ ghost use Rattle.saturation_laws.specs.Openings.{AreKept};
 ghost use Rattle.saturation_laws.specs.Paths.{in_order};
 ghost use Rattle.path_sum.specs.private.Growing.{CanDraw, MovesBy, GrowsBy, given, state_of};
 ghost use Rattle.path_sum.specs.Sums.{bare_sum, ways_of, pair_place, can_move, first_part, second_part, Along};
-ghost use Rattle.path_sum.specs.Values.{is_left_out};
-ghost use Rattle.path_sum.specs.private.Work.{edge_moves, into_moves, on_moves, back_moves, item_at, HaveMoves, moves_by, followed_moves, pair_moves, end_moves, moves_of, ReadsAlone};
+ghost use Rattle.path_sum.specs.private.Work.{edge_moves, into_moves, on_moves, back_moves, item_at, HaveMoves, moves_by, pair_moves, end_moves, moves_of, ReadsAlone};
 
 use crate::change::apply_parts;
 use crate::sum_input::SumInput;
@@ -318,35 +317,7 @@ impl<'g, S: Semiring> Growing<'g, S> {
         }
     }
 
-    // Goes along a transition from a pair with its source, if it leads to no state that is left out.
-    fn follow_kept(
-        &mut self,
-        alloc: Global,
-        input: &SumInput<S>,
-        number: u32,
-        i: u32,
-        transition: &Entry<S>,
-    ) -> Result<(), OutOfMemory>
-        requires ready { CanDraw S.operations input.now number
-            (pair_place i transition.now.place.from) (state_of self.old) }
-        requires there { let x = transition.now.place in
-            IsFalse (is_left_out input.now.low input.now.high x.to) →
-            Present input.now.transitions transition.now }
-        ensures grows { OnOk result (GrowsBy S.operations input.now
-            (followed_moves input.now.opening (ways_of input.now.pattern) input.now.low
-            input.now.high i transition.now)
-            (state_of self.old) (state_of self.new)) }
-        ensures ready { OnOk result (CanDraw S.operations input.now number
-            (pair_place i transition.now.place.from) (state_of self.new)) }
-        ensures graph { self.new.nodes.graph ≡ self.old.nodes.graph }
-    {
-        if input.leaves_out(transition.place.to) {
-            return Ok(());
-        }
-        self.follow_any(alloc, input, number, i, transition)
-    }
-
-    // Goes along each transition from a pair that is followed, over the row of all that go from its state.
+    // Goes along each transition from a pair, over the row of all that go from its state.
     fn follow_row(
         &mut self,
         alloc: Global,
@@ -367,7 +338,7 @@ impl<'g, S: Semiring> Growing<'g, S> {
         let transitions = input.transitions();
         let mut at = transitions.first_out_of(state);
         while let Some(k) = at {
-            self.follow_kept(alloc, input, number, i, transitions.entry(k))?;
+            self.follow_any(alloc, input, number, i, transitions.entry(k))?;
             at = transitions.next_out_of(k);
         }
         Ok(())
@@ -397,14 +368,14 @@ impl<'g, S: Semiring> Growing<'g, S> {
         let mut reading = transitions.first_from(state, label);
         let mut empty = transitions.first_from(state, Label::Empty);
         'rows: while let Some(k) = lower_index(reading, empty) {
-            self.follow_kept(alloc, input, number, i, transitions.entry(k))?;
+            self.follow_any(alloc, input, number, i, transitions.entry(k))?;
             reading = behind(transitions, reading, k);
             empty = behind(transitions, empty, k);
         }
         Ok(())
     }
 
-    // Goes along each transition from a pair that is followed: those that lead to no state that is left out.
+    // Goes along each transition from a pair.
     fn follow_all(
         &mut self,
         alloc: Global,

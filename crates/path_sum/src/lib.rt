@@ -9,16 +9,9 @@ mod laws;
 mod lookup;
 mod sum_input;
 mod summing;
-mod tails;
-mod through;
-mod tops;
 mod values;
-mod waiting;
 
 pub use answer::Answer;
-pub use laws::sums_have_answers;
+pub use laws::{finished_searches_are_saturated, sums_have_answers};
 pub use summing::{sum, sum_parts, sum_value};
-pub use tails::{Tails, tails_over};
-pub use through::sum_value_by_tails;
-pub use tops::{Tops, tops_over};
 pub use values::sum_values;

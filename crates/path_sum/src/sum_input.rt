@@ -5,8 +5,6 @@ ghost use Rattle.config_patterns.specs.Validity.{IsPattern};
 ghost use Rattle.config_patterns.specs.declared.item.Item.{Item as ItemValue};
 ghost use Rattle.weighted_automata.specs.declared.place.Label.TheVariants.{Symbol};
 ghost use Rattle.path_sum.specs.Sums.{has_state, ways_of};
-ghost use Rattle.path_sum.specs.Values.{is_left_out};
-ghost use Rattle.path_sum.specs.private.Inputs.{followed};
 ghost use Rattle.path_sum.specs.private.Work.{item_at, ReadsAlone};
 
 use crate::lookup::{Lookup, lookups_of};
@@ -19,8 +17,7 @@ use weighted_automata::{Label, Transitions};
 use witness_graph::Side;
 use wpds_base::OutOfMemory;
 
-/// What a sum goes over: transitions, the opening that they began with, and a pattern with the sets of its items. The states
-/// from `low` up to `high`, without it, are left out: no transition that leads to one is followed.
+/// What a sum goes over: transitions, the opening that they began with, and a pattern with the sets of its items.
 #[derive(Drop)]
 pub(crate) struct SumInput<'a, S: Semiring> {
     semiring: &'a S,
@@ -29,12 +26,10 @@ pub(crate) struct SumInput<'a, S: Semiring> {
     transitions: &'a Transitions<S>,
     pattern: &'a Pattern,
     lookups: Vec<Lookup>,
-    low: u32,
-    high: u32,
 }
 
 impl<'a, S: Semiring> Model for SumInput<'a, S> {
-    ghost use Rattle.path_sum.specs.private.Inputs.{SumInputValue, followed};
+    ghost use Rattle.path_sum.specs.private.Inputs.{SumInputValue};
     ghost use Rattle.path_sum.specs.private.Lookups.{AreLookups};
 
     ghost Value = { SumInputValue S S.W S.Ret };
@@ -43,18 +38,16 @@ impl<'a, S: Semiring> Model for SumInput<'a, S> {
       semiring = t.semiring.now;
       side = t.side;
       opening = t.opening.now;
-      transitions = followed t.low t.high t.transitions.now.transitions;
+      transitions = t.transitions.now.transitions;
       pattern = t.pattern.now;
-      low = t.low;
-      high = t.high;
     } };
 
     ghost invariant = { λ t. AreLookups t.lookups.items t.pattern.now.items };
 }
 
 impl<'a, S: Semiring> SumInput<'a, S> {
-    /// The input of a sum over these transitions, which read to the opening, and this pattern, without the states that are left
-    /// out. The sets of its items are made ready here, once. Refused only when out of memory.
+    /// The input of a sum over these transitions, which read to the opening, and this pattern. The sets of its items are
+    /// made ready here, once. Refused only when out of memory.
     pub(crate) fn new(
         alloc: Global,
         semiring: &'a S,
@@ -62,17 +55,13 @@ impl<'a, S: Semiring> SumInput<'a, S> {
         opening: &'a Opening,
         transitions: &'a Transitions<S>,
         pattern: &'a Pattern,
-        low: u32,
-        high: u32,
     ) -> Result<SumInput<'a, S>, OutOfMemory>
         ensures { IfOk result (λ t. t ≡ record {
           semiring = semiring.now;
           side = side;
           opening = opening.now;
-          transitions = followed low high transitions.now.transitions;
+          transitions = transitions.now.transitions;
           pattern = pattern.now;
-          low = low;
-          high = high;
         }) }
     {
         let lookups = lookups_of(alloc, pattern)?;
@@ -83,8 +72,6 @@ impl<'a, S: Semiring> SumInput<'a, S> {
             transitions,
             pattern,
             lookups,
-            low,
-            high,
         })
     }
 
@@ -102,19 +89,11 @@ impl<'a, S: Semiring> SumInput<'a, S> {
         self.side
     }
 
-    /// All transitions, also those that are not followed.
+    /// The transitions.
     pub(crate) fn transitions(&self) -> &'a Transitions<S>
-        ensures { self.now.transitions
-            ≡ followed self.now.low self.now.high result.now.transitions }
+        ensures { result.now.transitions ≡ self.now.transitions }
     {
         self.transitions
-    }
-
-    /// Whether a state of the automaton is left out.
-    pub(crate) fn leaves_out(&self, state: u32) -> bool
-        ensures { result ≡ is_left_out self.now.low self.now.high state }
-    {
-        self.low <= state && state < self.high
     }
 
     /// The control of the pattern.

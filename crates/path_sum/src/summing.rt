@@ -5,7 +5,6 @@ ghost use Rattle.saturation_laws.specs.Books.{IsClosed};
 ghost use Rattle.saturation_laws.specs.Openings.{AreKept};
 ghost use Rattle.path_sum.specs.Sums.{answer_place};
 ghost use Rattle.path_sum.specs.private.Growing.{IsShownOver, BeginsBehind, begun_of, state_of};
-ghost use Rattle.path_sum.specs.private.Inputs.{followed};
 ghost use Rattle.path_sum.specs.private.Rounds.{IsWalked};
 ghost use Rattle.path_sum.specs.Saturated.{IsSaturatedAutomaton};
 ghost use Rattle.path_sum.specs.Answers.{Shows, IsValueOf};
@@ -76,7 +75,7 @@ fn list_answer<S: Semiring>(
     }
 }
 
-/// The sum with all that goes on from its first pair, without the states that are left out: nothing waits behind it.
+/// The sum with all that goes on from its first pair: nothing waits behind it.
 pub(crate) fn walk<'g, S: Semiring, D: Direction<S>>(
     alloc: Global,
     system: &System<S>,
@@ -85,29 +84,17 @@ pub(crate) fn walk<'g, S: Semiring, D: Direction<S>>(
     transitions: &Transitions<S>,
     graph: &'g Graph,
     pattern: &Pattern,
-    low: u32,
-    high: u32,
 ) -> Result<Growing<'g, S>, OutOfMemory>
     requires automaton { IsSaturatedAutomaton S.operations D.way system.now direction.now
         opening.now transitions.now.transitions graph.now.nodes }
     requires pattern { pattern.now.control < system.now.controls }
     ensures walked { IfOk result (λ x. IsWalked S.operations D.way system.now direction.now
-        opening.now (followed low high transitions.now.transitions) graph.now.nodes pattern.now
-        low high (state_of x)) }
+        opening.now transitions.now.transitions graph.now.nodes pattern.now (state_of x)) }
     ensures graph { IfOk result (λ x. x.nodes.graph ≡ graph.now) }
 {
     let semiring = system.semiring();
     let side = direction.side();
-    let input = SumInput::new(
-        alloc,
-        semiring,
-        side,
-        opening,
-        transitions,
-        pattern,
-        low,
-        high,
-    )?;
+    let input = SumInput::new(alloc, semiring, side, opening, transitions, pattern)?;
     let mut sum = start(alloc, &input, graph)?;
     'rounds: while let Some(taken) = sum.pairs.pop() {
         sum.draw(alloc, &input, taken)?;
@@ -115,8 +102,8 @@ pub(crate) fn walk<'g, S: Semiring, D: Direction<S>>(
     Ok(sum)
 }
 
-/// The sum that [`sum_parts`] answers, with its listing where that is asked for.
-pub(crate) fn sum_shown<S: Semiring, D: Direction<S>>(
+// The sum that [`sum_parts`] answers, with its listing where that is asked for.
+fn sum_shown<S: Semiring, D: Direction<S>>(
     alloc: Global,
     system: &System<S>,
     direction: &D,
@@ -141,8 +128,6 @@ pub(crate) fn sum_shown<S: Semiring, D: Direction<S>>(
         transitions,
         graph,
         pattern,
-        0,
-        0,
     )?;
     let semiring = system.semiring();
     let value = weight_now(alloc, semiring, sum.pairs.list(), ANSWER)?;

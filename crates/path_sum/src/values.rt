@@ -1,8 +1,8 @@
 //! The values of sums to several sets of final states, by one walk.
-ghost use Rattle.std.specs.Prelude.{◌≡◌, ◌<◌, ◌++◌, ℕ, [], All, IsFalse, IfOk, OnOk, map};
+ghost use Rattle.std.specs.Prelude.{◌≡◌, ◌<◌, ◌++◌, ℕ, [], All, IfOk, OnOk, map};
 ghost use Rattle.saturation_laws.specs.Openings.{AreKept};
 ghost use Rattle.path_sum.specs.Saturated.{IsSaturatedAutomaton};
-ghost use Rattle.path_sum.specs.Values.{IsSaturatedTo, AreValuesTo, StayOut, is_left_out};
+ghost use Rattle.path_sum.specs.Values.{IsSaturatedTo, AreValuesTo};
 ghost use Rattle.path_sum.specs.private.Ends.{pairs_with, pairs_to, weights_at, total_to};
 
 use crate::summing::walk;
@@ -99,9 +99,7 @@ fn totals_to<S: Semiring>(
 /// The weights of all runs between a pattern and what the edges of an opening read to each of several sets of final states,
 /// in order. The transitions are those of a finished saturation from the opening, and the nodes theirs. All are read off one
 /// walk from the pattern, which takes what one sum takes; each then takes a look-up for each pair of a final state of the
-/// pattern and one of its set. The states from `low` up to `high`, without it, are left out: the walk follows no transition that
-/// leads to one. No final state is one of them, and from each of them transitions lead to such states alone. Where `low` is
-/// `high` none is left out. Refused only when out of memory.
+/// pattern and one of its set. Refused only when out of memory.
 pub fn sum_values<S: Semiring, D: Direction<S>>(
     alloc: Global,
     system: &System<S>,
@@ -111,8 +109,6 @@ pub fn sum_values<S: Semiring, D: Direction<S>>(
     graph: &Graph,
     pattern: &Pattern,
     finals: &[StateList],
-    low: u32,
-    high: u32,
 ) -> Result<Vec<S::W>, OutOfMemory>
     requires automaton { IsSaturatedAutomaton S.operations D.way system.now direction.now
         opening.now transitions.now.transitions graph.now.nodes }
@@ -120,8 +116,6 @@ pub fn sum_values<S: Semiring, D: Direction<S>>(
     requires pattern { pattern.now.control < system.now.controls }
     requires each { All (IsSaturatedTo S.operations D.way system.now direction.now opening.now
         transitions.now.transitions graph.now.nodes) finals.now }
-    requires apart { StayOut low high transitions.now.transitions }
-    requires kept { All (All (λ q. IsFalse (is_left_out low high q))) finals.now }
     ensures { IfOk result (λ vs. AreValuesTo S.operations D.way system.now direction.now
         opening.now pattern.now finals.now vs.items) }
 {
@@ -133,8 +127,6 @@ pub fn sum_values<S: Semiring, D: Direction<S>>(
         transitions,
         graph,
         pattern,
-        low,
-        high,
     )?;
     let ends = final_states(alloc, pattern)?;
     totals_to(alloc, system.semiring(), sum.pairs.list(), &ends, finals)

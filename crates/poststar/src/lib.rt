@@ -1,4 +1,4 @@
-//! Forwards saturation (post*): what it draws from a transition, and the book or the search that it begins for a pattern
+//! Forwards saturation (post*): what it draws from a transition, and the book that it opens for a pattern
 //! (Schwoon 2002; Reps, Schwoon, Jha, Melski 2005).
 #![tactic(auto)]
 
@@ -12,5 +12,5 @@ mod pass;
 mod post;
 mod worths;
 
-pub use opening::{post_opening, post_search};
+pub use opening::post_opening;
 pub use post::Post;

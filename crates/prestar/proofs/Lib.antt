@@ -1,5 +1,3 @@
 mod FitLemmas
-mod StageLemmas
-mod ApartLemmas
 mod RowLemmas
 pub mod CallerLemmas

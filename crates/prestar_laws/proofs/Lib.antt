@@ -9,9 +9,5 @@ mod JobLemmas
 mod PlaceLemmas
 mod LawLemmas
 mod OnceLemmas
-mod EdgeLemmas
-mod OpeningBounds
-mod GrowLemmas
-mod LaterEdgeLemmas
 mod Examples
 pub mod CallerLemmas

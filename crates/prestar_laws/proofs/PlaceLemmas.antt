@@ -1,5 +1,5 @@
 -- The places that the backward direction can reach.
-use Rattle.std.proofs.Common.{◌≡◌, inl, inr, ℕ, suc, ◌*◌, ◌<◌, ◌≤◌, true, List, [], ◌∷◌, ◌++◌, map, length, sym, ap, ◌∙◌, subst, arith}
+use Rattle.std.proofs.Common.{◌≡◌, inl, inr, ℕ, suc, ◌*◌, ◌<◌, ◌≤◌, true, List, [], ◌∷◌, ◌++◌, map, length, refl, sym, ap, ◌∙◌, subst, arith}
 use Rattle.std.specs.Prelude.{nat_le, if◌then◌else◌}
 use Rattle.std.specs.List.{flat_map, list_all, range_with_len}
 use Rattle.std.proofs.lemmas.Bool.{and_parts, leb-true, leb-false, cond_both}
@@ -32,6 +32,15 @@ above_each n (z ∷ qs) q (inl same) =
     (λ e. let low : suc z ≤ n = leb-true (suc z) n e in let rest = above_start n qs in omega (arith, low, rest))
     (λ e. let rest = above_start (suc z) qs in omega (arith, rest)))
 
+-- the least number that is above all of these is no more than another that is
+pub above_most : (n m : ℕ) (qs : List ℕ) → n ≤ m → ((q : ℕ) → IsIn q qs → q < m) → above n qs ≤ m
+above_most n m [] low each = low
+above_most n m (q ∷ qs) low each =
+    let P : ℕ → Type 0 = λ i. above i qs ≤ m in
+    let rest : (i : ℕ) → i ≤ m → above i qs ≤ m = λ i h. above_most i m qs h (λ z g. each z (inr g)) in
+    let here : q < m = each q (inl refl) in
+    cond_both (nat_le (suc q) n) n (suc q) P (λ _. rest n low) (λ _. rest (suc q) (omega (arith, here)))
+
 module _ (controls : ℕ) (o : Opening) where
   pub control_is_state : (c : ℕ) → c < controls → c < state_count controls o
   control_is_state c low = let all = above_start controls (map (λ (x : Place). x.to) o.edges ++ o.finals) in omega (arith, low, all)
@@ -61,15 +70,6 @@ module _ (controls symbols states : ℕ) where
       let within = from_range 0 states three.before three.there in
       let to : three.before ≡ x.to = ap (λ (y : Place). y.to) three.is in
       omega (arith, within.1, to)
-
-  pub arrow_from : (x : Place) → IsIn x (arrows controls symbols states) → x.from < controls
-  arrow_from x h =
-      let one = from_flat_map with_each x (range_with_len 0 controls) h in
-      let two = from_flat_map (to_each one.before) x (range_with_len 0 symbols) one.is in
-      let three = from_map (arrow one.before two.before) x (range_with_len 0 states) two.is in
-      let within = from_range 0 controls one.before one.there in
-      let from : one.before ≡ x.from = ap (λ (y : Place). y.from) three.is in
-      omega (arith, within.1, from)
 
   pub length-arrows : length (arrows controls symbols states) ≡ controls * symbols * states
   length-arrows =

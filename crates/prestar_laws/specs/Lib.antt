@@ -3,4 +3,3 @@ pub mod Jobs
 pub mod Reading
 pub mod Fitting
 pub mod Ways
-pub mod Later

@@ -1,19 +1,6 @@
--- What the options ask for, and texts of a part for each query, for the crates above.
+-- Texts of a part for each query, for the crates above.
 use Rattle.std.proofs.Common.{◌≡◌, ℕ, ◌+◌, List, [], ◌∷◌, ◌++◌, length, refl, sym, ap, ap₂, subst, ◌∙◌, append-nil, append_assoc, arith}
-use Rattle.std.specs.Prelude.{◌↔◌, Bool, true, false, not, ◌||◌, IsTrue}
-use Rattle.report_text.specs.declared.options.Options.{Options}
-use Rattle.report_text.specs.Reports.{ByQuery, IsBrief, lists}
-
--- what is not brief has listings
-pub lists_otherwise : (options : Options) (brief : Bool) → IsTrue brief ↔ IsBrief options → brief ≡ false → lists options ≡ true
-lists_otherwise options brief test is =
-    elim options.brief as (λ b. options.brief ≡ b → (not b || options.traces) ≡ true) [
-      | false ↦ λ _. refl
-      | true ↦ λ e. elim options.traces as (λ t. options.traces ≡ t → t ≡ true) [
-        | true ↦ λ _. refl
-        | false ↦ λ f. let holds : brief ≡ true = test.1 (e, f) in let clash : false ≡ true = sym is ∙ holds in cc
-      ] refl
-    ] refl
+use Rattle.report_text.specs.Reports.{ByQuery}
 
 -- what follows of each part follows of the text
 pub of_each : {Query : Type 0} {P Q : ℕ → Query → List ℕ → Type 0} → ((i : ℕ) (q : Query) (part : List ℕ) → P i q part → Q i q part)

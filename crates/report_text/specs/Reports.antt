@@ -1,5 +1,5 @@
 -- How the answers to queries are laid out in a report.
-use Rattle.std.specs.Prelude.{◌≡◌, ℕ, ◌+◌, Bool, false, not, ◌||◌, IsTrue, List, [], ◌∷◌, ◌++◌, Option, None, Some, if◌then◌else◌}
+use Rattle.std.specs.Prelude.{◌≡◌, ℕ, ◌+◌, false, IsTrue, List, [], ◌∷◌, ◌++◌, Option, None, Some, if◌then◌else◌}
 use Rattle.wpds_base.specs.Limits.{most_traced}
 use Rattle.witness_graph.specs.declared.listing.Listing.{Listing}
 use Rattle.report_text.specs.declared.options.Options.{Options}
@@ -14,10 +14,6 @@ ByQuery holds i (q ∷ qs) text = (part : List ℕ) × (rest : List ℕ) × (tex
 -- values alone are written
 abbrev pub IsBrief : Options → Type 0
 IsBrief options = IsTrue options.brief × (options.traces ≡ false)
-
--- whether anything is written that a listing is made for
-abbrev pub lists : Options → Bool
-lists options = not options.brief || options.traces
 
 -- the lines of a listing, if there is one
 abbrev pub shown : Option Listing → List ℕ

@@ -1,5 +1,5 @@
-ghost use Rattle.std.specs.Prelude.{◌≡◌, ◌↔◌, IsTrue};
-ghost use Rattle.report_text.specs.Reports.{IsBrief, lists};
+ghost use Rattle.std.specs.Prelude.{◌↔◌, IsTrue};
+ghost use Rattle.report_text.specs.Reports.{IsBrief};
 
 use witness_graph::Side;
 
@@ -22,12 +22,5 @@ impl Options {
         ensures { IsTrue result ↔ IsBrief self }
     {
         self.brief && !self.traces
-    }
-
-    /// Whether listings are asked for: as they are, or by their runs.
-    pub fn lists(self) -> bool
-        ensures { result ≡ lists self }
-    {
-        !self.brief || self.traces
     }
 }

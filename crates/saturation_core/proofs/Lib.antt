@@ -13,7 +13,6 @@ mod GoalLemmas
 mod PlanEqualsApply
 mod SettleBook
 mod TurnBook
-mod SearchTurns
 mod AllPush
 mod SeenLemmas
 mod Examples

@@ -3,7 +3,6 @@ pub mod Calls
 pub mod QueuedList
 pub mod JournalEvents
 pub mod BookView
-pub mod SearchView
 pub mod Goals
 pub mod DoneValue
 pub mod Settled

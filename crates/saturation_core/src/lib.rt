@@ -1,6 +1,5 @@
 //! The core of a saturation: a book of what was found, and the events that change it. Workers take transitions, work
-//! out what these give, and settle it; whatever the order of their events, the same holds of the book. A search is the same by one
-//! worker, without events.
+//! out what these give, and settle it; whatever the order of their events, the same holds of the book.
 #![tactic(auto)]
 
 mod book;
@@ -17,7 +16,6 @@ mod plan;
 mod queue;
 mod queued;
 mod same;
-mod search;
 mod work;
 
 pub use book::Book;
@@ -27,4 +25,3 @@ pub use hand::{Done, Hand, Lowered, SeatSet, SettleFault, Taken, WeightList, Wor
 pub use journal::Journal;
 pub use laws::bits_are_seats;
 pub use queued::{NumberedPlace, QueuedTransitions};
-pub use search::Search;

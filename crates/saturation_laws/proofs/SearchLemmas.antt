@@ -19,11 +19,10 @@ use Rattle.saturation_laws.specs.Directions.{IsDirection, IsConsequence}
 use Rattle.saturation_laws.specs.Invariants.{LockInvariant, IsApplied}
 use Rattle.saturation_laws.specs.Bound.{fallen}
 use Rattle.saturation_laws.specs.Searches.{SearchValue, IsDone, IsSearch, search_from, hand_of, turned, turns_left}
-use Rattle.saturation_laws.specs.Ways.{Way, IsLawful, start_of, HaveFitWeights}
+use Rattle.saturation_laws.specs.Ways.{Way, IsLawful, start_of}
 use Rattle.saturation_laws.proofs.ApplyChange.{Grows}
 use Rattle.saturation_laws.proofs.EventsKeepBound.{take_counts, settle_counts, fallen_le}
 use Rattle.saturation_laws.proofs.EventsKeepInvariant.{state_of, job_sound, some_is, take_keeps, settle_keeps}
-use Rattle.saturation_laws.proofs.HandJobs.{transitions_fit}
 use Rattle.saturation_laws.proofs.OpeningState.{none_out, opening_opened, opening_locked, opening_within, opening_fits}
 use Rattle.saturation_laws.proofs.SettleState.{jobs_keep}
 
@@ -67,13 +66,6 @@ module _ {S W Map D : Type 0} (operations : S → Operations W Map) (laws : (x :
     ]
   ]
 
-  -- the weights of a search fit
-  pub search_fits : (v : SearchValue S W Map D) → IsSearch operations way v → HaveFitWeights operations v.system v.state.transitions
-  search_fits v is =
-      let s = operations v.system.semiring in
-      transitions_fit (laws v.system.semiring) (value_of s v.system) (value_fits is.system (laws v.system.semiring)) (way.runs v.direction v.system v.opening) (way.tables v.direction v.system)
-      (start_of operations way v.direction v.system v.opening).transitions v.state is.lock
-
   module _ (v : SearchValue S W Map D) (is : IsSearch operations way v) (x : Place) (q : List Place) (front : v.state.queue ≡ x ∷ q) where
     abbrev s : Operations W Map
     s = operations v.system.semiring
@@ -109,13 +101,13 @@ module _ {S W Map D : Type 0} (operations : S → Operations W Map) (laws : (x :
     there = let P : List Place → Type 0 = IsIn x in some_is (entry_at x v.state.transitions) (is.lock.shape.present x (subst P (sym front) (inl refl)))
 
     -- the state while the first seat has its hand
-    abbrev pub meanwhile : CoreState S W Map
+    abbrev meanwhile : CoreState S W Map
     meanwhile = take s d 0 x v.state
 
-    pub meanwhile_locked : LockInvariant s (value_of s v.system) rs d begun meanwhile
+    meanwhile_locked : LockInvariant s (value_of s v.system) rs d begun meanwhile
     meanwhile_locked = take_keeps (laws v.system.semiring) value rs dir begun fit v.state is.lock 0 x q front there.0 there.1 seats none
 
-    pub hand_is : hand_at 0 meanwhile.hands ≡ Some (hand_of operations way v x)
+    hand_is : hand_at 0 meanwhile.hands ≡ Some (hand_of operations way v x)
     hand_is = get_or-set_same v.state.hands 0 (Some (hand_of operations way v x)) None seats
 
     grows : Grows s d.side meanwhile (apply_jobs s d (hand_of operations way v x).jobs meanwhile)

@@ -1,5 +1,5 @@
 -- A saturation without events, as contracts see it. One worker makes it, who settles what it takes before it takes more.
-use Rattle.std.specs.Prelude.{◌≡◌, ℕ, ◌+◌, ◌-◌, ◌*◌, ◌<◌, List, [], ◌∷◌, ◌++◌, length, None, replicate, IsTrue}
+use Rattle.std.specs.Prelude.{◌≡◌, ℕ, ◌+◌, ◌-◌, ◌*◌, ◌<◌, List, [], ◌∷◌, length, None, replicate, IsTrue}
 use Rattle.wpds_base.specs.Limits.{most_seats}
 use Rattle.semiring_laws.specs.Semiring.{Operations}
 use Rattle.weighted_automata.specs.declared.place.Place.{Place}
@@ -10,7 +10,6 @@ use Rattle.pushdown_rules.specs.Values.{value_of}
 use Rattle.saturation_laws.specs.declared.opening.Opening.{Opening}
 use Rattle.saturation_laws.specs.declared.holding.Holding.{Holding}
 use Rattle.saturation_laws.specs.States.{CoreState, jobs_at, take, settle}
-use Rattle.saturation_laws.specs.Openings.{with_edges}
 use Rattle.saturation_laws.specs.Invariants.{LockInvariant}
 use Rattle.saturation_laws.specs.Bound.{fallen, IsWithin}
 use Rattle.saturation_laws.specs.Ways.{Way, start_of}
@@ -36,15 +35,6 @@ module _ {S W Map D : Type 0} (operations : S → Operations W Map) (way : Way S
   -- the search that begins with an opening
   abbrev pub search_from : Pushdown S W Map → D → Opening → SearchValue S W Map D
   search_from p d o = record { system = p; direction = d; opening = o; state = start_of operations way d p o }
-
-  -- the search with more edges behind those of its opening, each of weight one
-  abbrev pub with_more : List Place → SearchValue S W Map D → SearchValue S W Map D
-  with_more edges v = record {
-    system = v.system;
-    direction = v.direction;
-    opening = record { edges = v.opening.edges ++ edges; finals = v.opening.finals };
-    state = with_edges (operations v.system.semiring) edges v.state;
-  }
 
   -- the hand of a place that is taken
   abbrev pub hand_of : SearchValue S W Map D → Place → Holding S W Map

@@ -9,6 +9,4 @@ mod DrivingLemmas
 mod ErrandLemmas
 mod GiveLemmas
 mod ClosingLemmas
-mod SeatLemmas
-pub mod CallerLemmas
 mod Examples

@@ -1,9 +1,8 @@
 ghost use Rattle.std.specs.Prelude.{◌≡◌, [], IfOk};
 ghost use Rattle.saturation_laws.specs.Books.{IsBook, IsClosed};
-ghost use Rattle.saturation_laws.specs.Searches.{IsDone, HasSameOpening};
 ghost use Rattle.worker_pool.specs.Alone.{HasBase, IsAlone};
 
-use saturation_core::{Book, Search};
+use saturation_core::Book;
 use saturation_laws::Direction;
 use semiring_laws::Semiring;
 use std::alloc::Global;
@@ -29,22 +28,4 @@ pub fn saturate_alone<'s, S: Semiring, D: Direction<S>, G: Gate>(
         book = book.turn_alone(alloc, 0, gate)?;
     }
     Ok(book)
-}
-
-/// Takes what waits in a search and settles what it gives, until nothing waits. It calls the gate once for each transition,
-/// between taking and settling it. It is refused only when out of memory, and then the search is gone.
-pub fn search_alone<'s, S: Semiring, D: Direction<S>, G: Gate>(
-    alloc: Global,
-    search: Search<'s, S, D>,
-    gate: &G,
-) -> Result<Search<'s, S, D>, OutOfMemory>
-    ensures done { IfOk result IsDone }
-    ensures same { IfOk result (HasSameOpening search.entry) }
-{
-    let mut search = search;
-    'turns: while !search.is_done() {
-        search.system();
-        search = search.turn(alloc, gate)?;
-    }
-    Ok(search)
 }

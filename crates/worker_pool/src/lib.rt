@@ -14,7 +14,7 @@ mod shared;
 mod steps;
 mod turns;
 
-pub use alone::{saturate_alone, search_alone};
+pub use alone::saturate_alone;
 pub use driven::{DriveEnd, Driven};
 pub use driving::drive;
 pub use laws::{one_worker_closes, one_worker_has_one_journal, workers_bound_takes};

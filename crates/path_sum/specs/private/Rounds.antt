@@ -1,5 +1,5 @@
 -- A sum between two rounds, and at its end.
-use Rattle.std.specs.Prelude.{◌≡◌, ℕ, ◌+◌, ◌≤◌, List, [], length}
+use Rattle.std.specs.Prelude.{◌≡◌, ◌+◌, ◌≤◌, List, [], length}
 use Rattle.config_patterns.specs.Membership.{PatternValue}
 use Rattle.pushdown_rules.specs.Pushdown.{Pushdown}
 use Rattle.saturation_laws.specs.Bound.{fallen}
@@ -22,10 +22,10 @@ module _ {S W Map : Type 0} (s : Operations W Map) (input : SumInputValue S W Ma
     pub few : length st.nodes ≤ length nodes + 1 + fallen s st.transitions (sum_places (ways_of input.pattern) input.transitions)
 
 module _ {S W Map D : Type 0} (operations : S → Operations W Map) (way : Way S W Map D) (p : Pushdown S W Map) (d : D) (o : Opening)
-    (ts : List (Entry S W Map)) (nodes : List Node) (pattern : PatternValue) (low high : ℕ) where
+    (ts : List (Entry S W Map)) (nodes : List Node) (pattern : PatternValue) where
   -- what a sum over these transitions goes over
   abbrev pub input_of : SumInputValue S W Map
-  input_of = record { semiring = p.semiring; side = (way.tables d p).side; opening = o; transitions = ts; pattern = pattern; low = low; high = high }
+  input_of = record { semiring = p.semiring; side = (way.tables d p).side; opening = o; transitions = ts; pattern = pattern }
 
   -- The sum is done: nothing waits.
   pub record IsWalked (st : CoreState S W Map) : Type 0 where

@@ -17,7 +17,6 @@ use Rattle.wpds_base.specs.Lists.{IsIn}
 use Rattle.path_sum.specs.Pairs.{states_of}
 use Rattle.path_sum.specs.Sums.{Ways, answer_place, pair_place, can_move, has_state, Move, Along, End, Done}
 use Rattle.path_sum.specs.private.Paths.{Moves}
-use Rattle.path_sum.specs.Values.{is_left_out}
 
 module _ {S W Map : Type 0} (s : Operations W Map) (side : Side) where
   -- Nothing more is to be added.
@@ -89,10 +88,6 @@ HaveMoves edges i g x ms = (j : ℕ) → IsIn (Along i j x) ms → IsTrue (can_m
 module _ {S W Map : Type 0} (o : Opening) (ways : Ways) where
   abbrev pub moves_by : ℕ → Entry S W Map → List Move
   moves_by i t = elim t.place.label [ Empty ↦ Along i i t.place ∷ [] | Symbol g ↦ edge_moves i g t.place ways.edges ]
-
-  -- the same if it leads to no state that is left out
-  abbrev pub followed_moves : ℕ → ℕ → ℕ → Entry S W Map → List Move
-  followed_moves low high i t = if is_left_out low high t.place.to then [] else moves_by i t
 
   abbrev pub pair_moves : ℕ → ℕ → List (Entry S W Map) → List Move
   pair_moves i q [] = []

@@ -8,8 +8,6 @@ use Rattle.path_sum.specs.Answers.{IsListingOf}
 use Rattle.path_sum.specs.private.Growing.{IsListedOver, BeginsBehind, state_of}
 use Rattle.path_sum.proofs.AddedLemmas.{grown_begins}
 use Rattle.witness_graph.specs.Nodes.{Nodes}
-use Rattle.path_sum.specs.private.Rounds.{IsWalked}
-use Rattle.path_sum.proofs.FollowedLemmas.{followed_all}
 use Rattle.path_sum.proofs.FinishedLemmas.{kept_at, answer_sums}
 use Rattle.path_sum.proofs.summing.sum_shown.Goals as goal
 
@@ -19,8 +17,7 @@ weight_now-requires g c =
     let d = c.args.direction.now in
     let valid = c.semiring-semiring.ensures.valid in
     let sums = g.met.D.Direction.sums d p c.args.opening.now valid c.requires.automaton.fits in
-    let walked = subst (λ us. IsWalked g.S.Semiring.operations g.D.Direction.way p d c.args.opening.now us c.args.graph.now.nodes c.args.pattern.now 0 0 (state_of c.in_ok-sum.sum))
-    (followed_all c.args.transitions.now.transitions) c.in_ok-sum.ensures.walked in
+    let walked = c.in_ok-sum.ensures.walked in
     let kept = kept_at g.S.Semiring.laws valid c.requires.automaton sums c.args.pattern.now c.requires.pattern (state_of c.in_ok-sum.sum) walked.under_way in
     let n = length c.in_ok-sum.sum.nodes.nodes in
     let over = subst (λ m. AreKept (g.S.Semiring.operations m) c.in_ok-sum.sum.pairs.transitions n) (sym c.semiring-semiring.ensures.value) kept in
@@ -32,8 +29,7 @@ list_answer-requires g c =
     let d = c.args.direction.now in
     let valid = c.semiring-semiring.ensures.valid in
     let sums = g.met.D.Direction.sums d p c.args.opening.now valid c.requires.automaton.fits in
-    let walked = subst (λ us. IsWalked g.S.Semiring.operations g.D.Direction.way p d c.args.opening.now us c.args.graph.now.nodes c.args.pattern.now 0 0 (state_of c.in_ok-sum.sum))
-    (followed_all c.args.transitions.now.transitions) c.in_ok-sum.ensures.walked in
+    let walked = c.in_ok-sum.ensures.walked in
     record {
       kept = (
         g.S.Semiring.operations p.semiring,
@@ -52,8 +48,7 @@ returns g c =
     let valid = c.semiring-semiring.ensures.valid in
     let sums = g.met.D.Direction.sums d p c.args.opening.now valid c.requires.automaton.fits in
     let sum = c.in_ok-sum.sum in
-    let walked = subst (λ us. IsWalked g.S.Semiring.operations g.D.Direction.way p d c.args.opening.now us c.args.graph.now.nodes c.args.pattern.now 0 0 (state_of c.in_ok-sum.sum))
-    (followed_all c.args.transitions.now.transitions) c.in_ok-sum.ensures.walked in
+    let walked = c.in_ok-sum.ensures.walked in
     let value = c.in_ok-value.ensures ∙ ap (weight_at (g.S.Semiring.operations c.semiring-semiring.result.now) answer_place) c.list.ensures
     ∙ ap (λ m. weight_at (g.S.Semiring.operations m) answer_place sum.pairs.transitions) c.semiring-semiring.ensures.value in
     let answer = entry_at answer_place sum.pairs.transitions in

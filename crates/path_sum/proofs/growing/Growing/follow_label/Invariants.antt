@@ -15,7 +15,7 @@ invariant-rows g l =
     let s = g.S.Semiring.operations l.input.semiring in
     let ways = ways_of l.input.pattern in
     let ts = l.transitions.transitions in
-    let f = one_by l.input.opening ways l.input.low l.input.high l.i l.state in
+    let f = one_by l.input.opening ways l.i l.state in
     ((made : List Move)
     × IsFork (is_from l.state l.fn.label) (is_from l.state Empty) f ts (by_number f 0 ts) made l.reading l.empty
     × (grow s l.input.side l.input.opening l.input.transitions ways (state_of l.initial.self) made ≡ Some (state_of l.self)))

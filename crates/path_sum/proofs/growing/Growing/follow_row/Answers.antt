@@ -5,7 +5,6 @@ use Rattle.weighted_automata.specs.Entries.{is_out_of, Present}
 use Rattle.path_sum.specs.Sums.{ways_of, pair_place, grow}
 use Rattle.path_sum.specs.private.Growing.{IsReady, state_of}
 use Rattle.path_sum.specs.private.Work.{pair_moves}
-use Rattle.path_sum.proofs.FollowedLemmas.{still_there}
 use Rattle.path_sum.proofs.LoopLemmas.{pair_more}
 use Rattle.path_sum.proofs.RowLemmas.{row_left, row_ended, row_within, row_from, row_rest, row_shrinks}
 use Rattle.path_sum.proofs.growing.Growing.follow_row.Goals as goal
@@ -19,20 +18,18 @@ pub entry-requires : goal.entry-requires
 entry-requires g c =
     row_within c.args.state c.loop-at.invariant.0.0 c.in-Some.k c.transitions-transitions.result.now.transitions (sym c.loop-at.invariant.0.1 ∙ c.in-Some.is)
 
-pub follow_kept-requires-clause-ready : goal.follow_kept-requires-clause-ready
-follow_kept-requires-clause-ready g c =
+pub follow_any-requires-clause-ready : goal.follow_any-requires-clause-ready
+follow_any-requires-clause-ready g c =
     let s = g.S.Semiring.operations c.args.input.now.semiring in
     let from = row_from c.args.state c.loop-at.invariant.0.0 c.in-Some.k c.transitions-transitions.result.now.transitions (sym c.loop-at.invariant.0.1 ∙ c.in-Some.is) c.entry.result.now c.entry.ensures.entry in
     subst (λ q. IsReady s c.args.input.now.transitions c.args.number (pair_place c.args.i q) (state_of c.loop-at.self)) (sym from) c.loop-at.invariant.1
 
-pub follow_kept-requires-clause-there : goal.follow_kept-requires-clause-there
-follow_kept-requires-clause-there g c =
-    let input = c.args.input.now in
-    λ kept. subst (λ ts. Present ts c.entry.result.now) (sym c.transitions-transitions.ensures)
-    (still_there input.low input.high c.transitions-transitions.result.now.transitions c.entry.result.now c.entry.ensures.present kept)
+pub follow_any-requires-clause-there : goal.follow_any-requires-clause-there
+follow_any-requires-clause-there g c =
+    subst (λ ts. Present ts c.entry.result.now) c.transitions-transitions.ensures c.entry.ensures.present
 
-pub returns-in_err-follow_kept-clause-graph : goal.returns-in_err-follow_kept-clause-graph
-returns-in_err-follow_kept-clause-graph g c = c.follow_kept.ensures.graph ∙ c.loop-at.invariant.2
+pub returns-in_err-follow_any-clause-graph : goal.returns-in_err-follow_any-clause-graph
+returns-in_err-follow_any-clause-graph g c = c.follow_any.ensures.graph ∙ c.loop-at.invariant.2
 
 pub loop-at-smaller : goal.loop-at-smaller
 loop-at-smaller g c =
@@ -52,17 +49,17 @@ loop-at-preserved g c =
     let t = c.entry.result.now in
     let at = sym c.loop-at.invariant.0.1 ∙ c.in-Some.is in
     let from = row_from c.args.state c.loop-at.invariant.0.0 k ts at t c.entry.ensures.entry in
-    let left = row_left input.opening ways input.low input.high c.args.i c.args.state c.loop-at.invariant.0.0 k ts at in
+    let left = row_left input.opening ways c.args.i c.args.state c.loop-at.invariant.0.0 k ts at in
     let now = state_of c.loop-at.self in
-    let new = state_of c.follow_kept.new.self in (
+    let new = state_of c.follow_any.new.self in (
       (
         k + 1,
         c.next_out_of-at.ensures.row t c.entry.ensures.entry ∙ ap (λ q. index_from (is_out_of q) (k + 1) ts) from,
-        pair_more s input.side input.opening input.transitions ways input.low input.high c.args.i c.args.state k ts t now new _ c.entry.ensures.entry from
-            (sym (ap (grow s input.side input.opening input.transitions ways now) left) ∙ c.loop-at.invariant.0.2) c.in_ok-follow_kept.ensures.grows,
+        pair_more s input.side input.opening input.transitions ways c.args.i c.args.state k ts t now new _ c.entry.ensures.entry from
+            (sym (ap (grow s input.side input.opening input.transitions ways now) left) ∙ c.loop-at.invariant.0.2) c.in_ok-follow_any.ensures.grows,
       ),
-      subst (λ q. IsReady s input.transitions c.args.number (pair_place c.args.i q) new) from c.in_ok-follow_kept.ensures.ready,
-      c.follow_kept.ensures.graph ∙ c.loop-at.invariant.2,
+      subst (λ q. IsReady s input.transitions c.args.number (pair_place c.args.i q) new) from c.in_ok-follow_any.ensures.ready,
+      c.follow_any.ensures.graph ∙ c.loop-at.invariant.2,
     )
 
 pub returns-clause-grows : goal.returns-clause-grows
@@ -71,8 +68,8 @@ returns-clause-grows g c =
     let input = c.args.input.now in
     let ways = ways_of input.pattern in
     let ts = c.transitions-transitions.result.now.transitions in
-    let ended = row_ended input.opening ways input.low input.high c.args.i c.args.state c.loop-at.invariant.0.0 ts (sym c.loop-at.invariant.0.1 ∙ c.in_default.is) in
-    ap (λ us. grow s input.side input.opening input.transitions ways (state_of c.args.self.now) (pair_moves input.opening ways c.args.i c.args.state us)) c.transitions-transitions.ensures
+    let ended = row_ended input.opening ways c.args.i c.args.state c.loop-at.invariant.0.0 ts (sym c.loop-at.invariant.0.1 ∙ c.in_default.is) in
+    sym (ap (λ us. grow s input.side input.opening input.transitions ways (state_of c.args.self.now) (pair_moves input.opening ways c.args.i c.args.state us)) c.transitions-transitions.ensures)
     ∙ sym c.loop-at.invariant.0.2
     ∙ ap (grow s input.side input.opening input.transitions ways (state_of c.loop-at.self)) ended
 

@@ -3,7 +3,6 @@ use Rattle.key_rows.specs.Rows.{index_from}
 use Rattle.weighted_automata.specs.Entries.{is_out_of}
 use Rattle.path_sum.specs.private.Growing.{IsReady, state_of}
 use Rattle.path_sum.specs.Sums.{ways_of, pair_place, grow}
-use Rattle.path_sum.specs.private.Inputs.{followed}
 use Rattle.path_sum.specs.private.Work.{pair_moves}
 use Rattle.path_sum.proofs.RowLemmas.{row_rest}
 use Rattle.path_sum.proofs.growing.Growing.follow_row.Given as goal
@@ -14,8 +13,8 @@ invariant-loop-at g l =
     let ways = ways_of l.input.pattern in
     let ts = l.transitions.transitions in
     ((n : ℕ) × (l.at ≡ index_from (is_out_of l.state) n ts)
-    × (grow s l.input.side l.input.opening l.input.transitions ways (state_of l.self) (pair_moves l.input.opening ways l.i l.state (followed l.input.low l.input.high (drop n ts)))
-    ≡ grow s l.input.side l.input.opening l.input.transitions ways (state_of l.initial.self) (pair_moves l.input.opening ways l.i l.state (followed l.input.low l.input.high ts))))
+    × (grow s l.input.side l.input.opening l.input.transitions ways (state_of l.self) (pair_moves l.input.opening ways l.i l.state (drop n ts))
+    ≡ grow s l.input.side l.input.opening l.input.transitions ways (state_of l.initial.self) (pair_moves l.input.opening ways l.i l.state ts)))
     × IsReady s l.input.transitions l.number (pair_place l.i l.state) (state_of l.self)
     × (l.self.nodes.graph ≡ l.initial.self.nodes.graph)
 

@@ -1,6 +1,0 @@
-pub mod Callees
-pub mod Rows
-pub mod Jobs
-pub mod Reading
-pub mod Fitting
-pub mod Ways

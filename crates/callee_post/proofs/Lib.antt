@@ -1,4 +1,0 @@
-mod StateLemmas
-mod RowLemmas
-mod FitLemmas
-mod ReadLemmas

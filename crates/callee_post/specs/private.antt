@@ -1,4 +1,0 @@
--- What private functions cite.
-pub mod Passes
-pub mod Meetings
-pub mod Worths

@@ -1,2 +1,0 @@
--- What crates above may cite.
-pub use Rattle.worker_pool.proofs.SeatLemmas.{more_seats}
