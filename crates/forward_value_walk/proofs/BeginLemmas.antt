@@ -1,6 +1,5 @@
 -- A walk begins: what rows give waits, and nothing else is there.
-use Rattle.std.proofs.Common.{◌≡◌, inl, inr, ℕ, suc, ◌≤◌, List, [], length, refl, sym, ap, ◌∙◌, subst}
-use Rattle.std.specs.Prelude.{Some, slice_get}
+use Rattle.std.proofs.Common.{◌≡◌, inl, inr, ℕ, suc, ◌≤◌, [], length, sym, ap, ◌∙◌, subst}
 use Rattle.semiring_laws.specs.Semiring.{Operations, IsSemiring, Fits, Below}
 use Rattle.semiring_laws.proofs.CallerLemmas.{below_trans, below_zero}
 use Rattle.pushdown_rules.specs.Pushdown.{IsSystem}
@@ -18,13 +17,13 @@ use Rattle.walk_pairs.specs.declared.pairs.Stage.TheVariants.{Down, Before}
 use Rattle.walk_pairs.specs.Pairs.{pair_place, answer_place, place_over}
 use Rattle.walk_pairs.specs.Giving.{IsFall, AreFallsGiven}
 use Rattle.walk_pairs.specs.Answering.{IsWalkedOver}
-use Rattle.walk_pairs.proofs.CallerLemmas.{AllFit, one_lowered, one_below}
+use Rattle.walk_pairs.proofs.CallerLemmas.{one_lowered, one_below}
 use Rattle.forward_value_search.specs.Places.{arrow}
 use Rattle.forward_value_search.specs.Search.{IsFinished}
 use Rattle.forward_value_walk.specs.Walking.{IsMade, IsSettled}
 use Rattle.forward_value_walk.specs.private.Going.{IsRuns, IsGoneOn, IsUncovered, IsWalking}
 use Rattle.forward_value_walk.proofs.MadeLemmas.{made_none, top_made, uncovered_made}
-use Rattle.forward_value_walk.proofs.GoingLemmas.{IsWalkable, none_gone, gone_then, pairs_gone, gone_fit, gone_falls, gone_counts, gone_walkable}
+use Rattle.forward_value_walk.proofs.GoingLemmas.{IsWalkable, gone_then, pairs_gone, gone_fit, gone_falls, gone_counts, gone_walkable}
 
 module _ {S W Map : Type 0} (operations : S → Operations W Map) (laws : (x : S) → IsSemiring (operations x)) (first wanted : PatternValue) where
   abbrev of : TablesValue S W Map → Operations W Map

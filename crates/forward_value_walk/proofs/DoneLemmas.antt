@@ -1,8 +1,8 @@
 -- Pairs that have all given what they give are what the laws ask for.
-use Rattle.std.proofs.Common.{◌≡◌, ◌⊎◌, inl, inr, ℕ, zero, suc, ◌<◌, ◌≤◌, ◌+◌, Bool, true, false, List, [], ◌∷◌, length, drop, refl, sym, ap, ◌∙◌, subst, arith}
-use Rattle.std.specs.Prelude.{◌&&◌, IsTrue, Option, None, Some, slice_get, nat_le, if◌then◌else◌}
+use Rattle.std.proofs.Common.{◌≡◌, inl, inr, ℕ, Bool, List, [], ◌∷◌, length, drop, sym, ap, ◌∙◌, subst}
+use Rattle.std.specs.Prelude.{IsTrue, Option, None, Some, slice_get, nat_le, if◌then◌else◌}
 use Rattle.std.specs.List.{AllByRecursion, list_all}
-use Rattle.std.proofs.lemmas.Bool.{and_parts, cases_Bool, leb-true, le-leb}
+use Rattle.std.proofs.lemmas.Bool.{and_parts, cases_Bool, leb-true}
 use Rattle.wpds_base.specs.Lists.{IsIn}
 use Rattle.semiring_laws.specs.Semiring.{Operations, IsSemiring, Fits, Below}
 use Rattle.semiring_laws.proofs.CallerLemmas.{below_itself}
@@ -22,7 +22,7 @@ use Rattle.walk_pairs.specs.Pairs.{pair_place, answer_place}
 use Rattle.walk_pairs.specs.Reading.{IsPairRead, IsBeforeRead, AreReadingsSettled}
 use Rattle.walk_pairs.proofs.CallerLemmas.{edge_from, edge_to, readings_read, readings_end}
 use Rattle.forward_value_laws.specs.Model.{Source, item, callee, IsWalked, head_of}
-use Rattle.forward_value_search.specs.Places.{arrow, number_of, place_by}
+use Rattle.forward_value_search.specs.Places.{arrow, place_by}
 use Rattle.forward_value_search.proofs.CallerLemmas.{item_number, callee_number}
 use Rattle.forward_value_walk.specs.Walking.{number, found_in, pair_in, before_in, answer_in, pairs_of, IsSettled}
 

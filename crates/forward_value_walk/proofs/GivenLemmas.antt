@@ -1,13 +1,11 @@
 -- What a pair gives, one part after another.
-use Rattle.std.proofs.Common.{◌≡◌, ◌⊎◌, inl, inr, ℕ, List, refl, sym, ap, ◌∙◌, subst}
-use Rattle.std.specs.Prelude.{Some, slice_get}
+use Rattle.std.proofs.Common.{◌≡◌, ◌⊎◌, inl, inr, ℕ, refl, sym, ap, ◌∙◌, subst}
 use Rattle.semiring_laws.specs.Semiring.{Operations, IsSemiring, Fits, Below}
 use Rattle.semiring_laws.proofs.CallerLemmas.{below_itself}
-use Rattle.config_patterns.specs.Edges.{edges_of}
 use Rattle.config_patterns.specs.Membership.{PatternValue}
 use Rattle.weighted_automata.specs.declared.place.Place.{Place}
 use Rattle.weight_tables.specs.Entries.{TableEntry, HasDistinctPlaces, weight_in, settled_in}
-use Rattle.weight_tables.specs.Tables.{TablesValue, AreTables, with_entries, with_hand}
+use Rattle.weight_tables.specs.Tables.{TablesValue, with_entries, with_hand}
 use Rattle.weight_tables.specs.declared.layer.Layer.TheVariants.{Walk}
 use Rattle.weight_tables.proofs.CallerLemmas.{place_fits, settled_or_none, index_there, weight_at_index}
 use Rattle.walk_pairs.specs.declared.pairs.Stage.TheVariants.{Down, Before}
@@ -15,10 +13,10 @@ use Rattle.walk_pairs.specs.Pairs.{pair_place, answer_place}
 use Rattle.walk_pairs.specs.Reading.{IsStand, IsStep, IsPairGiven as IsPairRead, IsBeforeGiven}
 use Rattle.walk_pairs.proofs.CallerLemmas.{pair_kept, before_kept}
 use Rattle.forward_value_search.specs.Search.{StandsAt}
-use Rattle.forward_value_walk.specs.Walking.{IsMade, IsPairMet}
-use Rattle.forward_value_walk.specs.private.Going.{IsRuns, IsGoneOn, AreCallsGiven, IsPairGiven, AreItemsGiven}
+use Rattle.forward_value_walk.specs.Walking.{IsMade}
+use Rattle.forward_value_walk.specs.private.Going.{IsGoneOn, AreCallsGiven, IsPairGiven, AreItemsGiven}
 use Rattle.forward_value_walk.proofs.MadeLemmas.{stand_made, step_made}
-use Rattle.forward_value_walk.proofs.GoingLemmas.{IsWalkable, settled_fits, hand_gone, gone_then, pairs_gone, gone_fit, gone_falls, gone_counts, gone_walkable}
+use Rattle.forward_value_walk.proofs.GoingLemmas.{IsWalkable, hand_gone, gone_then, pairs_gone, gone_fit, gone_falls, gone_counts, gone_walkable}
 
 module _ {S W Map : Type 0} (operations : S → Operations W Map) (laws : (x : S) → IsSemiring (operations x)) (first wanted : PatternValue) (v : TablesValue S W Map) (walkable : IsWalkable operations first wanted v)
     (distinct : HasDistinctPlaces v.walk) where

@@ -1,5 +1,5 @@
 -- What a walk makes of weights that combine runs combines runs.
-use Rattle.std.proofs.Common.{◌≡◌, ◌⊎◌, inl, inr, ℕ, zero, suc, ◌-◌, ◌≤◌, [], ◌∷◌, List, length, sym, ap, ◌∙◌, subst, arith}
+use Rattle.std.proofs.Common.{◌≡◌, inl, inr, ℕ, zero, suc, ◌-◌, ◌≤◌, [], ◌∷◌, List, length, sym, ap, ◌∙◌, subst, arith}
 use Rattle.std.specs.Prelude.{Option, None, Some}
 use Rattle.std.proofs.lemmas.Option.{slice_get_within}
 use Rattle.wpds_base.specs.Lists.{IsIn}
@@ -23,7 +23,7 @@ use Rattle.walk_pairs.specs.Reading.{ComesBefore, IsStand, IsStep}
 use Rattle.walk_pairs.proofs.CallerLemmas.{AllFit, stands_comes, skip_comes, comes_edge, comes_final}
 use Rattle.value_laws.specs.Runs.{Sums}
 use Rattle.value_laws.proofs.CallerLemmas.{sums_none, sums_combine, sums_within}
-use Rattle.forward_value_laws.specs.Model.{Source, item, callee, head_of, Comes, Walks, IsSound}
+use Rattle.forward_value_laws.specs.Model.{Source, item, callee, Comes, Walks, IsSound}
 use Rattle.forward_value_laws.proofs.CallerLemmas.{tops_sum, uncovered_top_sum, opens_sum, walks_on, walks_lead}
 use Rattle.forward_value_search.specs.Places.{arrow, place_by}
 use Rattle.forward_value_search.proofs.CallerLemmas.{item_number, one_source}

@@ -1,13 +1,9 @@
 -- A turn of the walk keeps what was settled.
-use Rattle.std.proofs.Common.{◌≡◌, ◌⊎◌, inl, inr, ℕ, List, [], ◌∷◌, refl, sym, ap, ◌∙◌, subst}
-use Rattle.std.specs.Prelude.{IsTrue, Some, slice_get}
-use Rattle.wpds_base.specs.Lists.{IsIn}
+use Rattle.std.proofs.Common.{◌≡◌, ◌⊎◌, inl, inr, ℕ, List, sym, ap, ◌∙◌, subst}
 use Rattle.semiring_laws.specs.Semiring.{Operations, IsSemiring, Fits, Below}
 use Rattle.semiring_laws.proofs.CallerLemmas.{below_trans, below_zero}
-use Rattle.pushdown_rules.specs.declared.rule.Rule.{Rule}
 use Rattle.pushdown_rules.specs.Pushdown.{Pushdown, IsSystem}
 use Rattle.pushdown_rules.proofs.CallerLemmas.{weight_fits}
-use Rattle.config_patterns.specs.Edges.{edges_of, is_final_of}
 use Rattle.config_patterns.specs.Membership.{PatternValue}
 use Rattle.weighted_automata.specs.declared.place.Label.TheVariants.{Symbol, Empty}
 use Rattle.weighted_automata.specs.declared.place.Place.{Place}
@@ -16,7 +12,6 @@ use Rattle.weight_tables.proofs.CallerLemmas.{place_fits, settled_or_none}
 use Rattle.walk_pairs.specs.declared.pairs.Stage.TheVariants.{Down, Before}
 use Rattle.walk_pairs.specs.Pairs.{pair_place, answer_place}
 use Rattle.walk_pairs.proofs.CallerLemmas.{AllFit, pair_kept, before_kept}
-use Rattle.forward_value_laws.specs.Model.{callee}
 use Rattle.forward_value_search.specs.Places.{arrow}
 use Rattle.forward_value_walk.specs.Walking.{pair_in, before_in, answer_in, settled_pair, settled_before, IsSettled, IsPairMet, IsBeforeMet}
 

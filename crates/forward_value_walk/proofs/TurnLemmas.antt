@@ -1,14 +1,14 @@
 -- A turn of the walk, and its end.
-use Rattle.std.proofs.Common.{◌≡◌, ◌⊎◌, inl, inr, ℕ, zero, suc, ◌<◌, ◌≤◌, ◌^◌, true, false, List, [], ◌∷◌, length, refl, sym, ap, ◌∙◌, subst, arith}
+use Rattle.std.proofs.Common.{◌≡◌, ◌⊎◌, inl, inr, ℕ, zero, suc, ◌<◌, ◌^◌, true, false, List, [], ◌∷◌, length, sym, ap, ◌∙◌, subst, arith}
 use Rattle.std.specs.Prelude.{Some, slice_get}
 use Rattle.std.proofs.lemmas.Option.{same_Some}
-use Rattle.semiring_laws.specs.Semiring.{Operations, IsSemiring, Fits, Below}
+use Rattle.semiring_laws.specs.Semiring.{Operations, IsSemiring, Below}
 use Rattle.pushdown_rules.specs.Pushdown.{IsSystem}
 use Rattle.config_patterns.specs.Membership.{PatternValue}
 use Rattle.weighted_automata.specs.declared.place.Place.{Place}
 use Rattle.weighted_automata.proofs.CallerLemmas.{cases_place}
 use Rattle.weight_tables.specs.Entries.{TableEntry, NoneWaits, taken, weight_in, settled_in}
-use Rattle.weight_tables.specs.Tables.{TablesValue, AreTables, with_entries, with_hand}
+use Rattle.weight_tables.specs.Tables.{TablesValue, AreTables, with_entries}
 use Rattle.weight_tables.specs.Turns.{turns_left}
 use Rattle.weight_tables.specs.declared.layer.Layer.TheVariants.{Walk}
 use Rattle.weight_tables.proofs.CallerLemmas.{taken_weight, taken_settled, taken_turns}
@@ -17,8 +17,8 @@ use Rattle.walk_pairs.specs.Pairs.{pair_place, answer_place}
 use Rattle.walk_pairs.specs.Answering.{IsAnswered, IsWalkedOver}
 use Rattle.forward_value_search.specs.Search.{IsFinished}
 use Rattle.forward_value_laws.proofs.CallerLemmas.{walk_answers}
-use Rattle.forward_value_walk.specs.Walking.{IsMade, IsPairMet, IsBeforeMet, IsSettled, found_in, pairs_of, settled_pair, settled_before}
-use Rattle.forward_value_walk.specs.private.Going.{AreMade, IsGoneOn, IsPlaceGiven, IsWalking}
+use Rattle.forward_value_walk.specs.Walking.{IsMade, IsPairMet, IsBeforeMet, found_in, pairs_of, settled_pair, settled_before}
+use Rattle.forward_value_walk.specs.private.Going.{IsPlaceGiven, IsWalking}
 use Rattle.forward_value_walk.proofs.SettleLemmas.{settled_on}
 use Rattle.forward_value_walk.proofs.DoneLemmas.{pairs_walked}
 use Rattle.forward_value_walk.proofs.GoingLemmas.{IsWalkable, gone_fit, gone_falls, gone_counts, gone_turns, gone_walkable}

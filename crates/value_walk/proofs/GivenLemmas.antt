@@ -1,14 +1,12 @@
 -- What a pair gives, one part after another.
-use Rattle.std.proofs.Common.{◌≡◌, ◌⊎◌, inl, inr, ℕ, List, refl, sym, ap, ◌∙◌, subst}
-use Rattle.std.specs.Prelude.{IsTrue}
+use Rattle.std.proofs.Common.{◌≡◌, inl, inr, ℕ, List, sym, ◌∙◌, subst}
 use Rattle.wpds_base.specs.Lists.{IsIn}
 use Rattle.semiring_laws.specs.Semiring.{Operations, IsSemiring, Fits, Below}
 use Rattle.config_patterns.specs.declared.edge.Edge.{Edge}
-use Rattle.config_patterns.specs.declared.item.Item.{Item}
-use Rattle.config_patterns.specs.Edges.{edges_of, is_final_of}
+use Rattle.config_patterns.specs.Edges.{edges_of}
 use Rattle.config_patterns.specs.Membership.{PatternValue}
 use Rattle.weighted_automata.specs.declared.place.Place.{Place}
-use Rattle.weight_tables.specs.Entries.{TableEntry, weight_in}
+use Rattle.weight_tables.specs.Entries.{weight_in}
 use Rattle.weight_tables.specs.Tables.{TablesValue, AreTables, with_entries}
 use Rattle.weight_tables.specs.declared.layer.Layer.{Layer}
 use Rattle.weight_tables.specs.declared.layer.Layer.TheVariants.{Base, Target, Walk}
@@ -16,12 +14,11 @@ use Rattle.walk_pairs.specs.declared.pairs.Order.{Order}
 use Rattle.walk_pairs.specs.declared.pairs.Order.TheVariants.{Then}
 use Rattle.walk_pairs.specs.declared.pairs.Stage.{Stage}
 use Rattle.walk_pairs.specs.declared.pairs.Stage.TheVariants.{Down, Across}
-use Rattle.walk_pairs.specs.Pairs.{pair_place, answer_place, place_over}
+use Rattle.walk_pairs.specs.Pairs.{pair_place}
 use Rattle.walk_pairs.specs.Lowerings.{ArePairsLowered}
 use Rattle.walk_pairs.specs.Giving.{IsKept, IsFall, AreFallsGiven, worth_over}
 use Rattle.walk_pairs.specs.Reading.{IsStand, IsStep}
 use Rattle.walk_pairs.proofs.CallerLemmas.{pairs_then, pairs_wider, pairs_fit, below_later, worth_fits, ways_fit, worth_stays}
-use Rattle.value_walk.specs.Answering.{pops_in, enters_in}
 use Rattle.value_walk.specs.private.Walking.{IsMeeting, IsMeetingGiven, IsGivenDown, IsDownGiven}
 
 -- by all ways, said of the tables as they were first

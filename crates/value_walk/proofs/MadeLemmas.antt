@@ -1,5 +1,5 @@
 -- What a pair gives is made of runs, as the pair is.
-use Rattle.std.proofs.Common.{◌≡◌, ◌⊎◌, inl, inr, ℕ, suc, List, length, sym, subst}
+use Rattle.std.proofs.Common.{◌≡◌, inl, inr, ℕ, suc, List, sym, subst}
 use Rattle.semiring_laws.specs.Semiring.{Operations, IsSemiring, Fits}
 use Rattle.pushdown_rules.specs.Pushdown.{Pushdown, IsSystem}
 use Rattle.pushdown_rules.specs.Answers.{Leads}

@@ -1,10 +1,8 @@
 -- A turn of the walk keeps what was settled.
 use Rattle.std.proofs.Common.{◌≡◌, ◌⊎◌, inl, inr, ℕ, suc, List, refl, sym, ap, ◌∙◌, subst}
 use Rattle.std.specs.Prelude.{Some, slice_get}
-use Rattle.wpds_base.specs.Lists.{IsIn}
 use Rattle.semiring_laws.specs.Semiring.{Operations, IsSemiring, Fits, Below}
 use Rattle.semiring_laws.proofs.CallerLemmas.{below_itself, below_trans, below_zero}
-use Rattle.config_patterns.specs.Edges.{edges_of}
 use Rattle.config_patterns.specs.Membership.{PatternValue}
 use Rattle.weighted_automata.specs.declared.place.Place.{Place}
 use Rattle.weighted_automata.proofs.CallerLemmas.{cases_place}
@@ -76,7 +74,7 @@ module _ {W Map : Type 0} {s : Operations W Map} (laws : IsSemiring s) (from to 
     first_settled none begins =
         let nothing : (x y : Place) → Below s (weight_in s es y) (settled_in s es x) = λ x y. let P : W → Type 0 = Below s (weight_in s es y) in subst P (sym (none x)) (below_zero laws (weight_in s es y) (fits y)) in
         let nothing_then : (x y : Place) (m : W) → Fits s m → Below s (weight_in s es y) (s.extend (settled_in s es x) m) = λ x y m fm. let P : W → Type 0 = Below s (weight_in s es y) in
-            subst P (sym (ap (λ u. s.extend u m) (none x) ∙ laws.extend-zero_left m fm)) (below_zero laws (weight_in s es y) (fits y)) in
+        subst P (sym (ap (λ u. s.extend u m) (none x) ∙ laws.extend-zero_left m fm)) (below_zero laws (weight_in s es y) (fits y)) in
         record {
           begins = begins;
           downs = λ i c. record {

@@ -1,10 +1,9 @@
 -- The beginning of the walk, a turn, and its end.
-use Rattle.std.proofs.Common.{◌≡◌, ◌⊎◌, inl, inr, ℕ, zero, suc, ◌<◌, ◌≤◌, ◌^◌, true, false, List, [], ◌∷◌, length, refl, sym, ap, ◌∙◌, subst, arith}
+use Rattle.std.proofs.Common.{◌≡◌, ◌⊎◌, inl, inr, ℕ, zero, suc, ◌<◌, ◌^◌, true, false, List, [], ◌∷◌, length, refl, sym, ap, ◌∙◌, subst, arith}
 use Rattle.std.specs.Prelude.{Some, slice_get}
 use Rattle.std.proofs.lemmas.Option.{same_Some}
-use Rattle.semiring_laws.specs.Semiring.{Operations, IsSemiring, Fits, Below}
-use Rattle.pushdown_rules.specs.Pushdown.{Pushdown, IsSystem}
-use Rattle.config_patterns.specs.Edges.{edges_of}
+use Rattle.semiring_laws.specs.Semiring.{Operations, IsSemiring, Fits}
+use Rattle.pushdown_rules.specs.Pushdown.{IsSystem}
 use Rattle.config_patterns.specs.Membership.{PatternValue}
 use Rattle.weighted_automata.specs.declared.place.Label.{Label}
 use Rattle.weighted_automata.specs.declared.place.Label.TheVariants.{Symbol, Empty}
@@ -19,7 +18,7 @@ use Rattle.walk_pairs.specs.declared.pairs.Stage.TheVariants.{Down, Across, Befo
 use Rattle.walk_pairs.specs.Pairs.{number_of, pair_place, answer_place, place_over}
 use Rattle.walk_pairs.specs.Lowerings.{AreLowered, ArePairsLowered}
 use Rattle.walk_pairs.specs.Reading.{IsStand, IsStep}
-use Rattle.walk_pairs.proofs.CallerLemmas.{AllFit, none_pairs, one_lowered, lowered_all_fit, lowered_counts, lowered_holds, lowered_all_turns, one_below}
+use Rattle.walk_pairs.proofs.CallerLemmas.{none_pairs, one_lowered, lowered_all_fit, lowered_counts, lowered_holds, lowered_all_turns, one_below}
 use Rattle.value_laws.specs.Settled.{AreWeights}
 use Rattle.value_laws.proofs.CallerLemmas.{answer_below, sum_answers}
 use Rattle.walk_pairs.specs.Answering.{IsAnswered, IsWalkedOver}

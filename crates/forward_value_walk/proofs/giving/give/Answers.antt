@@ -1,8 +1,5 @@
-use Rattle.std.proofs.Common.{◌≡◌, ℕ, refl, sym, ap, ◌∙◌, subst, arith}
-use Rattle.std.specs.Prelude.{Option, None, Some, IfNone, slice_get}
-use Rattle.std.proofs.lemmas.Option.{same_Some}
-use Rattle.weighted_automata.specs.declared.place.Place.{Place}
-use Rattle.weight_tables.specs.Entries.{TableEntry}
+use Rattle.std.proofs.Common.{◌≡◌, ℕ, sym, ap, ◌∙◌, subst, arith}
+use Rattle.std.specs.Prelude.{Option, None, IfNone}
 use Rattle.walk_pairs.specs.declared.pairs.Stage.{Stage}
 use Rattle.walk_pairs.specs.declared.pairs.Pair.{Pair}
 use Rattle.walk_pairs.specs.declared.pairs.Stage.TheVariants.{Down, Across, Before}

@@ -1,4 +1,3 @@
-use Rattle.std.proofs.Common.{◌≡◌, sym, subst}
 use Rattle.walk_pairs.specs.declared.pairs.Stage.TheVariants.{Down}
 use Rattle.walk_pairs.specs.Pairs.{pair_place}
 use Rattle.forward_value_walk.proofs.GoingLemmas.{walkable_of, within_of, gone_walkable, gone_stands}

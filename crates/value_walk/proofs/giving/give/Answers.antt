@@ -1,6 +1,5 @@
 use Rattle.std.proofs.Common.{◌≡◌, ℕ, refl, sym, ap, ◌∙◌, subst, arith}
 use Rattle.std.specs.Prelude.{Option, None, IfNone}
-use Rattle.weighted_automata.specs.declared.place.Place.{Place}
 use Rattle.walk_pairs.specs.declared.pairs.Stage.{Stage}
 use Rattle.walk_pairs.specs.declared.pairs.Pair.{Pair}
 use Rattle.walk_pairs.specs.declared.pairs.Stage.TheVariants.{Down, Across, Before}
