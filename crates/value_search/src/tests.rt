@@ -28,7 +28,7 @@ fn a_call_returns(rt: HostRuntime) -> Result<(), Fail> {
     let system = calling(alloc)?;
     let mut tables = Tables::new(alloc, &system, PlainWeigher::new(alloc, &system));
     close(&mut tables)?;
-    assert!(rt; tables.len(Layer::Base) == 4);
+    assert_eq!(rt; tables.len(Layer::Base), 4);
     assert!(rt; tables.value(Layer::Base, over(0, 0, 2))?);
     assert!(rt; tables.value(Layer::Base, over(0, 1, 1))?);
     assert!(rt; !tables.value(Layer::Base, over(0, 0, 1))?);
@@ -36,21 +36,31 @@ fn a_call_returns(rt: HostRuntime) -> Result<(), Fail> {
     Ok(())
 }
 
-// control 1 with a 1 above any number of 2s
 #[test]
-fn a_target_is_entered(rt: HostRuntime) -> Result<(), Fail> {
+fn a_target_is_entered_after_another(rt: HostRuntime) -> Result<(), Fail> {
     let alloc = rt.alloc();
     let system = calling(alloc)?;
     let mut tables = Tables::new(alloc, &system, PlainWeigher::new(alloc, &system));
     close(&mut tables)?;
+    // control 1 with a 1 above any number of 2s
     let mut target = Pattern::new(alloc, 1, 3);
     target.add_item(alloc, &[1], false)?;
     target.add_item(alloc, &[2], true)?;
     close_to_target(&mut tables, &target)?;
-    assert!(rt; tables.len(Layer::Target) == 3);
+    assert_eq!(rt; tables.len(Layer::Target), 3);
     assert!(rt; tables.value(Layer::Target, over(1, 1, 1))?);
     assert!(rt; tables.value(Layer::Target, over(0, 1, 1))?);
     assert!(rt; tables.value(Layer::Target, over(0, 0, 2))?);
     assert!(rt; !tables.value(Layer::Target, over(0, 0, 1))?);
+    // control 0 with any symbol on top: nothing else leads there
+    let mut target = Pattern::new(alloc, 0, 3);
+    target.add_all(false)?;
+    target.add_all(true)?;
+    close_to_target(&mut tables, &target)?;
+    assert_eq!(rt; tables.len(Layer::Target), 4);
+    assert!(rt; tables.value(Layer::Target, over(0, 0, 1))?);
+    assert!(rt; tables.value(Layer::Target, over(0, 0, 2))?);
+    assert!(rt; tables.value(Layer::Target, over(0, 1, 1))?);
+    assert!(rt; !tables.value(Layer::Target, over(1, 1, 1))?);
     Ok(())
 }
