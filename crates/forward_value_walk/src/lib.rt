@@ -6,8 +6,6 @@ mod beginning;
 mod calls;
 mod giving;
 mod opening;
-#[cfg(test)]
-mod tests;
 mod turns;
 
 pub use turns::walk;

@@ -11,9 +11,7 @@ mod meet;
 mod opening;
 mod search;
 mod take;
-#[cfg(test)]
-mod tests;
 
 pub use laws::{closed_enters_are_sums, closed_pops_are_sums};
 pub use opening::{aim, open};
-pub use search::{close, close_to_target, turn, turn_to_target};
+pub use search::{turn, turn_to_target};
