@@ -6,6 +6,7 @@ use semiring_laws::Reach;
 use std::alloc::Global;
 use std::test::Fail;
 use weight_tables::{PlainWeigher, Tables};
+use wpds_base::OutOfMemory;
 
 // 0 over 0 calls 1 above 2; 1 goes from control 0 to 1, and is popped there; 2 is popped at control 1 into 2.
 fn calls(alloc: Global) -> Result<System<Reach>, Fail> {
@@ -26,18 +27,27 @@ fn stack(alloc: Global, control: u32, word: &[u32]) -> Result<Pattern, Fail> {
     Ok(pattern)
 }
 
+// All runs from a pattern are searched, and a walk to another goes over them.
+fn value(
+    tables: &mut Tables<'_, Reach, PlainWeigher<'_, Reach>>,
+    first: &Pattern,
+    wanted: &Pattern,
+) -> Result<bool, OutOfMemory> {
+    open(tables, first)?;
+    close(tables, first)?;
+    walk(tables, first, wanted)
+}
+
 // From 0 above 0 and any number of 2s, the value of a walk to a control above one stack.
 fn leads(alloc: Global, control: u32, word: &[u32]) -> Result<bool, Fail> {
     let system = calls(alloc)?;
     let mut first = Pattern::new(alloc, 0, 3);
     first.add_item(alloc, &[0], false)?;
     first.add_item(alloc, &[2], true)?;
-    let mut tables = Tables::new(alloc, &system, PlainWeigher::new(alloc, &system));
-    open(&mut tables, &first)?;
-    close(&mut tables, &first)?;
     let wanted = stack(alloc, control, word)?;
-    let value = walk(&mut tables, &first, &wanted)?;
-    Ok(value)
+    let mut tables = Tables::new(alloc, &system, PlainWeigher::new(alloc, &system));
+    let leads = value(&mut tables, &first, &wanted)?;
+    Ok(leads)
 }
 
 #[test]
