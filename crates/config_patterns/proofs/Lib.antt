@@ -5,6 +5,8 @@ mod PlaceLemmas
 mod CountLemmas
 mod ItemLemmas
 mod SetLemmas
+mod RangeLemmas
+mod SymbolLemmas
 mod SkipLemmas
 mod OnceLemmas
 mod Examples

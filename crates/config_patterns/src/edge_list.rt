@@ -2,20 +2,17 @@ ghost use Rattle.std.specs.Prelude.{◌≡◌, ◌≤◌, ◌<◌, ◌++◌, suc
 ghost use Rattle.wpds_base.specs.Limits.{most_items};
 ghost use Rattle.config_patterns.specs.Edges.{edges_into, edges_on, edges_back, edges_from, edges_of};
 
-use crate::{Edge, Item};
+use crate::{Edge, Item, SymbolSet};
 use std::alloc::Global;
 use wpds_base::OutOfMemory;
 
 // Adds an edge on each symbol of a set.
-fn push_into(edges: &mut Vec<Edge>, from: u32, to: u32, set: &[u32]) -> Result<(), OutOfMemory>
+fn push_into(edges: &mut Vec<Edge>, from: u32, to: u32, set: &SymbolSet) -> Result<(), OutOfMemory>
     ensures { OnOk result (edges.new.items ≡ edges.old.items ++ edges_into from to set.now) }
 {
-    for symbol in set {
-        edges.push(Edge {
-            from,
-            symbol: *symbol,
-            to,
-        })?;
+    for k in 0..set.len() {
+        let symbol = set.at(k);
+        edges.push(Edge { from, symbol, to })?;
     }
     Ok(())
 }
@@ -28,7 +25,7 @@ fn push_on(edges: &mut Vec<Edge>, from: usize, items: &[Item]) -> Result<(), Out
         edges.new.items ≡ edges.old.items ++ edges_on from (suc from) (drop from items.now)) }
 {
     for i in from..items.len() {
-        push_into(edges, from as u32, i as u32 + 1, items[i].set.as_slice())?;
+        push_into(edges, from as u32, i as u32 + 1, &items[i].set)?;
         if !items[i].star {
             return Ok(());
         }
@@ -41,7 +38,7 @@ fn push_back(edges: &mut Vec<Edge>, at: u32, item: &Item) -> Result<(), OutOfMem
     ensures { OnOk result (edges.new.items ≡ edges.old.items ++ edges_back at item.now) }
 {
     if item.star {
-        push_into(edges, at, at, item.set.as_slice())?;
+        push_into(edges, at, at, &item.set)?;
     }
     Ok(())
 }

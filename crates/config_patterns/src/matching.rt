@@ -4,7 +4,6 @@ ghost use Rattle.config_patterns.specs.Membership.{items_match};
 ghost use Rattle.config_patterns.specs.private.Places.{place_matches, advanced};
 
 use crate::Item;
-use crate::item::has_symbol;
 use pushdown_rules::Config;
 
 /// How many places a walk over the items may have: before each of 1,000 items, and after the last.
@@ -27,7 +26,7 @@ fn advance(items: &[Item], symbol: u32, places: &mut [bool])
     let mut entered = false;
     for (i, item) in items.iter().enumerate() {
         let here = places[i] || skipped;
-        let takes = here && has_symbol(item.set.as_slice(), symbol);
+        let takes = here && item.set.has(symbol);
         places[i] = entered || takes && item.star;
         skipped = here && item.star;
         entered = takes && !item.star;

@@ -1,16 +1,17 @@
-ghost use Rattle.std.specs.Prelude.{◌≡◌, ◌<◌, ◌≤◌, ◌++◌, ◌∷◌, [], length, ◌+◌, ◌*◌, if◌then◌else◌, IsTrue, IfOk, OnOk, OnErr, All, nat_le, false, slice_get, Some};
-ghost use Rattle.std.specs.List.{list_any, list_all};
+ghost use Rattle.std.specs.Prelude.{◌≡◌, ℕ, List, ◌<◌, ◌≤◌, ◌++◌, ◌∷◌, [], length, ◌+◌, ◌*◌, if◌then◌else◌, IsTrue, IfOk, OnOk, OnErr, IsOk, All, nat_le, false, slice_get, None, Some};
+ghost use Rattle.std.specs.List.{list_any, list_all, range_with_len};
 ghost use Rattle.wpds_base.specs.Limits.{most_items};
 ghost use Rattle.config_patterns.specs.declared.pattern.PatternFault.TheVariants.{Memory};
 ghost use Rattle.config_patterns.specs.Membership.{has_member, with_item};
 ghost use Rattle.config_patterns.specs.Edges.{edges_of, is_final_of, is_starred};
 ghost use Rattle.config_patterns.specs.Validity.{is_set, IsItem, IsPattern, IsWithin};
 ghost use Rattle.config_patterns.specs.Fault.{item_fault, refusal_of, IsAccepted};
+ghost use Rattle.config_patterns.specs.private.Counted.{IsCounted};
 
 use crate::edge_list::list_edges;
-use crate::item::copy_set;
 use crate::matching::match_stack;
-use crate::{EdgeList, Item};
+use crate::symbol_set::copy_set;
+use crate::{EdgeList, Item, SymbolSet};
 use pushdown_rules::Config;
 use std::alloc::{AllocFailed, Global};
 use std::marker::Model;
@@ -51,6 +52,18 @@ impl<T: Drop> From<AllocFailed<T>> for PatternFault {
 
     fn from(_: AllocFailed<T>) -> Self {
         PatternFault::Memory
+    }
+}
+
+/// An answer to an item that is not refused, which only memory can lack.
+pub fn unrefused(added: Result<(), PatternFault>) -> Result<(), OutOfMemory>
+    requires { refusal_of added ≡ None }
+    ensures { OnOk result (IsOk added) }
+{
+    match added {
+        Ok(()) => Ok(()),
+        Err(PatternFault::Memory) => Err(OutOfMemory),
+        Err(_) => unreachable!(),
     }
 }
 
@@ -163,31 +176,61 @@ impl Pattern {
         ensures refusal { refusal_of result ≡ item_fault self.old set.now star }
         ensures err { OnErr result (self.new ≡ self.old) }
     {
-        let edges = self.admit(set, star)?;
-        let set = copy_set(alloc, set)?;
-        self.items.push(Item { set, star })?;
-        self.edges = edges;
-        self.finals = if star { self.finals + 1 } else { 1 };
-        Ok(())
-    }
-
-    // How many edges there are with an item, or its first refusal.
-    fn admit(&self, set: &[u32], star: bool) -> Result<u64, PatternFault>
-        ensures refusal { refusal_of result ≡ item_fault self.now set.now star }
-        ensures accepted { OnOk result (IsAccepted self.now set.now star) }
-        ensures count { IfOk result (λ n.
-            n ≡ length (edges_of (with_item self.now set.now star).items)) }
-    {
         if has_from(self.symbols, set) {
             return Err(PatternFault::NoSymbol);
         }
+        let edges = self.admit(set.len() as u64, star)?;
+        let set = copy_set(alloc, set)?;
+        self.push(Item { set, star }, edges)?;
+        Ok(())
+    }
+
+    /// Adds an item that takes every symbol there is. After a refusal the pattern is as it was.
+    #[tactic(auto, using(crate::proofs::RangeLemmas::all_counted, crate::proofs::RangeLemmas::all_once))]
+    pub fn add_all(&mut self, star: bool) -> Result<(), PatternFault>
+        ensures added { let all = range_with_len 0 self.old.symbols in
+            OnOk result (self.new ≡ with_item self.old all star) }
+        ensures refusal { let all = range_with_len 0 self.old.symbols in
+            refusal_of result ≡ item_fault self.old all star }
+        ensures err { OnErr result (self.new ≡ self.old) }
+    {
+        let edges = self.admit(self.symbols as u64, star)?;
+        let set = SymbolSet::all(self.symbols);
+        self.push(Item { set, star }, edges)?;
+        Ok(())
+    }
+
+    // How many edges there are with an item of so many symbols of the pattern, or its first refusal.
+    fn admit(&self, count: u64, star: bool) -> Result<u64, PatternFault>
+        ensures refusal { (set : List ℕ) → IsCounted count self.now.symbols set →
+            refusal_of result ≡ item_fault self.now set star }
+        ensures accepted { OnOk result ((set : List ℕ) → IsCounted count self.now.symbols set →
+            IsAccepted self.now set star) }
+        ensures count { IfOk result (λ n. (set : List ℕ) → IsCounted count self.now.symbols set →
+            n ≡ length (edges_of (with_item self.now set star).items)) }
+    {
         if self.items.len() >= MAX_ITEMS {
             return Err(PatternFault::TooManyItems);
         }
-        match edges_with(self.edges, self.finals, set.len() as u64, star) {
+        match edges_with(self.edges, self.finals, count, star) {
             Some(edges) => Ok(edges),
             None => Err(PatternFault::TooManyEdges),
         }
+    }
+
+    // Adds an item that is not refused, with which there are so many edges.
+    fn push(&mut self, item: Item, edges: u64) -> Result<(), OutOfMemory>
+        requires once { IsTrue (is_set item.set) }
+        requires accepted { IsAccepted self.old item.set item.star }
+        requires count { edges ≡ length (edges_of (with_item self.old item.set item.star).items) }
+        ensures added { OnOk result (self.new ≡ with_item self.old item.set item.star) }
+        ensures err { OnErr result (self.new ≡ self.old) }
+    {
+        let star = item.star;
+        self.items.push(item)?;
+        self.edges = edges;
+        self.finals = if star { self.finals + 1 } else { 1 };
+        Ok(())
     }
 }
 

@@ -1,5 +1,5 @@
 -- What is made of each thing that a pass lists.
-use Rattle.std.proofs.Common.{◌≡◌, ℕ, suc, List, [], ◌∷◌, ◌++◌, map, refl, sym, ap, ◌∙◌, append_assoc}
+use Rattle.std.proofs.Common.{◌≡◌, ℕ, suc, List, [], ◌∷◌, ◌++◌, map, refl, ap, ◌∙◌}
 use Rattle.std.specs.List.{flat_map}
 use Rattle.std.proofs.lemmas.List.{map-append}
 use Rattle.pushdown_rules.specs.declared.rule.Rule.{Rule}
@@ -16,8 +16,3 @@ made_by_rule h f n (r ∷ rs) = map-append h (f n r) (by_rule f (suc n) rs) ∙ 
 pub made_by_each : {X Y Z : Type 0} (h : Y → Z) (f : X → List Y) (n : ℕ) (xs : List X) → map h (flat_map f xs) ≡ by_number (λ _ x. map h (f x)) n xs
 made_by_each h f n [] = refl
 made_by_each h f n (x ∷ xs) = map-append h (f x) (flat_map f xs) ∙ ap (λ ys. map h (f x) ++ ys) (made_by_each h f (suc n) xs)
-
--- of two lists, one after the other
-pub made_both : {X Y : Type 0} (h : X → Y) (old mid new : List Y) (xs ys : List X) → mid ≡ old ++ map h xs → new ≡ mid ++ map h ys → new ≡ old ++ map h (xs ++ ys)
-made_both h old mid new xs ys first second =
-    second ∙ ap (λ zs. zs ++ map h ys) first ∙ append_assoc old (map h xs) (map h ys) ∙ ap (λ zs. old ++ zs) (sym (map-append h xs ys))

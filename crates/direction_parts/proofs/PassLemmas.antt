@@ -1,5 +1,5 @@
 -- What passes over the rules and over the transitions list, each thing once.
-use Rattle.std.proofs.Common.{◌≡◌, inl, inr, ℕ, zero, suc, ◌+◌, ◌≤◌, Bool, true, List, [], ◌∷◌, ◌++◌, drop, refl, sym, ap, ◌∙◌, subst, append_assoc, arith}
+use Rattle.std.proofs.Common.{◌≡◌, inl, inr, ℕ, zero, suc, ◌+◌, ◌≤◌, Bool, true, List, [], ◌∷◌, ◌++◌, refl, sym, ap, ◌∙◌, subst, arith}
 use Rattle.std.specs.Prelude.{Option, Some, slice_get}
 use Rattle.std.specs.List.{flat_map}
 use Rattle.std.proofs.lemmas.Bool.{cond_both, cond-true}
@@ -115,13 +115,3 @@ module _ {S W Map X : Type 0} (f : ℕ → Rule S W Map → List X) (P : X → T
   pub all_rules : (n : ℕ) (rs : List (Rule S W Map)) (x : X) → IsIn x (by_rule f n rs) → P x
   all_rules n [] x h = absurd h
   all_rules n (r ∷ rs) x h = elim (in_append x (f n r) (by_rule f (suc n) rs) h) [ inl here ↦ each n r x here | inr more ↦ all_rules (suc n) rs x more ]
-
-module _ {S W Map X : Type 0} (f : ℕ → Rule S W Map → List X) (rs : List (Rule S W Map)) (k : ℕ) where
-  -- one rule further, in a pass that adds what each rule gives
-  pub rules_next : (r : Rule S W Map) (old new all : List X) → drop k rs ≡ r ∷ drop (k + 1) rs → old ++ by_rule f k (drop k rs) ≡ all → new ≡ old ++ f k r → new ++ by_rule f (k + 1) (drop (k + 1) rs) ≡ all
-  rules_next r old new all opens was made =
-      let rest = by_rule f (k + 1) (drop (k + 1) rs) in
-      let e : suc k ≡ k + 1 = omega arith in
-      ap (λ ys. ys ++ rest) made ∙ append_assoc old (f k r) rest
-      ∙ ap (λ m. old ++ (f k r ++ by_rule f m (drop (k + 1) rs))) (sym e)
-      ∙ sym (ap (λ ys. old ++ by_rule f k ys) opens) ∙ was

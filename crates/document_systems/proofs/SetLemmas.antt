@@ -24,13 +24,6 @@ all_below n a (suc k) low = (omega arith, all_below n (a + 1) k (omega arith))
 differ : (g h : ℕ) → g < h → nat_eq h g ≡ false
 differ g h low = grind (arith, nat_tests)
 
--- one symbol more
-pub all_more : (a n m : ℕ) → m ≡ a + n → range_with_len a (n + 1) ≡ range_with_len a n ++ m ∷ []
-all_more a zero m is = let same : a ≡ m = omega (arith, is) in ap (λ k. k ∷ []) same
-all_more a (suc n) m is =
-    let count : suc n + 1 ≡ suc (n + 1) = omega arith in
-    ap (range_with_len a) count ∙ ap (λ l. a ∷ l) (all_more (a + 1) n m (omega (arith, is)))
-
 not_among : (g a k : ℕ) → g < a → has_symbol g (range_with_len a k) ≡ false
 not_among g a zero low = refl
 not_among g a (suc k) low = rw (differ g a low, not_among g (a + 1) k (omega arith)) refl

@@ -12,7 +12,7 @@ ghost use Rattle.document_systems.specs.private.Rows.{IsRow};
 use crate::row::{Row, name_of};
 use crate::{DocumentWeights, Names};
 use document_forms::{FactSign, MapText, WeightText};
-use genkill_weights::{GenKill, MaskMap, SharedGenKill};
+use genkill_weights::{GenKill, GenKillW, MaskMap};
 use semiring_laws::Semiring;
 use std::alloc::Global;
 use wpds_base::OutOfMemory;
@@ -38,7 +38,7 @@ enum Effect {
     Killed,
 }
 
-fn has<const N: usize>(weight: &SharedGenKill<N>, effect: Effect, fact: usize) -> bool
+fn has<const N: usize>(weight: &GenKillW<N>, effect: Effect, fact: usize) -> bool
     ensures { result ≡ has_effect N effect weight.now fact }
 {
     match effect {
@@ -51,7 +51,7 @@ fn has<const N: usize>(weight: &SharedGenKill<N>, effect: Effect, fact: usize) -
 fn push_facts<const N: usize>(
     row: &mut Row,
     items: &Names,
-    weight: &SharedGenKill<N>,
+    weight: &GenKillW<N>,
     effect: Effect,
 ) -> Result<(), OutOfMemory>
     ensures { (mark : ℕ) (texts : List (List ℕ)) → IsRow mark texts row.old
@@ -76,7 +76,7 @@ fn push_facts<const N: usize>(
 fn effects_text<const N: usize>(
     alloc: Global,
     items: &Names,
-    weight: &SharedGenKill<N>,
+    weight: &GenKillW<N>,
 ) -> Result<Text, OutOfMemory>
     ensures { IfOk result (λ t. t ≡ spaced (spec.effect_words N items.now weight.now)) }
 {
@@ -101,13 +101,13 @@ impl<const N: usize> DocumentWeights for GenKill<N> {
 
     ghost tells_zero = { λ s. genkill_zero N };
 
-    fn weight_of(&self, alloc: Global, text: &WeightText) -> Result<SharedGenKill<N>, OutOfMemory> {
+    fn weight_of(&self, alloc: Global, text: &WeightText) -> Result<GenKillW<N>, OutOfMemory> {
         match text {
             WeightText::Zero => self.zero(alloc),
             WeightText::Facts(signs) => {
                 let generated = facts_behind(alloc, signs.as_slice(), true)?;
                 let killed = facts_behind(alloc, signs.as_slice(), false)?;
-                self.make_shared(alloc, &generated, &killed)
+                Ok(self.make(&generated, &killed))
             }
             WeightText::One
             | WeightText::Number(_)
@@ -124,7 +124,7 @@ impl<const N: usize> DocumentWeights for GenKill<N> {
         &self,
         alloc: Global,
         items: &Names,
-        value: &SharedGenKill<N>,
+        value: &GenKillW<N>,
     ) -> Result<Text, OutOfMemory> {
         if value.is_zero() {
             return Text::of(alloc, b"unreachable");

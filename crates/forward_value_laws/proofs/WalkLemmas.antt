@@ -59,11 +59,15 @@ module _ {S W Map : Type 0} {operations : S → Operations W Map} {p : Pushdown 
   uncovered_top_sum i w sum = sums_within laws value fv (To (at_stack wanted.control []) (item i)) (Walk 0 (item i))
       (λ run is. (is.begin, [], is.begins, is.goes, refl, λ e. tt)) w sum
 
+  -- a run to where both patterns are read so far is one to where they are read a symbol further
+  pub walks_on : (h i j a b : ℕ) → IsIn (record { from = i; symbol = h; to = j }) others → IsIn (record { from = a; symbol = h; to = b }) edges → (run : List ℕ) → Walk i (item a) run → Walk j (item b) run
+  walks_on h i j a b edge edge' run is =
+      let m = more_above valid laws first.control edges wanted.control a h b is.1 is.0 run edge' is.2 is.3 in
+      (at_stack is.0.control (is.0.stack ++ h ∷ []), is.1 ++ h ∷ [], m.0, m.1, read_more others is.1 0 h i j is.4 edge, λ e. tt)
+
   pub reads_sum : (h i j a b : ℕ) → IsIn (record { from = i; symbol = h; to = j }) others → IsIn (record { from = a; symbol = h; to = b }) edges → (w : W)
       → Sums s value (Walk i (item a)) w → Sums s value (Walk j (item b)) w
-  reads_sum h i j a b edge edge' w sum = sums_within laws value fv (Walk i (item a)) (Walk j (item b))
-      (λ run is. let m = more_above valid laws first.control edges wanted.control a h b is.1 is.0 run edge' is.2 is.3 in
-      (at_stack is.0.control (is.0.stack ++ h ∷ []), is.1 ++ h ∷ [], m.0, m.1, read_more others is.1 0 h i j is.4 edge, λ e. tt)) w sum
+  reads_sum h i j a b edge edge' w sum = sums_within laws value fv (Walk i (item a)) (Walk j (item b)) (walks_on h i j a b edge edge') w sum
 
   module _ (k : ℕ) (r : Rule S W Map) (there : slice_get p.rules k ≡ Some r) (g h : ℕ) (right : r.right ≡ g ∷ h ∷ []) where
     -- from the rule's head over the wanted stack
@@ -109,9 +113,11 @@ module _ {S W Map : Type 0} {operations : S → Operations W Map} {p : Pushdown 
       and_from (nat_eq c.control q.control) (items_match q.items c.stack) (eq-eqb c.control q.control at) ((members_read q.items c.stack).1 (last, reads, final))
 
   -- where both patterns end, the runs are those of the query
+  pub walks_lead : (j a : ℕ) → IsTrue (is_final_of wanted.items j) → IsTrue (is_final_of first.items a) → (run : List ℕ) → Walk j (item a) run → Lead run
+  walks_lead j a final final' run is = (is.0, at_stack wanted.control is.1, member first is.0 a is.2.0 is.2.1 final', member wanted (at_stack wanted.control is.1) j refl is.4 final, is.3)
+
   pub ends_sum : (j a : ℕ) → IsTrue (is_final_of wanted.items j) → IsTrue (is_final_of first.items a) → (w : W) → Sums s value (Walk j (item a)) w → Sums s value Lead w
-  ends_sum j a final final' w sum = sums_within laws value fv (Walk j (item a)) Lead
-      (λ run is. (is.0, at_stack wanted.control is.1, member first is.0 a is.2.0 is.2.1 final', member wanted (at_stack wanted.control is.1) j refl is.4 final, is.3)) w sum
+  ends_sum j a final final' w sum = sums_within laws value fv (Walk j (item a)) Lead (walks_lead j a final final') w sum
 
   module _ (weight : Configuration → Source → W) (closed : IsClosed s p first.control edges weight) (pair : ℕ → Source → W) (answer : W)
       (walked : IsWalked s p first.items weight wanted.control wanted.items pair answer) where

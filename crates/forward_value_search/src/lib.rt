@@ -12,8 +12,6 @@ mod read;
 mod rules;
 mod search;
 mod take;
-#[cfg(test)]
-mod tests;
 
 pub use callees::{Callee, callee_at};
-pub use search::{close, open, turn};
+pub use search::{open, turn};

@@ -6,7 +6,7 @@ ghost use Rattle.config_patterns.specs.Membership.{has_symbol};
 ghost use Rattle.forward_value_search.specs.Search.{StandsAt, IsReady, IsOnward, HasSums, HasRead, HasGivenAll};
 
 use crate::give::give;
-use config_patterns::Pattern;
+use config_patterns::{Pattern, SymbolSet};
 use pushdown_rules::System;
 use semiring_laws::Semiring;
 use weight_tables::{Layer, Tables, Weigher};
@@ -19,7 +19,7 @@ fn read_set<S: Semiring, M: Weigher<S>>(
     first: &Pattern,
     tables: &mut Tables<'_, S, M>,
     row: Place,
-    set: &[u32],
+    set: &SymbolSet,
     to: u32,
 ) -> Result<(), OutOfMemory>
     requires ready { IsReady S.operations system.now first.now tables.old }
@@ -34,10 +34,10 @@ fn read_set<S: Semiring, M: Weigher<S>>(
         HasRead S.operations system.now first.now tables.new row g to tables.old.hand) }
 {
     let _semiring = system.semiring();
-    for symbol in set {
+    for k in 0..set.len() {
         let goal = Place {
             from: row.from,
-            label: Label::Symbol(*symbol),
+            label: Label::Symbol(set.at(k)),
             to,
         };
         give(system, first, tables, goal)?;
@@ -70,7 +70,7 @@ fn read_again<S: Semiring, M: Weigher<S>>(
     if !item.star {
         return Ok(());
     }
-    read_set(system, first, tables, row, item.set.as_slice(), row.to)?;
+    read_set(system, first, tables, row, &item.set, row.to)?;
     Ok(())
 }
 
@@ -93,7 +93,7 @@ fn read_on<S: Semiring, M: Weigher<S>>(
     let _semiring = system.semiring();
     'items: for j in row.to..first.items() {
         let item = first.item(j);
-        read_set(system, first, tables, row, item.set.as_slice(), j + 1)?;
+        read_set(system, first, tables, row, &item.set, j + 1)?;
         if !item.star {
             return Ok(());
         }

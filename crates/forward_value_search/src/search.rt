@@ -60,23 +60,3 @@ pub fn turn<'s, S: Semiring, M: Weigher<S>>(
     take(system, first, tables, t)?;
     Ok(true)
 }
-
-/// Takes entries until none waits. A caller that has more to do between turns loops over `turn` itself. After out of memory the
-/// search is to be let go.
-pub fn close<'s, S: Semiring, M: Weigher<S>>(
-    tables: &mut Tables<'s, S, M>,
-    first: &Pattern,
-) -> Result<(), OutOfMemory>
-    requires { IsSearch S.operations tables.old.system first.now tables.old }
-    ensures system { OnOk result (tables.new.system ≡ tables.old.system) }
-    ensures target { OnOk result (tables.new.target ≡ tables.old.target) }
-    ensures walk { OnOk result (tables.new.walk ≡ tables.old.walk) }
-    ensures done { OnOk result
-        (IsFinished S.operations tables.old.system first.now tables.new) }
-{
-    'turns: loop {
-        if !turn(tables, first)? {
-            return Ok(());
-        }
-    }
-}

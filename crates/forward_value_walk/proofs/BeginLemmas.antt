@@ -1,6 +1,5 @@
 -- A walk begins: what rows give waits, and nothing else is there.
-use Rattle.std.proofs.Common.{◌≡◌, inl, inr, ℕ, ◌≤◌, List, [], length, refl, sym, ap, ◌∙◌, subst}
-use Rattle.std.specs.Prelude.{Some, slice_get}
+use Rattle.std.proofs.Common.{◌≡◌, inl, inr, ℕ, suc, ◌≤◌, [], length, sym, ap, ◌∙◌, subst}
 use Rattle.semiring_laws.specs.Semiring.{Operations, IsSemiring, Fits, Below}
 use Rattle.semiring_laws.proofs.CallerLemmas.{below_trans, below_zero}
 use Rattle.pushdown_rules.specs.Pushdown.{IsSystem}
@@ -14,17 +13,17 @@ use Rattle.weight_tables.specs.Tables.{TablesValue, AreTables, with_entries, wit
 use Rattle.weight_tables.specs.declared.layer.Layer.TheVariants.{Base, Walk}
 use Rattle.weight_tables.proofs.CallerLemmas.{place_fits}
 use Rattle.walk_pairs.specs.declared.pairs.Order.TheVariants.{Then}
-use Rattle.walk_pairs.specs.declared.pairs.Stage.TheVariants.{Down}
+use Rattle.walk_pairs.specs.declared.pairs.Stage.TheVariants.{Down, Before}
 use Rattle.walk_pairs.specs.Pairs.{pair_place, answer_place, place_over}
 use Rattle.walk_pairs.specs.Giving.{IsFall, AreFallsGiven}
 use Rattle.walk_pairs.specs.Answering.{IsWalkedOver}
-use Rattle.walk_pairs.proofs.CallerLemmas.{AllFit, one_lowered, one_below}
+use Rattle.walk_pairs.proofs.CallerLemmas.{one_lowered, one_below}
 use Rattle.forward_value_search.specs.Places.{arrow}
 use Rattle.forward_value_search.specs.Search.{IsFinished}
 use Rattle.forward_value_walk.specs.Walking.{IsMade, IsSettled}
 use Rattle.forward_value_walk.specs.private.Going.{IsRuns, IsGoneOn, IsUncovered, IsWalking}
 use Rattle.forward_value_walk.proofs.MadeLemmas.{made_none, top_made, uncovered_made}
-use Rattle.forward_value_walk.proofs.GoingLemmas.{IsWalkable, none_gone, gone_then, pairs_gone, gone_fit, gone_falls, gone_counts, gone_walkable}
+use Rattle.forward_value_walk.proofs.GoingLemmas.{IsWalkable, gone_then, pairs_gone, gone_fit, gone_falls, gone_counts, gone_walkable}
 
 module _ {S W Map : Type 0} (operations : S → Operations W Map) (laws : (x : S) → IsSemiring (operations x)) (first wanted : PatternValue) where
   abbrev of : TablesValue S W Map → Operations W Map
@@ -159,8 +158,18 @@ module _ {S W Map : Type 0} (operations : S → Operations W Map) (laws : (x : S
               below_none (pair_place Down j n) (ours.extend head (ours.extend r.weight (settled_in ours v3.walk (pair_place Down i m))))
               (ap (λ u. ours.extend head (ours.extend r.weight u)) (none_counts (pair_place Down i m)) ∙ ap (ours.extend head) (our.extend-zero_right r.weight (weight_fits system our k r there))
               ∙ our.extend-zero_right head (place_fits ours (arrow r.control (Symbol r.symbol) n) v.base our.fits-zero valid.base.fits));
-          reads = λ h i j a b edge edge'. below_none (pair_place Down j b) (settled_in ours v3.walk (pair_place Down i a)) (none_counts (pair_place Down i a));
-          ends = λ j a final final'. below_none answer_place (settled_in ours v3.walk (pair_place Down j a)) (none_counts (pair_place Down j a));
+          readings = record {
+            pairs = λ i a. record { stands = λ _ _ k l _ _. below_none (pair_place Before k l) (settled_in ours v3.walk (pair_place Down i a)) (none_counts (pair_place Down i a)) };
+            befores = λ k l.
+                let none = none_counts (pair_place Before k l) in
+                let w : W = settled_in ours v3.walk (pair_place Before k l) in
+                record {
+                  skips = λ _ _. below_none (pair_place Before (suc k) l) w none;
+                  skips_other = λ _ _. below_none (pair_place Before k (suc l)) w none;
+                  reads = λ _ _ _. below_none (pair_place Down (suc k) (suc l)) w none;
+                  ends = λ _ _. below_none answer_place w none;
+                };
+          };
         }
 
         pub begun_walking : IsWalking ours first wanted v3

@@ -1,8 +1,8 @@
 -- Pairs that have all given what they give are what the laws ask for.
-use Rattle.std.proofs.Common.{◌≡◌, ◌⊎◌, inl, inr, ℕ, zero, suc, ◌<◌, ◌≤◌, ◌+◌, Bool, true, false, List, [], ◌∷◌, length, drop, refl, sym, ap, ◌∙◌, subst, arith}
-use Rattle.std.specs.Prelude.{◌&&◌, IsTrue, Option, None, Some, slice_get, nat_le, if◌then◌else◌}
+use Rattle.std.proofs.Common.{◌≡◌, inl, inr, ℕ, Bool, List, [], ◌∷◌, length, drop, sym, ap, ◌∙◌, subst}
+use Rattle.std.specs.Prelude.{IsTrue, Option, None, Some, slice_get, nat_le, if◌then◌else◌}
 use Rattle.std.specs.List.{AllByRecursion, list_all}
-use Rattle.std.proofs.lemmas.Bool.{and_parts, cases_Bool, leb-true, le-leb}
+use Rattle.std.proofs.lemmas.Bool.{and_parts, cases_Bool, leb-true}
 use Rattle.wpds_base.specs.Lists.{IsIn}
 use Rattle.semiring_laws.specs.Semiring.{Operations, IsSemiring, Fits, Below}
 use Rattle.semiring_laws.proofs.CallerLemmas.{below_itself}
@@ -17,13 +17,14 @@ use Rattle.weighted_automata.specs.declared.place.Label.TheVariants.{Symbol, Emp
 use Rattle.weighted_automata.specs.declared.place.Place.{Place}
 use Rattle.weight_tables.specs.Entries.{TableEntry, NoneWaits, weight_in, settled_in}
 use Rattle.weight_tables.proofs.CallerLemmas.{place_fits, all_settled}
-use Rattle.walk_pairs.specs.declared.pairs.Stage.TheVariants.{Down}
+use Rattle.walk_pairs.specs.declared.pairs.Stage.TheVariants.{Down, Before}
 use Rattle.walk_pairs.specs.Pairs.{pair_place, answer_place}
-use Rattle.walk_pairs.proofs.CallerLemmas.{edge_from, edge_to}
+use Rattle.walk_pairs.specs.Reading.{IsPairRead, IsBeforeRead, AreReadingsSettled}
+use Rattle.walk_pairs.proofs.CallerLemmas.{edge_from, edge_to, readings_read, readings_end}
 use Rattle.forward_value_laws.specs.Model.{Source, item, callee, IsWalked, head_of}
-use Rattle.forward_value_search.specs.Places.{arrow, number_of, place_by}
+use Rattle.forward_value_search.specs.Places.{arrow, place_by}
 use Rattle.forward_value_search.proofs.CallerLemmas.{item_number, callee_number}
-use Rattle.forward_value_walk.specs.Walking.{number, found_in, pair_in, pairs_of, IsSettled}
+use Rattle.forward_value_walk.specs.Walking.{number, found_in, pair_in, before_in, answer_in, pairs_of, IsSettled}
 
 module _ {S W Map : Type 0} {operations : S → Operations W Map} {p : Pushdown S W Map} (system : IsSystem operations p) (laws : IsSemiring (operations p.semiring)) (first wanted : PatternValue)
     (base walk : List (TableEntry W)) (base_fits : AllByRecursion (λ e. Fits (operations p.semiring) e.weight) base) (walk_fits : AllByRecursion (λ e. Fits (operations p.semiring) e.weight) walk)
@@ -103,6 +104,16 @@ module _ {S W Map : Type 0} {operations : S → Operations W Map} {p : Pushdown 
             (subst C (settles i has.0) (settled.opens k r there g h right i j edge has.0 has.1 n))
       ])
 
+  -- pairs of items: what both patterns read, and where both end
+  closed : AreReadingsSettled s wanted.items first.items (pair_in s p first wanted base walk) (pair_in s p first wanted base walk) (before_in s p first wanted base walk) (before_in s p first wanted base walk) (answer_in s p first wanted base walk)
+  closed =
+      let P : (i a : ℕ) → W → Type 0 = λ i a w. IsPairRead s wanted.items first.items i a w (before_in s p first wanted base walk) in
+      let B : (k l : ℕ) → W → Type 0 = λ k l w. IsBeforeRead s wanted.items first.items k l w (pair_in s p first wanted base walk) (before_in s p first wanted base walk) (answer_in s p first wanted base walk) in
+      record {
+        pairs = λ i a. subst (P i a) (settles i a) (settled.readings.pairs i a);
+        befores = λ k l. subst (B k l) (all_settled s (pair_place Before k l) walk none) (settled.readings.befores k l);
+      }
+
   reads : (h i j a b : ℕ) → IsIn (record { from = i; symbol = h; to = j }) (edges_of wanted.items) → IsIn (record { from = a; symbol = h; to = b }) (edges_of first.items)
       → Below s (pairs j (item b)) (pairs i (item a))
   reads h i j a b edge edge' =
@@ -110,14 +121,19 @@ module _ {S W Map : Type 0} {operations : S → Operations W Map} {p : Pushdown 
       let right = pair_is i (item a) a (item_number (length first.items) p a (edge_from first.items a h b edge')) in
       let P : W → Type 0 = λ u. Below s u (pairs i (item a)) in
       let Q : W → Type 0 = Below s (pair_in s p first wanted base walk j b) in
-      subst P (sym left) (subst Q (settles i a ∙ sym right) (settled.reads h i j a b edge edge'))
+      subst P (sym left)
+      (subst Q (sym right)
+      (readings_read laws wanted.items first.items (pair_in s p first wanted base walk) (before_in s p first wanted base walk) (answer_in s p first wanted base walk) (λ x y. fits_walk (pair_place Down x y)) (λ x y. fits_walk (pair_place Before x y))
+      (fits_walk answer_place) closed h i j a b edge edge'))
 
   ends : (j a : ℕ) → IsTrue (is_final_of wanted.items j) → IsTrue (is_final_of first.items a) → Below s (weight_in s walk answer_place) (pairs j (item a))
   ends j a final final' =
       let low = and_parts (nat_le a (length first.items)) (list_all is_starred (drop a first.items)) final' in
       let right = pair_is j (item a) a (item_number (length first.items) p a (leb-true a (length first.items) low.0)) in
       let Q : W → Type 0 = Below s (weight_in s walk answer_place) in
-      subst Q (settles j a ∙ sym right) (settled.ends j a final final')
+      subst Q (sym right)
+      (readings_end laws wanted.items first.items (pair_in s p first wanted base walk) (before_in s p first wanted base walk) (answer_in s p first wanted base walk) (λ x y. fits_walk (pair_place Down x y)) (λ x y. fits_walk (pair_place Before x y))
+      (fits_walk answer_place) closed j a final final')
 
   pub pairs_walked : IsWalked s p first.items Found wanted.control wanted.items pairs (weight_in s walk answer_place)
   pairs_walked = record { fits = pair_fits; fits_answer = fits_walk answer_place; tops = tops; uncovered = uncovered; opens = opens; reads = reads; ends = ends }

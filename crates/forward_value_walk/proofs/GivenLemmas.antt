@@ -1,26 +1,25 @@
 -- What a pair gives, one part after another.
-use Rattle.std.proofs.Common.{◌≡◌, ◌⊎◌, inl, inr, ℕ, List, refl, sym, ap, ◌∙◌, subst}
-use Rattle.std.specs.Prelude.{Some, slice_get}
+use Rattle.std.proofs.Common.{◌≡◌, ◌⊎◌, inl, inr, ℕ, refl, sym, ap, ◌∙◌, subst}
 use Rattle.semiring_laws.specs.Semiring.{Operations, IsSemiring, Fits, Below}
-use Rattle.config_patterns.specs.Edges.{edges_of}
+use Rattle.semiring_laws.proofs.CallerLemmas.{below_itself}
 use Rattle.config_patterns.specs.Membership.{PatternValue}
 use Rattle.weighted_automata.specs.declared.place.Place.{Place}
 use Rattle.weight_tables.specs.Entries.{TableEntry, HasDistinctPlaces, weight_in, settled_in}
-use Rattle.weight_tables.specs.Tables.{TablesValue, AreTables, with_entries, with_hand}
+use Rattle.weight_tables.specs.Tables.{TablesValue, with_entries, with_hand}
 use Rattle.weight_tables.specs.declared.layer.Layer.TheVariants.{Walk}
 use Rattle.weight_tables.proofs.CallerLemmas.{place_fits, settled_or_none, index_there, weight_at_index}
-use Rattle.walk_pairs.specs.declared.pairs.Stage.TheVariants.{Down}
+use Rattle.walk_pairs.specs.declared.pairs.Stage.TheVariants.{Down, Before}
 use Rattle.walk_pairs.specs.Pairs.{pair_place, answer_place}
-use Rattle.walk_pairs.specs.Giving.{IsReading, AreReadingsGiven, IsEnding, IsEndingGiven}
+use Rattle.walk_pairs.specs.Reading.{IsStand, IsStep, IsPairGiven as IsPairRead, IsBeforeGiven}
+use Rattle.walk_pairs.proofs.CallerLemmas.{pair_kept, before_kept}
 use Rattle.forward_value_search.specs.Search.{StandsAt}
-use Rattle.forward_value_walk.specs.Walking.{IsMade, IsPairMet}
-use Rattle.forward_value_walk.specs.private.Going.{IsRuns, IsGoneOn, AreCallsGiven, IsPairGiven}
-use Rattle.forward_value_walk.proofs.MadeLemmas.{reading_made, ending_made}
-use Rattle.forward_value_walk.proofs.SettleLemmas.{itself_kept}
-use Rattle.forward_value_walk.proofs.GoingLemmas.{IsWalkable, settled_fits, hand_gone, gone_then, pairs_gone, gone_fit, gone_falls, gone_counts, gone_walkable}
+use Rattle.forward_value_walk.specs.Walking.{IsMade}
+use Rattle.forward_value_walk.specs.private.Going.{IsGoneOn, AreCallsGiven, IsPairGiven, AreItemsGiven}
+use Rattle.forward_value_walk.proofs.MadeLemmas.{stand_made, step_made}
+use Rattle.forward_value_walk.proofs.GoingLemmas.{IsWalkable, hand_gone, gone_then, pairs_gone, gone_fit, gone_falls, gone_counts, gone_walkable}
 
 module _ {S W Map : Type 0} (operations : S → Operations W Map) (laws : (x : S) → IsSemiring (operations x)) (first wanted : PatternValue) (v : TablesValue S W Map) (walkable : IsWalkable operations first wanted v)
-    (distinct : HasDistinctPlaces v.walk) (state source t : ℕ) (stands : StandsAt t (pair_place Down state source) v.walk) where
+    (distinct : HasDistinctPlaces v.walk) where
   abbrev s : Operations W Map
   s = operations v.system.semiring
 
@@ -30,100 +29,105 @@ module _ {S W Map : Type 0} (operations : S → Operations W Map) (laws : (x : S
   abbrev Gone : TablesValue S W Map → TablesValue S W Map → Type 0
   Gone u new = IsGoneOn (operations u.system.semiring) first wanted u new
 
-  abbrev pair : Place
-  pair = pair_place Down state source
+  -- from tables that went on to others that did
+  falls_since : (u new : TablesValue S W Map) → Gone v u → Gone u new → (y : Place) → Below s (weight_in s new.walk y) (weight_in s u.walk y)
+  falls_since u new over since y =
+      let P : TablesValue S W Map → Type 0 = λ z. Below (operations z.system.semiring) (weight_in (operations z.system.semiring) new.walk y) (weight_in (operations z.system.semiring) z.walk y) in
+      subst P over.others (gone_falls operations laws first wanted u new (gone_walkable operations laws first wanted v u walkable over) since y)
 
-  abbrev e : TableEntry W
-  e = stands.0
+  fits_in : (u : TablesValue S W Map) → Gone v u → (y : Place) → Fits s (weight_in s u.walk y)
+  fits_in u over y = place_fits s y u.walk law.fits-zero (gone_fit operations laws first wanted v u walkable over)
 
-  weight_is : weight_in s v.walk pair ≡ e.weight
-  weight_is = ap (weight_in s v.walk) (sym stands.2) ∙ (weight_at_index s e.place v.walk t e (index_there v.walk distinct t e stands.1) stands.1).0
+  -- what an entry of the walk was, with its weight in hand
+  module _ (place : Place) (t : ℕ) (stands : StandsAt t place v.walk) where
+    abbrev e : TableEntry W
+    e = stands.0
 
-  fits_entry : Fits s e.weight
-  fits_entry = subst (Fits s) weight_is (place_fits s pair v.walk law.fits-zero walkable.walk)
+    weight_is : weight_in s v.walk place ≡ e.weight
+    weight_is = ap (weight_in s v.walk) (sym stands.2) ∙ (weight_at_index s e.place v.walk t e (index_there v.walk distinct t e stands.1) stands.1).0
 
-  made_entry : IsMade s v.system first wanted pair e.weight
-  made_entry = subst (IsMade s v.system first wanted pair) weight_is (walkable.made pair)
+    fits_entry : Fits s e.weight
+    fits_entry = subst (Fits s) weight_is (place_fits s place v.walk law.fits-zero walkable.walk)
 
-  -- the tables with the pair's weight in hand
-  abbrev held : TablesValue S W Map
-  held = with_hand e.weight v
+    made_entry : IsMade s v.system first wanted place e.weight
+    made_entry = subst (IsMade s v.system first wanted place) weight_is (walkable.made place)
 
-  module _ (v1 v2 v3 : TablesValue S W Map) (is : v1 ≡ held) (reads : AreReadingsGiven (operations v1.system.semiring) v1 Down (edges_of wanted.items) (edges_of first.items) state source v2)
-      (ends : IsEndingGiven (operations v2.system.semiring) v2 wanted.items first.items state source v3) where
-    reads_held : AreReadingsGiven s held Down (edges_of wanted.items) (edges_of first.items) state source v2
-    reads_held = let P : TablesValue S W Map → Type 0 = λ u. AreReadingsGiven (operations u.system.semiring) u Down (edges_of wanted.items) (edges_of first.items) state source v2 in subst P is reads
+    -- the tables with the entry's weight in hand
+    abbrev held : TablesValue S W Map
+    held = with_hand e.weight v
 
-    -- the tables once both were read on
-    abbrev read : TablesValue S W Map
-    read = with_entries Walk v2.walk held
+    to_held : Gone v held
+    to_held = hand_gone operations laws first wanted v held e.weight refl
 
-    ends_held : IsEndingGiven s read wanted.items first.items state source v3
-    ends_held = let P : TablesValue S W Map → Type 0 = λ u. IsEndingGiven (operations u.system.semiring) u wanted.items first.items state source v3 in subst P reads_held.lowered.others ends
+    -- what counts of it at last
+    counts : (new : TablesValue S W Map) → Gone v new → (settled_in s new.walk place ≡ e.weight) ⊎ (settled_in s new.walk place ≡ s.zero)
+    counts new over = elim (gone_counts operations laws first wanted v new walkable over place) [
+      | inr none ↦ inr none
+      | inl same ↦ elim (settled_or_none s place v.walk) [ inl is_there ↦ inl (same ∙ is_there ∙ weight_is) | inr none ↦ inr (same ∙ none) ]
+    ]
 
-    to_read : Gone held v2
-    to_read = pairs_gone operations laws first wanted held v2 (IsReading s held Down (edges_of wanted.items) (edges_of first.items) state source)
-        (λ x w one.
-        let P : Place → Type 0 = λ y. IsMade s v.system first wanted y w in
-        let W' : W → Type 0 = IsMade s v.system first wanted (pair_place Down one.next one.next_other) in (
-          subst (Fits s) (sym one.weight) fits_entry,
-          subst P (sym one.place) (subst W' (sym one.weight) (reading_made walkable.system law first wanted one.symbol state one.next source one.next_other one.edge one.edge_other e.weight made_entry)),
-        )) reads_held.lowered
+  -- a pair of a state and a source
+  module _ (state source t : ℕ) (stands : StandsAt t (pair_place Down state source) v.walk) where
+    abbrev pair : Place
+    pair = pair_place Down state source
 
-    to_end : Gone read v3
-    to_end = pairs_gone operations laws first wanted read v3 (IsEnding s read wanted.items first.items state source)
-        (λ x w one.
-        let P : Place → Type 0 = λ y. IsMade s v.system first wanted y w in
-        let W' : W → Type 0 = IsMade s v.system first wanted answer_place in (
-          subst (Fits s) (sym one.weight) fits_entry,
-          subst P (sym one.place) (subst W' (sym one.weight) (ending_made walkable.system law first wanted state source one.final one.final_other e.weight made_entry)),
-        )) ends_held.lowered
+    abbrev hand : W
+    hand = stands.0.weight
 
-    -- before the calls
-    from_read : Gone v v2
-    from_read = gone_then operations laws first wanted v held v2 (hand_gone operations laws first wanted v held e.weight refl) to_read
+    module _ (v1 v2 : TablesValue S W Map) (is : v1 ≡ held pair t stands) (reads : IsPairRead (operations v1.system.semiring) v1 wanted.items first.items state source v2) where
+      reads_held : IsPairRead s (held pair t stands) wanted.items first.items state source v2
+      reads_held = let P : TablesValue S W Map → Type 0 = λ u. IsPairRead (operations u.system.semiring) u wanted.items first.items state source v2 in subst P is reads
 
-    from_read_end : Gone v2 v3
-    from_read_end = let P : TablesValue S W Map → Type 0 = λ u. Gone u v3 in subst P (sym reads_held.lowered.others) to_end
+      to_read : Gone (held pair t stands) v2
+      to_read = pairs_gone operations laws first wanted (held pair t stands) v2 (IsStand hand wanted.items first.items state source)
+          (λ x w one. (subst (Fits s) (sym one.weight) (fits_entry pair t stands), stand_made walkable.system law first wanted hand state source (made_entry pair t stands) x w one)) reads_held.lowered
 
-    pub before_calls : Gone v v3
-    before_calls = gone_then operations laws first wanted v v2 v3 from_read from_read_end
+      pub before_calls : Gone v v2
+      before_calls = gone_then operations laws first wanted v (held pair t stands) v2 (to_held pair t stands) to_read
 
-    module _ (v4 : TablesValue S W Map) (calls : AreCallsGiven (operations v3.system.semiring) first wanted state source v3 v4) where
-      calls_first : AreCallsGiven s first wanted state source (with_hand v3.hand (with_entries Walk v3.walk v)) v4
-      calls_first = let P : TablesValue S W Map → Type 0 = λ u. AreCallsGiven (operations u.system.semiring) first wanted state source u v4 in subst P before_calls.others calls
+      module _ (v3 : TablesValue S W Map) (calls : AreCallsGiven (operations v2.system.semiring) first wanted state source v2 v3) where
+        calls_first : AreCallsGiven s first wanted state source (with_hand v2.hand (with_entries Walk v2.walk v)) v3
+        calls_first = let P : TablesValue S W Map → Type 0 = λ u. AreCallsGiven (operations u.system.semiring) first wanted state source u v3 in subst P before_calls.others calls
 
-      all : Gone v v4
-      all = gone_then operations laws first wanted v v3 v4 before_calls calls.gone
+        all : Gone v v3
+        all = gone_then operations laws first wanted v v2 v3 before_calls calls.gone
 
-      -- from the tables as they were read, and as they were ended
-      since_read : Gone v2 v4
-      since_read = gone_then operations laws first wanted v2 v3 v4 from_read_end calls.gone
+        pub pair_given : IsPairGiven s first wanted state source v v3
+        pair_given = record {
+          gone = all;
+          met = record {
+            opens = λ k r there g h right j edge entered n. calls_first.met k r there g h right entered g h right j edge n;
+            reads = pair_kept law wanted.items first.items (λ x y. weight_in s v2.walk (pair_place Before x y)) (λ x y. weight_in s v3.walk (pair_place Before x y)) (λ x y. fits_in v2 before_calls (pair_place Before x y))
+                (λ x y. fits_in v3 all (pair_place Before x y)) (λ x y. falls_since v2 v3 before_calls calls.gone (pair_place Before x y)) hand (settled_in s v3.walk pair) (fits_entry pair t stands) (counts pair t stands v3 all) state source
+                reads_held.met;
+          };
+        }
 
-      falls_since : (u : TablesValue S W Map) → Gone v u → Gone u v4 → (y : Place) → Below s (weight_in s v4.walk y) (weight_in s u.walk y)
-      falls_since u over since y =
-          let P : TablesValue S W Map → Type 0 = λ z. Below (operations z.system.semiring) (weight_in (operations z.system.semiring) v4.walk y) (weight_in (operations z.system.semiring) z.walk y) in
-          subst P over.others (gone_falls operations laws first wanted u v4 (gone_walkable operations laws first wanted v u walkable over) since y)
+  -- what stands before two items
+  module _ (k l t : ℕ) (stands : StandsAt t (pair_place Before k l) v.walk) (v1 v2 : TablesValue S W Map) where
+    abbrev items : Place
+    items = pair_place Before k l
 
-      counts : (settled_in s v4.walk pair ≡ e.weight) ⊎ (settled_in s v4.walk pair ≡ s.zero)
-      counts = elim (gone_counts operations laws first wanted v v4 walkable all pair) [
-        | inr none ↦ inr none
-        | inl same ↦ elim (settled_or_none s pair v.walk) [ inl is_there ↦ inl (same ∙ is_there ∙ weight_is) | inr none ↦ inr (same ∙ none) ]
-      ]
+    abbrev weight : W
+    weight = stands.0.weight
 
-      -- a place that was lowered by the pair's weight is below what counts of it at last
-      below_at_last : (u : TablesValue S W Map) → Gone v u → Gone u v4 → (y : Place) → Below s (weight_in s u.walk y) e.weight → Below s (weight_in s v4.walk y) (settled_in s v4.walk pair)
-      below_at_last u over since y below =
-          itself_kept walkable.system law first wanted v.base walkable.base (weight_in s u.walk y) (weight_in s v4.walk y) e.weight (settled_in s v4.walk pair)
-          (place_fits s y u.walk law.fits-zero (gone_fit operations laws first wanted v u walkable over)) (place_fits s y v4.walk law.fits-zero (gone_fit operations laws first wanted v v4 walkable all)) fits_entry
-          (falls_since u over since y) counts below
+    module _ (is : v1 ≡ held items t stands) (given : IsBeforeGiven (operations v1.system.semiring) v1 wanted.items first.items Down k l v2) where
+      given_held : IsBeforeGiven s (held items t stands) wanted.items first.items Down k l v2
+      given_held = let P : TablesValue S W Map → Type 0 = λ u. IsBeforeGiven (operations u.system.semiring) u wanted.items first.items Down k l v2 in subst P is given
 
-      pub pair_given : IsPairGiven s first wanted state source v v4
-      pair_given = record {
-        gone = all;
-        met = record {
-          opens = λ k r there g h right j edge entered n. calls_first.met k r there g h right entered g h right j edge n;
-          reads = λ h j b edge edge'. below_at_last v2 from_read since_read (pair_place Down j b) (reads_held.met h j b edge edge');
-          ends = λ final final'. below_at_last v3 before_calls calls.gone answer_place (ends_held.met final final');
-        };
+      over : Gone v v2
+      over = gone_then operations laws first wanted v (held items t stands) v2 (to_held items t stands)
+          (pairs_gone operations laws first wanted (held items t stands) v2 (IsStep weight wanted.items first.items Down k l)
+          (λ x w one. (subst (Fits s) (sym one.0) (fits_entry items t stands), step_made walkable.system law first wanted weight k l (made_entry items t stands) x w one)) given_held.lowered)
+
+      stays : (y : Place) → Below s (weight_in s v2.walk y) (weight_in s v2.walk y)
+      stays y = below_itself law (weight_in s v2.walk y) (fits_in v2 over y)
+
+      pub items_given : AreItemsGiven s first wanted k l v v2
+      items_given = record {
+        gone = over;
+        met = before_kept law wanted.items first.items (λ x y. weight_in s v2.walk (pair_place Before x y)) (λ x y. weight_in s v2.walk (pair_place Before x y)) (λ x y. fits_in v2 over (pair_place Before x y))
+            (λ x y. fits_in v2 over (pair_place Before x y)) (λ x y. stays (pair_place Before x y)) weight (settled_in s v2.walk items) (fits_entry items t stands) (counts items t stands v2 over)
+            (λ x y. weight_in s v2.walk (pair_place Down x y)) (λ x y. weight_in s v2.walk (pair_place Down x y)) (λ x y. fits_in v2 over (pair_place Down x y)) (λ x y. fits_in v2 over (pair_place Down x y))
+            (λ x y. stays (pair_place Down x y)) (weight_in s v2.walk answer_place) (weight_in s v2.walk answer_place) (fits_in v2 over answer_place) (fits_in v2 over answer_place) (stays answer_place) k l given_held.met;
       }

@@ -16,8 +16,7 @@ use Rattle.weight_tables.specs.declared.layer.Layer.TheVariants.{Walk}
 use Rattle.weight_tables.proofs.CallerLemmas.{KeepPlaces, places_stay, places_then, lowered_places, place_fits, settled_or_none}
 use Rattle.walk_pairs.specs.declared.pairs.Stage.TheVariants.{Down}
 use Rattle.walk_pairs.specs.Pairs.{pair_place, place_over}
-use Rattle.walk_pairs.specs.Lowerings.{Lowering, lowered_by, AreLowered, ArePairsLowered}
-use Rattle.walk_pairs.specs.Answering.{IsWalkedOver}
+use Rattle.walk_pairs.specs.Lowerings.{Lowering, lowered_by, ArePairsLowered}
 use Rattle.walk_pairs.proofs.CallerLemmas.{AllFit, none_lowered, lowered_then, lowered_wider, lowered_all_fit, lowered_falls, lowered_counts, lowered_all_turns, lowered_holds}
 use Rattle.forward_value_search.specs.Search.{StandsAt, IsFinished}
 use Rattle.forward_value_walk.specs.Walking.{IsMade}

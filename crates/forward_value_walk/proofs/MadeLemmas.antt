@@ -1,8 +1,7 @@
 -- What a walk makes of weights that combine runs combines runs.
-use Rattle.std.proofs.Common.{◌≡◌, ℕ, zero, suc, ◌≤◌, drop, [], ◌∷◌, List, length, sym, ap, ◌∙◌, subst, arith}
-use Rattle.std.specs.Prelude.{IsTrue, Option, None, Some, nat_le}
-use Rattle.std.specs.List.{list_all}
-use Rattle.std.proofs.lemmas.Bool.{and_parts, leb-true}
+use Rattle.std.proofs.Common.{◌≡◌, inl, inr, ℕ, zero, suc, ◌-◌, ◌≤◌, [], ◌∷◌, List, length, sym, ap, ◌∙◌, subst, arith}
+use Rattle.std.specs.Prelude.{Option, None, Some}
+use Rattle.std.proofs.lemmas.Option.{slice_get_within}
 use Rattle.wpds_base.specs.Lists.{IsIn}
 use Rattle.semiring_laws.specs.Semiring.{Operations, IsSemiring, Fits}
 use Rattle.pushdown_rules.specs.Configuration.{at_stack}
@@ -10,7 +9,7 @@ use Rattle.pushdown_rules.specs.Pushdown.{Pushdown, IsSystem}
 use Rattle.pushdown_rules.specs.Values.{value_of}
 use Rattle.pushdown_rules.specs.Answers.{Leads}
 use Rattle.pushdown_rules.proofs.CallerLemmas.{weight_fits, value_fits}
-use Rattle.config_patterns.specs.Edges.{edges_of, is_final_of, is_starred}
+use Rattle.config_patterns.specs.Edges.{edges_of}
 use Rattle.config_patterns.specs.Membership.{PatternValue, has_member}
 use Rattle.weighted_automata.specs.declared.place.Label.{Label}
 use Rattle.weighted_automata.specs.declared.place.Label.TheVariants.{Symbol, Empty}
@@ -18,16 +17,17 @@ use Rattle.weighted_automata.specs.declared.place.Place.{Place}
 use Rattle.weight_tables.specs.Entries.{weight_in}
 use Rattle.weight_tables.specs.Tables.{TablesValue}
 use Rattle.weight_tables.proofs.CallerLemmas.{place_fits}
-use Rattle.walk_pairs.specs.declared.pairs.Stage.TheVariants.{Down}
+use Rattle.walk_pairs.specs.declared.pairs.Stage.TheVariants.{Down, Before}
 use Rattle.walk_pairs.specs.Pairs.{pair_place, place_over, answer_place}
-use Rattle.walk_pairs.proofs.CallerLemmas.{AllFit, edge_from, edge_to}
+use Rattle.walk_pairs.specs.Reading.{ComesBefore, IsStand, IsStep}
+use Rattle.walk_pairs.proofs.CallerLemmas.{AllFit, stands_comes, skip_comes, comes_edge, comes_final}
 use Rattle.value_laws.specs.Runs.{Sums}
-use Rattle.value_laws.proofs.CallerLemmas.{sums_none, sums_combine}
-use Rattle.forward_value_laws.specs.Model.{Source, item, callee, head_of, Comes, Walks, IsSound}
-use Rattle.forward_value_laws.proofs.CallerLemmas.{tops_sum, uncovered_top_sum, opens_sum, reads_sum, ends_sum}
+use Rattle.value_laws.proofs.CallerLemmas.{sums_none, sums_combine, sums_within}
+use Rattle.forward_value_laws.specs.Model.{Source, item, callee, Comes, Walks, IsSound}
+use Rattle.forward_value_laws.proofs.CallerLemmas.{tops_sum, uncovered_top_sum, opens_sum, walks_on, walks_lead}
 use Rattle.forward_value_search.specs.Places.{arrow, place_by}
 use Rattle.forward_value_search.proofs.CallerLemmas.{item_number, one_source}
-use Rattle.forward_value_walk.specs.Walking.{number, found_in, IsMade, IsMadeAt}
+use Rattle.forward_value_walk.specs.Walking.{number, found_in, Stands, IsMade, IsMadeAt}
 use Rattle.forward_value_walk.specs.private.Opening.{IsCall}
 
 module _ {S W Map : Type 0} {operations : S → Operations W Map} {p : Pushdown S W Map} (system : IsSystem operations p) (laws : IsSemiring (operations p.semiring)) (first wanted : PatternValue) where
@@ -42,7 +42,8 @@ module _ {S W Map : Type 0} {operations : S → Operations W Map} {p : Pushdown 
 
   none_at : (f : ℕ) (l : Label) (n : ℕ) → IsMadeAt ours p first wanted f l n ours.zero
   none_at zero (Symbol j) n = λ from is. sums_none laws (value_of ours p) (value_fits system laws) (Pair j from)
-  none_at (suc m) (Symbol j) n = tt
+  none_at (suc zero) (Symbol j) n = tt
+  none_at (suc (suc m)) (Symbol k) l = sums_none laws (value_of ours p) (value_fits system laws) (Stands ours p first wanted k l)
   none_at zero Empty n = sums_none laws (value_of ours p) (value_fits system laws) Lead
   none_at (suc m) Empty n = sums_none laws (value_of ours p) (value_fits system laws) Lead
 
@@ -51,24 +52,51 @@ module _ {S W Map : Type 0} {operations : S → Operations W Map} {p : Pushdown 
 
   joins_at : (f : ℕ) (l : Label) (n : ℕ) (v w : W) → IsMadeAt ours p first wanted f l n v → IsMadeAt ours p first wanted f l n w → IsMadeAt ours p first wanted f l n (ours.combine v w)
   joins_at zero (Symbol j) n v w one two = λ from is. sums_combine laws (value_of ours p) (value_fits system laws) (Pair j from) v w (one from is) (two from is)
-  joins_at (suc m) (Symbol j) n v w one two = tt
+  joins_at (suc zero) (Symbol j) n v w one two = tt
+  joins_at (suc (suc m)) (Symbol k) l v w one two = sums_combine laws (value_of ours p) (value_fits system laws) (Stands ours p first wanted k l) v w one two
   joins_at zero Empty n v w one two = sums_combine laws (value_of ours p) (value_fits system laws) Lead v w one two
   joins_at (suc m) Empty n v w one two = sums_combine laws (value_of ours p) (value_fits system laws) Lead v w one two
 
   pub made_joins : (x : Place) (v w : W) → Fits ours v → Fits ours w → IsMade ours p first wanted x v → IsMade ours p first wanted x w → IsMade ours p first wanted x (ours.combine v w)
   made_joins x v w _ _ one two = joins_at x.from x.label x.to v w one two
 
-  pub reading_made : (h i j a b : ℕ) → IsIn (record { from = i; symbol = h; to = j }) (edges_of wanted.items) → IsIn (record { from = a; symbol = h; to = b }) (edges_of first.items) → (w : W)
-      → IsMade ours p first wanted (pair_place Down i a) w → IsMade ours p first wanted (pair_place Down j b) w
-  reading_made h i j a b edge edge' w made from numbered =
-      let same : item b ≡ from = one_source (length first.items) p (item b) from b (item_number (length first.items) p b (edge_to first.items a h b edge')) numbered in
-      let T : Source → Type 0 = λ y. Sums ours (value_of ours p) (Pair j y) w in
-      subst T same (reads_sum system laws first wanted h i j a b edge edge' w (made (item a) (item_number (length first.items) p a (edge_from first.items a h b edge'))))
+  -- what runs of one kind are made of, where all of it is of another kind
+  within : (Is Or : List ℕ → Type 0) → ((run : List ℕ) → Is run → Or run) → (w : W) → Sums ours (value_of ours p) Is w → Sums ours (value_of ours p) Or w
+  within Is Or wider w sums = sums_within laws (value_of ours p) (value_fits system laws) Is Or wider w sums
 
-  pub ending_made : (j a : ℕ) → IsTrue (is_final_of wanted.items j) → IsTrue (is_final_of first.items a) → (w : W) → IsMade ours p first wanted (pair_place Down j a) w → IsMade ours p first wanted answer_place w
-  ending_made j a final final' w made =
-      let low = leb-true a (length first.items) (and_parts (nat_le a (length first.items)) (list_all is_starred (drop a first.items)) final').0 in
-      ends_sum system laws first wanted j a final final' w (made (item a) (item_number (length first.items) p a low))
+  at_place : (x y : Place) (v w : W) → x ≡ y → w ≡ v → IsMade ours p first wanted y v → IsMade ours p first wanted x w
+  at_place x y v w here is made = let P : Place → Type 0 = λ z. IsMade ours p first wanted z w in subst P (sym here) (subst (IsMade ours p first wanted y) (sym is) made)
+
+  pub stand_made : (hand : W) (i a : ℕ) → IsMade ours p first wanted (pair_place Down i a) hand → (x : Place) (w : W) → IsStand hand wanted.items first.items i a x w → IsMade ours p first wanted x w
+  stand_made hand i a made x w is =
+      at_place x (pair_place Before is.item is.item_other) hand w is.place is.weight
+      (within (Pair i (item a)) (Stands ours p first wanted is.item is.item_other)
+      (λ run walks. record { state = i; state_first = a; comes = stands_comes wanted.items i is.item is.stands; comes_first = stands_comes first.items a is.item_other is.stands_other; walks = walks }) hand
+      (made (item a) (item_number (length first.items) p a is.within_other)))
+
+  pub step_made : (hand : W) (k l : ℕ) → IsMade ours p first wanted (pair_place Before k l) hand → (x : Place) (w : W) → IsStep hand wanted.items first.items Down k l x w → IsMade ours p first wanted x w
+  step_made hand k l made x w (weight, inl (skipped, place)) =
+      at_place x (pair_place Before (suc k) l) hand w place weight
+      (within (Stands ours p first wanted k l) (Stands ours p first wanted (suc k) l)
+      (λ run is. record { state = is.state; state_first = is.state_first; comes = skip_comes wanted.items is.state k is.comes skipped; comes_first = is.comes_first; walks = is.walks }) hand made)
+  step_made hand k l made x w (weight, inr (inl (skipped, place))) =
+      at_place x (pair_place Before k (suc l)) hand w place weight
+      (within (Stands ours p first wanted k l) (Stands ours p first wanted k (suc l))
+      (λ run is. record { state = is.state; state_first = is.state_first; comes = is.comes; comes_first = skip_comes first.items is.state_first l is.comes_first skipped; walks = is.walks }) hand made)
+  step_made hand k l made x w (weight, inr (inr (inl (g, takes, takes', place)))) =
+      at_place x (pair_place Down (suc k) (suc l)) hand w place weight (λ from numbered.
+      let low = slice_get_within first.items (suc l - 1) takes'.0 takes'.1 in
+      let same : item (suc l) ≡ from = one_source (length first.items) p (item (suc l)) from (suc l) (item_number (length first.items) p (suc l) (omega (arith, low))) numbered in
+      let T : Source → Type 0 = λ y. Sums ours (value_of ours p) (Pair (suc k) y) hand in
+      subst T same (within (Stands ours p first wanted k l) (Pair (suc k) (item (suc l)))
+      (λ run is. walks_on system laws first wanted g is.state (suc k) is.state_first (suc l) (comes_edge wanted.items is.state k g is.comes takes) (comes_edge first.items is.state_first l g is.comes_first takes') run is.walks) hand made))
+  step_made hand k l made x w (weight, inr (inr (inr (e, e', place)))) =
+      at_place x answer_place hand w place weight
+      (within (Stands ours p first wanted k l) Lead
+      (λ run is.
+      let P : ℕ → Type 0 = ComesBefore wanted.items is.state in
+      let Q : ℕ → Type 0 = ComesBefore first.items is.state_first in
+      walks_lead system laws first wanted is.state is.state_first (comes_final wanted.items is.state (subst P e is.comes)) (comes_final first.items is.state_first (subst Q e' is.comes_first)) run is.walks) hand made)
 
 module _ {S W Map : Type 0} {operations : S → Operations W Map} (v : TablesValue S W Map) (system : IsSystem operations v.system) (laws : IsSemiring (operations v.system.semiring)) (base_fits : AllFit (operations v.system.semiring) v.base)
     (first wanted : PatternValue) (sound : IsSound (operations v.system.semiring) v.system first.control (edges_of first.items) (found_in (operations v.system.semiring) v.system first wanted v.base v.walk)) where

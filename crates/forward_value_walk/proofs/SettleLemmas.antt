@@ -1,24 +1,19 @@
 -- A turn of the walk keeps what was settled.
-use Rattle.std.proofs.Common.{◌≡◌, ◌⊎◌, inl, inr, ℕ, List, [], ◌∷◌, refl, sym, ap, ◌∙◌, subst}
-use Rattle.std.specs.Prelude.{IsTrue, Some, slice_get}
-use Rattle.wpds_base.specs.Lists.{IsIn}
+use Rattle.std.proofs.Common.{◌≡◌, ◌⊎◌, inl, inr, ℕ, List, sym, ap, ◌∙◌, subst}
 use Rattle.semiring_laws.specs.Semiring.{Operations, IsSemiring, Fits, Below}
 use Rattle.semiring_laws.proofs.CallerLemmas.{below_trans, below_zero}
-use Rattle.pushdown_rules.specs.declared.rule.Rule.{Rule}
 use Rattle.pushdown_rules.specs.Pushdown.{Pushdown, IsSystem}
 use Rattle.pushdown_rules.proofs.CallerLemmas.{weight_fits}
-use Rattle.config_patterns.specs.Edges.{edges_of, is_final_of}
 use Rattle.config_patterns.specs.Membership.{PatternValue}
 use Rattle.weighted_automata.specs.declared.place.Label.TheVariants.{Symbol, Empty}
 use Rattle.weighted_automata.specs.declared.place.Place.{Place}
 use Rattle.weight_tables.specs.Entries.{TableEntry, weight_in, settled_in}
 use Rattle.weight_tables.proofs.CallerLemmas.{place_fits, settled_or_none}
-use Rattle.walk_pairs.specs.declared.pairs.Stage.TheVariants.{Down}
+use Rattle.walk_pairs.specs.declared.pairs.Stage.TheVariants.{Down, Before}
 use Rattle.walk_pairs.specs.Pairs.{pair_place, answer_place}
-use Rattle.walk_pairs.proofs.CallerLemmas.{AllFit}
-use Rattle.forward_value_laws.specs.Model.{callee}
+use Rattle.walk_pairs.proofs.CallerLemmas.{AllFit, pair_kept, before_kept}
 use Rattle.forward_value_search.specs.Places.{arrow}
-use Rattle.forward_value_walk.specs.Walking.{settled_pair, IsSettled, IsPairMet}
+use Rattle.forward_value_walk.specs.Walking.{pair_in, before_in, answer_in, settled_pair, settled_before, IsSettled, IsPairMet, IsBeforeMet}
 
 module _ {S W Map : Type 0} {operations : S → Operations W Map} {p : Pushdown S W Map} (system : IsSystem operations p) (laws : IsSemiring (operations p.semiring)) (first wanted : PatternValue)
     (base : List (TableEntry W)) (base_fits : AllFit (operations p.semiring) base) where
@@ -55,9 +50,17 @@ module _ {S W Map : Type 0} {operations : S → Operations W Map} {p : Pushdown 
     fso : (x : Place) → Fits s (settled_in s old x)
     fso x = elim (settled_or_none s x old) [ inl e ↦ subst (Fits s) (sym e) (fo x) | inr e ↦ subst (Fits s) (sym e) laws.fits-zero ]
 
+    abbrev Pair : List (TableEntry W) → ℕ → ℕ → W
+    Pair es = pair_in s p first wanted base es
+
+    abbrev At : List (TableEntry W) → ℕ → ℕ → W
+    At es = before_in s p first wanted base es
+
     -- Each pair counts as it did, or for nothing, or has given what it gives: the walk is settled.
-    pub settled_on : ((i m : ℕ) → Kept (settled_pair s p first wanted base new i m) (settled_pair s p first wanted base old i m) ⊎ IsPairMet s p first wanted base new i m) → IsSettled s p first wanted base old → IsSettled s p first wanted base new
-    settled_on each settled = record {
+    pub settled_on : ((i m : ℕ) → Kept (settled_pair s p first wanted base new i m) (settled_pair s p first wanted base old i m) ⊎ IsPairMet s p first wanted base new i m)
+        → ((k l : ℕ) → Kept (settled_before s p first wanted base new k l) (settled_before s p first wanted base old k l) ⊎ IsBeforeMet s p first wanted base new k l)
+        → IsSettled s p first wanted base old → IsSettled s p first wanted base new
+    settled_on each each_before settled = record {
       tops = λ g j edge n. below_trans laws (weight_in s new (pair_place Down j n)) (weight_in s old (pair_place Down j n)) (weight_in s base (arrow wanted.control (Symbol g) n))
           (fn (pair_place Down j n)) (fo (pair_place Down j n)) (fb (arrow wanted.control (Symbol g) n)) (falls (pair_place Down j n)) (settled.tops g j edge n);
       uncovered = λ i low. below_trans laws (weight_in s new (pair_place Down 0 i)) (weight_in s old (pair_place Down 0 i)) (weight_in s base (arrow wanted.control Empty i))
@@ -68,14 +71,17 @@ module _ {S W Map : Type 0} {operations : S → Operations W Map} {p : Pushdown 
             (settled_pair s p first wanted base old i m) (settled_pair s p first wanted base new i m) (fo (pair_place Down j n)) (fn (pair_place Down j n)) (fb (arrow r.control (Symbol r.symbol) n))
             (weight_fits system laws k r there) (fso (pair_place Down i m)) (falls (pair_place Down j n)) kept (settled.opens k r there g h right i j edge m is n)
       ];
-      reads = λ h i j a b edge edge'. elim (each i a) [
-        | inr met ↦ met.reads h j b edge edge'
-        | inl kept ↦ itself_kept (weight_in s old (pair_place Down j b)) (weight_in s new (pair_place Down j b)) (settled_pair s p first wanted base old i a) (settled_pair s p first wanted base new i a)
-            (fo (pair_place Down j b)) (fn (pair_place Down j b)) (fso (pair_place Down i a)) (falls (pair_place Down j b)) kept (settled.reads h i j a b edge edge')
-      ];
-      ends = λ j a final final'. elim (each j a) [
-        | inr met ↦ met.ends final final'
-        | inl kept ↦ itself_kept (weight_in s old answer_place) (weight_in s new answer_place) (settled_pair s p first wanted base old j a) (settled_pair s p first wanted base new j a)
-            (fo answer_place) (fn answer_place) (fso (pair_place Down j a)) (falls answer_place) kept (settled.ends j a final final')
-      ];
+      readings = record {
+        pairs = λ i a. elim (each i a) [
+          | inr met ↦ met.reads
+          | inl kept ↦ pair_kept laws wanted.items first.items (At old) (At new) (λ x y. fo (pair_place Before x y)) (λ x y. fn (pair_place Before x y)) (λ x y. falls (pair_place Before x y))
+              (settled_pair s p first wanted base old i a) (settled_pair s p first wanted base new i a) (fso (pair_place Down i a)) kept i a (settled.readings.pairs i a)
+        ];
+        befores = λ k l. elim (each_before k l) [
+          | inr met ↦ met
+          | inl kept ↦ before_kept laws wanted.items first.items (At old) (At new) (λ x y. fo (pair_place Before x y)) (λ x y. fn (pair_place Before x y)) (λ x y. falls (pair_place Before x y))
+              (settled_before s p first wanted base old k l) (settled_before s p first wanted base new k l) (fso (pair_place Before k l)) kept (Pair old) (Pair new) (λ x y. fo (pair_place Down x y)) (λ x y. fn (pair_place Down x y))
+              (λ x y. falls (pair_place Down x y)) (answer_in s p first wanted base old) (answer_in s p first wanted base new) (fo answer_place) (fn answer_place) (falls answer_place) k l (settled.readings.befores k l)
+        ];
+      };
     }

@@ -1,24 +1,24 @@
 -- A turn of the walk, and its end.
-use Rattle.std.proofs.Common.{◌≡◌, ◌⊎◌, inl, inr, ℕ, zero, suc, ◌<◌, ◌≤◌, ◌^◌, true, false, List, [], ◌∷◌, length, refl, sym, ap, ◌∙◌, subst, arith}
+use Rattle.std.proofs.Common.{◌≡◌, ◌⊎◌, inl, inr, ℕ, zero, suc, ◌<◌, ◌^◌, true, false, List, [], ◌∷◌, length, sym, ap, ◌∙◌, subst, arith}
 use Rattle.std.specs.Prelude.{Some, slice_get}
 use Rattle.std.proofs.lemmas.Option.{same_Some}
-use Rattle.semiring_laws.specs.Semiring.{Operations, IsSemiring, Fits, Below}
+use Rattle.semiring_laws.specs.Semiring.{Operations, IsSemiring, Below}
 use Rattle.pushdown_rules.specs.Pushdown.{IsSystem}
 use Rattle.config_patterns.specs.Membership.{PatternValue}
 use Rattle.weighted_automata.specs.declared.place.Place.{Place}
 use Rattle.weighted_automata.proofs.CallerLemmas.{cases_place}
 use Rattle.weight_tables.specs.Entries.{TableEntry, NoneWaits, taken, weight_in, settled_in}
-use Rattle.weight_tables.specs.Tables.{TablesValue, AreTables, with_entries, with_hand}
+use Rattle.weight_tables.specs.Tables.{TablesValue, AreTables, with_entries}
 use Rattle.weight_tables.specs.Turns.{turns_left}
 use Rattle.weight_tables.specs.declared.layer.Layer.TheVariants.{Walk}
 use Rattle.weight_tables.proofs.CallerLemmas.{taken_weight, taken_settled, taken_turns}
-use Rattle.walk_pairs.specs.declared.pairs.Stage.TheVariants.{Down}
+use Rattle.walk_pairs.specs.declared.pairs.Stage.TheVariants.{Down, Before}
 use Rattle.walk_pairs.specs.Pairs.{pair_place, answer_place}
 use Rattle.walk_pairs.specs.Answering.{IsAnswered, IsWalkedOver}
 use Rattle.forward_value_search.specs.Search.{IsFinished}
 use Rattle.forward_value_laws.proofs.CallerLemmas.{walk_answers}
-use Rattle.forward_value_walk.specs.Walking.{IsMade, IsPairMet, IsSettled, found_in, pairs_of, settled_pair}
-use Rattle.forward_value_walk.specs.private.Going.{AreMade, IsGoneOn, IsPlaceGiven, IsWalking}
+use Rattle.forward_value_walk.specs.Walking.{IsMade, IsPairMet, IsBeforeMet, found_in, pairs_of, settled_pair, settled_before}
+use Rattle.forward_value_walk.specs.private.Going.{IsPlaceGiven, IsWalking}
 use Rattle.forward_value_walk.proofs.SettleLemmas.{settled_on}
 use Rattle.forward_value_walk.proofs.DoneLemmas.{pairs_walked}
 use Rattle.forward_value_walk.proofs.GoingLemmas.{IsWalkable, gone_fit, gone_falls, gone_counts, gone_turns, gone_walkable}
@@ -79,10 +79,17 @@ module _ {S W Map : Type 0} (operations : S → Operations W Map) (laws : (x : S
             | inr differs ↦ inl (kept (pair_place Down i m) differs)
           ]
 
+          each_before : (k l : ℕ) → ((settled_before s v.system first wanted v.base new.walk k l ≡ settled_before s v.system first wanted v.base v.walk k l) ⊎ (settled_before s v.system first wanted v.base new.walk k l ≡ s.zero))
+              ⊎ IsBeforeMet s v.system first wanted v.base new.walk k l
+          each_before k l = elim (cases_place e.place (pair_place Before k l)) [
+            | inl same ↦ inr (given.met_before k l same)
+            | inr differs ↦ inl (kept (pair_place Before k l) differs)
+          ]
+
           pub turned : IsTurned v new
           turned =
               let now = gone_walkable operations laws first wanted took new took_walkable given.gone in
-              let settled = settled_on system law first wanted v.base valid.base.fits v.walk new.walk valid.walk.fits (gone_fit operations laws first wanted took new took_walkable given.gone) falls each walking.settled in
+              let settled = settled_on system law first wanted v.base valid.base.fits v.walk new.walk valid.walk.fits (gone_fit operations laws first wanted took new took_walkable given.gone) falls each each_before walking.settled in
               let P : TablesValue S W Map → Type 0 = IsWalking s first wanted in
               let Q : TablesValue S W Map → Type 0 = λ u. (x : Place) → IsMade (of u) u.system first wanted x (weight_in (of u) new.walk x) in
               let less = gone_turns operations laws first wanted took new took_walkable given.gone few in

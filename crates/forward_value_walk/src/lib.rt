@@ -5,11 +5,7 @@
 mod beginning;
 mod calls;
 mod giving;
-mod laws;
 mod opening;
-#[cfg(test)]
-mod tests;
 mod turns;
 
-pub use laws::{open_calls_make_sums, settled_pairs_answer, settled_pairs_stay_settled};
 pub use turns::walk;

@@ -9,7 +9,7 @@ ghost use Rattle.forward_value_walk.specs.private.Opening.{IsWayGiven, AreHeadsG
 
 use config_patterns::Pattern;
 use semiring_laws::Semiring;
-use walk_pairs::{Order, Stage, fall_row, takes, ways_from};
+use walk_pairs::{Order, Stage, fall_row, ways_from};
 use weight_tables::{Layer, Tables, Weigher};
 use wpds_base::OutOfMemory;
 
@@ -49,7 +49,7 @@ fn open_way<'s, S: Semiring, M: Weigher<S>>(
         (IsWayGiven s tables.old wanted.now.items next below control symbol tables.new) }
 {
     tables.valid();
-    if !takes(wanted.item(next - 1), wanted.symbols(), below) {
+    if !wanted.item(next - 1).set.has(below) {
         return Ok(());
     }
     fall_row(

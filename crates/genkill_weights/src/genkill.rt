@@ -1,12 +1,11 @@
-ghost use Rattle.std.specs.Prelude.{◌≡◌, IsOk, IfOk};
+ghost use Rattle.std.specs.Prelude.{◌≡◌, ◌↔◌, IsTrue, IsOk, IfOk};
 ghost use Rattle.semiring_laws.specs.Semiring.{Fits, FitsMap};
 ghost use Rattle.genkill_weights.specs.Making.{is_listed, weight_where, Makes, map_where, Restores};
-ghost use Rattle.genkill_weights.specs.GenKill.{genkill_operations};
+ghost use Rattle.genkill_weights.specs.GenKill.{genkill_operations, united};
 ghost use Rattle.genkill_weights.specs.GenKillLaws.{genkill_laws};
 
-use crate::masks::{either, mask_of, not_in};
-use crate::shared::MOST_WORDS;
-use crate::{GenKillW, MaskMap, SharedGenKill};
+use crate::masks::{either, generated, has_all, kept, mask_of, not_in};
+use crate::{GenKillW, MaskMap};
 use semiring_laws::Semiring;
 use std::alloc::Global;
 use wpds_base::OutOfMemory;
@@ -33,25 +32,6 @@ impl<const N: usize> GenKill<N> {
         }
     }
 
-    /// The weight of `make`, to be shared. A width whose masks are larger than a block of memory is refused as well.
-    pub fn make_shared(
-        &self,
-        alloc: Global,
-        gens: &[u32],
-        kills: &[u32],
-    ) -> Result<SharedGenKill<N>, OutOfMemory>
-        ensures value { IfOk result
-            (λ w. w ≡ weight_where N (is_listed gens.now) (is_listed kills.now)) }
-        ensures effects { IfOk result (λ w. Makes N gens.now kills.now w) }
-        ensures fits { IfOk result (λ w. Fits (genkill_operations N) w) }
-    {
-        if N > MOST_WORDS {
-            return Err(OutOfMemory);
-        }
-        let made = self.make(gens, kills);
-        SharedGenKill::new(alloc, &made)
-    }
-
     /// The return map that restores these facts. Numbers of facts that the width has no room for are left out.
     pub fn restore(&self, facts: &[u32]) -> MaskMap<N>
         ensures value { result ≡ map_where N (is_listed facts.now) }
@@ -65,7 +45,7 @@ impl<const N: usize> GenKill<N> {
 }
 
 impl<const N: usize> Semiring for GenKill<N> {
-    type W = SharedGenKill<N>;
+    type W = GenKillW<N>;
 
     type Ret = MaskMap<N>;
 
@@ -73,78 +53,86 @@ impl<const N: usize> Semiring for GenKill<N> {
 
     ghost laws = { λ _. genkill_laws N };
 
-    fn zero(&self, _alloc: Global) -> Result<SharedGenKill<N>, OutOfMemory>
+    fn zero(&self, _alloc: Global) -> Result<GenKillW<N>, OutOfMemory>
         ensures value { IfOk result (λ w. w ≡ (genkill_operations N).zero) }
         ensures always { IsOk result }
     {
-        Ok(SharedGenKill::zero())
+        Ok(GenKillW::Zero)
     }
 
-    fn one(&self, alloc: Global) -> Result<SharedGenKill<N>, OutOfMemory> {
-        SharedGenKill::one(alloc)
+    fn one(&self, _alloc: Global) -> Result<GenKillW<N>, OutOfMemory> {
+        Ok(GenKillW::Map {
+            keep: [u64::MAX; N],
+            gens: [0; N],
+        })
     }
 
     fn combine(
         &self,
-        alloc: Global,
-        a: &SharedGenKill<N>,
-        b: &SharedGenKill<N>,
-    ) -> Result<SharedGenKill<N>, OutOfMemory> {
-        if a.has_all(b) {
-            return a.share();
-        }
-        joined(alloc, a, b)
+        _alloc: Global,
+        a: &GenKillW<N>,
+        b: &GenKillW<N>,
+    ) -> Result<GenKillW<N>, OutOfMemory> {
+        Ok(either_of(a, b))
     }
 
     fn extend(
         &self,
-        alloc: Global,
-        a: &SharedGenKill<N>,
-        b: &SharedGenKill<N>,
-    ) -> Result<SharedGenKill<N>, OutOfMemory> {
-        if b.is_one() {
-            return a.share();
+        _alloc: Global,
+        a: &GenKillW<N>,
+        b: &GenKillW<N>,
+    ) -> Result<GenKillW<N>, OutOfMemory> {
+        match (a, b) {
+            (
+                GenKillW::Map { keep, gens },
+                GenKillW::Map {
+                    keep: next_keep,
+                    gens: next_gens,
+                },
+            ) => Ok(GenKillW::Map {
+                keep: kept(keep, gens, next_keep, next_gens),
+                gens: generated(gens, next_keep, next_gens),
+            }),
+            _ => Ok(GenKillW::Zero),
         }
-        if a.is_one() {
-            return b.share();
-        }
-        a.followed(alloc, b)
     }
 
     fn lowered(
         &self,
-        alloc: Global,
-        old: &SharedGenKill<N>,
-        weight: &SharedGenKill<N>,
-    ) -> Result<Option<SharedGenKill<N>>, OutOfMemory> {
-        if old.has_all(weight) {
+        _alloc: Global,
+        old: &GenKillW<N>,
+        weight: &GenKillW<N>,
+    ) -> Result<Option<GenKillW<N>>, OutOfMemory> {
+        if has_runs(old, weight) {
             return Ok(None);
         }
-        let sum = joined(alloc, old, weight)?;
-        Ok(Some(sum))
+        Ok(Some(either_of(old, weight)))
     }
 
-    fn copy(&self, _alloc: Global, a: &SharedGenKill<N>) -> Result<SharedGenKill<N>, OutOfMemory> {
-        a.share()
+    fn copy(&self, _alloc: Global, a: &GenKillW<N>) -> Result<GenKillW<N>, OutOfMemory> {
+        Ok(*a)
     }
 
     fn after(
         &self,
-        alloc: Global,
+        _alloc: Global,
         map: &MaskMap<N>,
-        w: &SharedGenKill<N>,
-    ) -> Result<SharedGenKill<N>, OutOfMemory> {
-        match map {
-            MaskMap::Plain => w.share(),
-            MaskMap::Restore { facts } => w.restored(alloc, facts),
+        w: &GenKillW<N>,
+    ) -> Result<GenKillW<N>, OutOfMemory> {
+        match (map, w) {
+            (MaskMap::Restore { facts }, GenKillW::Map { keep, gens }) => Ok(GenKillW::Map {
+                keep: either(keep, facts),
+                gens: not_in(gens, facts),
+            }),
+            _ => Ok(*w),
         }
     }
 
-    fn same(&self, a: &SharedGenKill<N>, b: &SharedGenKill<N>) -> bool {
-        a.is_same(b)
+    fn same(&self, a: &GenKillW<N>, b: &GenKillW<N>) -> bool {
+        *a == *b
     }
 
-    fn is_zero(&self, a: &SharedGenKill<N>) -> bool {
+    fn is_zero(&self, a: &GenKillW<N>) -> bool {
         a.is_zero()
     }
 
@@ -161,18 +149,39 @@ impl<const N: usize> Semiring for GenKill<N> {
     }
 }
 
-// The runs of either weight, where the first does not have all of them.
-fn joined<const N: usize>(
-    alloc: Global,
-    a: &SharedGenKill<N>,
-    b: &SharedGenKill<N>,
-) -> Result<SharedGenKill<N>, OutOfMemory>
-    requires left { Fits (genkill_operations N) a.now }
-    requires right { Fits (genkill_operations N) b.now }
-    ensures { IfOk result (λ w. w ≡ (genkill_operations N).combine a.now b.now) }
+// Whether the runs of the second weight add nothing to those of the first.
+fn has_runs<const N: usize>(a: &GenKillW<N>, b: &GenKillW<N>) -> bool
+    ensures { IsTrue result ↔ (united N a.now b.now ≡ a.now) }
 {
-    if b.has_all(a) {
-        return b.share();
+    match (a, b) {
+        (_, GenKillW::Zero) => true,
+        (GenKillW::Zero, GenKillW::Map { .. }) => false,
+        (
+            GenKillW::Map { keep, gens },
+            GenKillW::Map {
+                keep: more_keep,
+                gens: more_gens,
+            },
+        ) => has_all(keep, more_keep) && has_all(gens, more_gens),
     }
-    a.united(alloc, b)
+}
+
+// The runs of either weight.
+fn either_of<const N: usize>(a: &GenKillW<N>, b: &GenKillW<N>) -> GenKillW<N>
+    ensures { result ≡ united N a.now b.now }
+{
+    match (a, b) {
+        (GenKillW::Zero, _) => *b,
+        (_, GenKillW::Zero) => *a,
+        (
+            GenKillW::Map { keep, gens },
+            GenKillW::Map {
+                keep: more_keep,
+                gens: more_gens,
+            },
+        ) => GenKillW::Map {
+            keep: either(keep, more_keep),
+            gens: either(gens, more_gens),
+        },
+    }
 }

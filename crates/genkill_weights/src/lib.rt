@@ -4,7 +4,6 @@
 mod genkill;
 mod laws;
 mod masks;
-mod shared;
 mod weight;
 mod width;
 
@@ -13,6 +12,5 @@ pub use laws::{
     equal_weights_are_equal_functions, restored_facts_are_the_callers, weights_are_functions,
     weights_are_their_effects, weights_have_their_facts, widths_are_least,
 };
-pub use shared::SharedGenKill;
 pub use weight::{GenKillW, MaskMap};
 pub use width::words_for;

@@ -25,28 +25,6 @@ pub(crate) fn has_all<const N: usize>(a: &[u64; N], b: &[u64; N]) -> bool
     missing == 0
 }
 
-/// Whether each word of a mask is this one.
-pub(crate) fn is_each<const N: usize>(mask: &[u64; N], word: u64) -> bool
-    ensures { IsTrue result → mask.now ≡ tabulate N (λ _. word) }
-{
-    let mut other = 0;
-    for i in 0..N {
-        other |= word ^ mask[i];
-    }
-    other == 0
-}
-
-/// Whether two masks are equal.
-pub(crate) fn is_same<const N: usize>(a: &[u64; N], b: &[u64; N]) -> bool
-    ensures { IsTrue result ↔ (a.now ≡ b.now) }
-{
-    let mut other = 0;
-    for i in 0..N {
-        other |= a[i] ^ b[i];
-    }
-    other == 0
-}
-
 /// What two weights generate, the second with these facts kept and generated.
 pub(crate) fn generated<const N: usize>(
     gens: &[u64; N],

@@ -1,4 +1,4 @@
-ghost use Rattle.std.specs.Prelude.{◌≡◌};
+ghost use Rattle.std.specs.Prelude.{◌≡◌, ◌↔◌, IsTrue};
 
 use crate::masks::is_in;
 
@@ -13,6 +13,17 @@ pub enum GenKillW<const N: usize> {
 
 impl<const N: usize> GenKillW<N> {
     ghost use Rattle.genkill_weights.specs.Effects.{generates, kills};
+    ghost use Rattle.genkill_weights.specs.declared.weight.GenKillW.TheVariants.{Zero};
+
+    /// Whether there is no run.
+    pub fn is_zero(&self) -> bool
+        ensures { IsTrue result ↔ (self.now ≡ Zero) }
+    {
+        match self {
+            GenKillW::Zero => true,
+            GenKillW::Map { .. } => false,
+        }
+    }
 
     /// Whether a fact holds after these runs, whatever held before. Zero generates none, and none beyond the width is
     /// generated.

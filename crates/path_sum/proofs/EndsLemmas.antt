@@ -137,10 +137,6 @@ module _ {S W Map : Type 0} {s : Operations W Map} (laws : IsSemiring s) (value 
   abbrev IsEnd : Place → Type 0
   IsEnd x = (i : ℕ) × (q : ℕ) × (x ≡ pair_place i q) × IsTrue (ways.final i) × IsIn q input.opening.finals
 
-  -- The pairs stand as they did.
-  record HasPairs (st new : CoreState S W Map) : Type 0 where
-    at : (i q : ℕ) → entry_at (pair_place i q) new.transitions ≡ entry_at (pair_place i q) st.transitions
-
   -- What adding these ends makes.
   pub record Added (xs : List Place) (st : CoreState S W Map) : Type 0 where
     pub new : CoreState S W Map

@@ -29,9 +29,6 @@ module _ (i g : ℕ) (x : Place) where
   abbrev by_edges : List Edge → List Move
   by_edges es = edge_moves i g x (map edge_place es)
 
-  abbrev if_goes : Bool → Move → List Move → List Move
-  if_goes b m ms = cond b (m ∷ ms) ms
-
   if_more : (b : Bool) (m : Move) (ms ns : List Move) → cond b (m ∷ (ms ++ ns)) (ms ++ ns) ≡ cond b (m ∷ ms) ms ++ ns
   if_more true m ms ns = refl
   if_more false m ms ns = refl

@@ -29,9 +29,6 @@ module _ {S W Map : Type 0} (s : Operations W Map) (side : Side) (o : Opening) (
         | Some n ↦ λ h. grow_append ms more n mid new h rest
       ] at
 
-  pub grow_push : (ms : List Move) (m : Move) (st mid new : CoreState S W Map) → grow s side o ts ways st ms ≡ Some mid → move s side o ts ways m mid ≡ Some new → grow s side o ts ways st (ms ++ m ∷ []) ≡ Some new
-  grow_push ms m st mid new at one = grow_append ms (m ∷ []) st mid new at (ap (option_and_then (λ n. grow s side o ts ways n [])) one)
-
   -- what is grown grows on
   pub grown_on : (nodes : List Node) (st new : CoreState S W Map) (ms : List Move) → IsGrown s side o ts nodes ways st → grow s side o ts ways st ms ≡ Some new → IsGrown s side o ts nodes ways new
   grown_on nodes st new ms is more = record { moves = is.moves ++ ms; grows = grow_append is.moves ms (bare_sum s side nodes ways) st new is.grows more }

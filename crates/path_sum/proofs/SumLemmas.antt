@@ -271,7 +271,3 @@ module _ {S W Map : Type 0} {s : Operations W Map} (laws : IsSemiring s) (p : Pu
     sum_answers =
         let is = answer_is (entry_at answer_place st.transitions) refl in
         record { lead = all_lead (answer_runs side st) is.0; combined = is.1; below = below_run }
-
-    -- and its graph is tight
-    pub sum_tight : HasShape s value side st
-    sum_tight = good.sound.shape

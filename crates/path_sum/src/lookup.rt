@@ -5,7 +5,7 @@ ghost use Rattle.std.specs.List.Sorted.{IsNonDecreasing};
 ghost use Rattle.config_patterns.specs.Membership.{has_symbol};
 ghost use Rattle.path_sum.specs.private.Lookups.{AreMarks, IsSortedCopy, IsLookup, AreLookups};
 
-use config_patterns::Pattern;
+use config_patterns::{Pattern, SymbolSet};
 use std::alloc::Global;
 use wpds_base::OutOfMemory;
 
@@ -20,7 +20,7 @@ pub(crate) enum Lookup {
 
 impl Lookup {
     /// That of a set. Marks are made where they take no more memory than a copy.
-    pub(crate) fn of(alloc: Global, set: &[u32]) -> Result<Lookup, OutOfMemory>
+    pub(crate) fn of(alloc: Global, set: &SymbolSet) -> Result<Lookup, OutOfMemory>
         ensures { IfOk result (IsLookup set.now) }
     {
         if greatest(set) as usize / size_of::<u32>() < set.len() {
@@ -42,10 +42,10 @@ impl Lookup {
 }
 
 // The greatest of these, and 0 where there is none.
-fn greatest(set: &[u32]) -> u32 {
+fn greatest(set: &SymbolSet) -> u32 {
     let mut greatest = 0;
-    for symbol in set {
-        greatest = greatest.max(*symbol);
+    for k in 0..set.len() {
+        greatest = greatest.max(set.at(k));
     }
     greatest
 }
@@ -66,7 +66,7 @@ fn is_among(sorted: &[u32], symbol: u32) -> bool
 }
 
 // The symbols of a set in rising order.
-fn sorted_of(alloc: Global, set: &[u32]) -> Result<Vec<u32>, OutOfMemory>
+fn sorted_of(alloc: Global, set: &SymbolSet) -> Result<Vec<u32>, OutOfMemory>
     ensures { IfOk result (λ v. IsSortedCopy v.items set.now) }
 {
     let mut sorted = copy_of(alloc, set)?;
@@ -74,19 +74,23 @@ fn sorted_of(alloc: Global, set: &[u32]) -> Result<Vec<u32>, OutOfMemory>
     Ok(sorted)
 }
 
-fn copy_of(alloc: Global, set: &[u32]) -> Result<Vec<u32>, OutOfMemory>
+fn copy_of(alloc: Global, set: &SymbolSet) -> Result<Vec<u32>, OutOfMemory>
     ensures { IfOk result (λ copy. copy.items ≡ set.now) }
 {
-    Ok(set.to_vec(alloc)?)
+    let mut copy = Vec::with_capacity(alloc, set.len())?;
+    for k in 0..set.len() {
+        copy.push(set.at(k))?;
+    }
+    Ok(copy)
 }
 
 // A mark for each symbol of a set.
-fn marks_of(alloc: Global, set: &[u32]) -> Result<Vec<bool>, OutOfMemory>
+fn marks_of(alloc: Global, set: &SymbolSet) -> Result<Vec<bool>, OutOfMemory>
     ensures { IfOk result (λ v. AreMarks v.items set.now) }
 {
     let mut marks = Vec::new(alloc);
-    for symbol in set {
-        mark(&mut marks, *symbol)?;
+    for k in 0..set.len() {
+        mark(&mut marks, set.at(k))?;
     }
     Ok(marks)
 }
@@ -120,7 +124,7 @@ pub(crate) fn lookups_of(alloc: Global, pattern: &Pattern) -> Result<Vec<Lookup>
 {
     let mut lookups = Vec::with_capacity(alloc, pattern.items() as usize)?;
     for k in 0..pattern.items() {
-        lookups.push(Lookup::of(alloc, pattern.item(k).set.as_slice())?)?;
+        lookups.push(Lookup::of(alloc, &pattern.item(k).set)?)?;
     }
     Ok(lookups)
 }

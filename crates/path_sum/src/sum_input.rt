@@ -164,13 +164,10 @@ fn one_symbol(item: &Item) -> Option<Label>
     ensures { IfSome result (λ l. (item.now.star ≡ false) × (g : ℕ)
         × (l ≡ Symbol g) × (item.now.set ≡ g ∷ [])) }
 {
-    let [symbol] = item.set.as_slice() else {
-        return None;
-    };
-    if item.star {
+    if item.star || item.set.len() != 1 {
         return None;
     }
-    Some(Label::Symbol(*symbol))
+    Some(Label::Symbol(item.set.at(0)))
 }
 
 fn has_number(states: &[u32], state: u32) -> bool

@@ -15,12 +15,6 @@ module _ {S W Map : Type 0} where
   at_most_one : (r : Rule S W Map) → pushes_of r ≤ 1
   at_most_one r = let P : ℕ → Type 0 = λ n. n ≤ 1 in cond_both (is_push r) 1 0 P (λ _. omega arith) (λ _. omega arith)
 
-  -- at most as many as rules
-  pub few_before : (rs : List (Rule S W Map)) (k : ℕ) → pushes_before rs k ≤ k
-  few_before [] k = omega arith
-  few_before (r ∷ rs) zero = omega arith
-  few_before (r ∷ rs) (suc k) = let one = at_most_one r in let rest = few_before rs k in omega (arith, one, rest)
-
   pub few_pushes : (rs : List (Rule S W Map)) → count_pushes rs ≤ length rs
   few_pushes [] = omega arith
   few_pushes (r ∷ rs) = let one = at_most_one r in let rest = few_pushes rs in let long : length (r ∷ rs) ≡ suc (length rs) = refl in omega (arith, one, rest, long)
@@ -31,23 +25,6 @@ module _ {S W Map : Type 0} where
   push_counts (q ∷ rs) zero r there push =
       let one : pushes_of q ≡ 1 = one_more q (ap is_push (same_Some q r there) ∙ push) in omega (arith, one)
   push_counts (q ∷ rs) (suc k) r there push = let rest = push_counts rs k r there push in omega (arith, rest)
-
-  pub first_none : (rs : List (Rule S W Map)) → pushes_before rs 0 ≡ 0
-  first_none [] = refl
-  first_none (r ∷ rs) = refl
-
-  -- one rule further
-  pub pushes_next : (rs : List (Rule S W Map)) (k : ℕ) (r : Rule S W Map) → slice_get rs k ≡ Some r → pushes_before rs (k + 1) ≡ pushes_before rs k + pushes_of r
-  pushes_next [] k r there = cc
-  pushes_next (q ∷ rs) zero r there =
-      let same : pushes_of q ≡ pushes_of r = ap pushes_of (same_Some q r there) in
-      let none : pushes_before rs 0 ≡ 0 = first_none rs in
-      let e : pushes_before (q ∷ rs) 1 ≡ pushes_of q + pushes_before rs 0 = refl in
-      omega (arith, same, none, e)
-  pushes_next (q ∷ rs) (suc k) r there =
-      let rest = pushes_next rs k r there in
-      let e : suc k + 1 ≡ suc (k + 1) = omega arith in
-      ap (pushes_before (q ∷ rs)) e ∙ omega (arith, rest)
 
   -- Where a state is found to be a middle.
   pub record IsFound (n m : ℕ) (rs : List (Rule S W Map)) (q k : ℕ) : Type 0 where

@@ -1,36 +1,14 @@
 -- The items of the patterns are not refused.
-use Rattle.std.proofs.Common.{◌≡◌, ℕ, zero, suc, ◌+◌, ◌*◌, ◌<◌, ◌≤◌, true, false, [], ◌∷◌, ◌++◌, length, refl, ap, ◌∙◌, arith}
-use Rattle.std.specs.Prelude.{nat_eq, nat_le, nat_lt, None}
+use Rattle.std.proofs.Common.{◌≡◌, ℕ, zero, suc, ◌+◌, ◌*◌, ◌<◌, ◌≤◌, true, false, [], ◌∷◌, ◌++◌, length, refl, arith}
+use Rattle.std.specs.Prelude.{nat_le, nat_lt, None}
 use Rattle.std.specs.List.{list_any, range_with_len}
 use Rattle.std.proofs.lemmas.Bool.Decides.{nat_tests}
 use Rattle.std.proofs.lemmas.List.FromFn.{length-range_with_len}
 use Rattle.config_patterns.specs.declared.item.Item.{Item}
 use Rattle.config_patterns.specs.Edges.{edges_of}
 use Rattle.config_patterns.specs.Fault.{item_fault}
-use Rattle.config_patterns.specs.Membership.{has_symbol}
-use Rattle.config_patterns.specs.Validity.{is_set}
 use Rattle.config_patterns.proofs.CallerLemmas.{count_push}
 use Rattle.program_reports.specs.private.Patterns.{alone}
-
--- one symbol more
-pub all_more : (a n m : ℕ) → m ≡ a + n → range_with_len a (n + 1) ≡ range_with_len a n ++ m ∷ []
-all_more a zero m is = let same : a ≡ m = omega (arith, is) in ap (λ k. k ∷ []) same
-all_more a (suc n) m is =
-    let count : suc n + 1 ≡ suc (n + 1) = omega arith in
-    ap (range_with_len a) count ∙ ap (λ l. a ∷ l) (all_more (a + 1) n m (omega (arith, is)))
-
--- ---- no symbol stands twice
-
-differ : (g h : ℕ) → g < h → nat_eq h g ≡ false
-differ g h low = grind (arith, nat_tests)
-
-not_among : (g a k : ℕ) → g < a → has_symbol g (range_with_len a k) ≡ false
-not_among g a zero low = refl
-not_among g a (suc k) low = rw (differ g a low, not_among g (a + 1) k (omega arith)) refl
-
-pub all_once : (a k : ℕ) → is_set (range_with_len a k) ≡ true
-all_once a zero = refl
-all_once a (suc k) = rw (not_among a (a + 1) k (omega arith), all_once (a + 1) k) refl
 
 -- ---- all are below their number
 

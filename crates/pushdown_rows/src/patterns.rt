@@ -1,6 +1,6 @@
 use config_patterns::{
     Edge, EdgeList, Pattern, PatternFault, SymbolSet, edges_skip_starred_items, edges_stand_once,
-    is_set, members_are_read,
+    is_set, members_are_read, unrefused,
 };
 use pushdown_rules::Config;
 use std::alloc::Global;
@@ -114,12 +114,44 @@ fn edges_in_their_order(rt: HostRuntime) {
     }
     let same = EdgeList::from_vec(edges.into_vec());
     assert_eq!(rt; same.as_slice().len(), 9);
-    let set = SymbolSet::from_vec(vec![in alloc; 4, 2].expect(&rt, "an answer"));
-    assert_eq!(rt; set.as_slice(), [4, 2].as_slice());
-    assert_eq!(rt;
-        (set.as_slice().contains(&2), set.as_slice().contains(&3)),
-        (true, false)
-    );
+}
+
+#[test]
+fn sets_of_symbols(rt: HostRuntime) {
+    let alloc = rt.alloc();
+    let all = SymbolSet::all(3);
+    let listed = SymbolSet::listed(vec![in alloc; 0, 1, 2].expect(&rt, "an answer"));
+    for set in [&all, &listed] {
+        assert_eq!(rt; set.len(), 3);
+        assert_eq!(rt; (set.at(0), set.at(1), set.at(2)), (0, 1, 2));
+        assert_eq!(rt; (set.has(0), set.has(2), set.has(3)), (true, true, false));
+        assert!(rt; set.same(&all) && all.same(set) && set.same(&listed));
+    }
+    let turned = SymbolSet::listed(vec![in alloc; 0, 2, 1].expect(&rt, "an answer"));
+    assert!(rt; !turned.same(&all) && !turned.same(&listed) && turned.has(2));
+    assert!(rt; !SymbolSet::all(2).same(&all) && !SymbolSet::all(4).same(&listed));
+    assert!(rt; SymbolSet::all(0).same(&SymbolSet::listed(Vec::new(alloc))));
+}
+
+// An item of all symbols has the members and the edges of one that lists them.
+#[test]
+fn items_of_all_symbols(rt: HostRuntime) {
+    let alloc = rt.alloc();
+    for (before, after) in [(false, false), (false, true), (true, false), (true, true)] {
+        let mut all = Pattern::new(alloc, 7, 3);
+        assert_eq!(rt; unrefused(all.add_all(before)), Ok(()));
+        assert_eq!(rt; all.add_item(alloc, &[1], after), Ok(()));
+        let items: Items<'_> = &[(&[0, 1, 2], before), (&[1], after)];
+        let listed = pattern_of(alloc, items).expect(&rt, "an answer");
+        let edges = all.edges(alloc).expect(&rt, "an answer");
+        let expected = listed.edges(alloc).expect(&rt, "an answer");
+        assert_eq!(rt; edges.as_slice(), expected.as_slice());
+        for code in 0..27 {
+            let stack = [code % 3, code / 3 % 3, code / 9];
+            let config = Config::new(alloc, 7, &stack).expect(&rt, "an answer");
+            assert_eq!(rt; all.matches(&config), listed.matches(&config), "stack {code}");
+        }
+    }
 }
 
 #[test]
@@ -139,6 +171,7 @@ fn refusals(rt: HostRuntime) {
         assert_eq!(rt; pattern.add_item(alloc, &[1], true), Ok(()));
     }
     assert_eq!(rt; pattern.items(), 1_000);
+    assert_eq!(rt; pattern.add_all(true), Err(PatternFault::TooManyItems));
     assert_eq!(rt;
         pattern.add_item(alloc, &[1], true),
         Err(PatternFault::TooManyItems)
@@ -177,6 +210,7 @@ fn a_million_edges_and_one_over(rt: HostRuntime) -> Result<(), Fail> {
         pattern.add_item(alloc, &thousand, true),
         Err(PatternFault::TooManyEdges)
     );
+    assert_eq!(rt; pattern.add_all(false), Err(PatternFault::TooManyEdges));
     assert_eq!(rt; pattern.items(), 999);
     assert_eq!(rt; pattern.add_item(alloc, &thousand, false), Ok(()));
     assert_eq!(rt;

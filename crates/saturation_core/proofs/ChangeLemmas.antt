@@ -11,7 +11,7 @@ use Rattle.witness_graph.specs.declared.node.Node.TheVariants.{Lower}
 use Rattle.witness_graph.specs.Nodes.{IsNodeAt}
 use Rattle.witness_graph.proofs.CallerLemmas.{orderly_from}
 use Rattle.saturation_laws.specs.Jobs.{node_of}
-use Rattle.saturation_laws.specs.States.{CoreState, Change, weight_of, weight_at, lower_state, apply}
+use Rattle.saturation_laws.specs.States.{Change, weight_of, weight_at}
 use Rattle.saturation_laws.specs.Openings.{AreKept, changed_weight}
 use Rattle.saturation_core.specs.private.Steps.{IsFitChange}
 use Rattle.saturation_laws.proofs.CallerLemmas.{indexed}
@@ -57,31 +57,6 @@ module _ {S W Map : Type 0} {s : Operations W Map} (laws : IsSemiring s) where
   kept_more n m ts us same more kept =
       let P : List (Entry S W Map) → Type 0 = λ vs. AreKept s vs m in
       subst P (sym same) (record { each = λ t there. let was = kept.each t there in let below : t.node < n = was.1 in (was.0, omega (arith, below)) })
-
-  -- where the weight changes
-  pub applied_is : (c : Change W) (st : CoreState S W Map) (old w : W) → old ≡ weight_at s c.goal st.transitions → changed_weight s old c.weight ≡ Some w
-      → (s.combine old c.weight ≡ w) × (apply s c st ≡ lower_state s c w st)
-  applied_is c st old w is changed =
-      let P : W → Type 0 = λ o. changed_weight s o c.weight ≡ Some w in
-      let at = weight_at s c.goal st.transitions in
-      let new = s.combine at c.weight in
-      let both : (new ≡ w) × (apply s c st ≡ lower_state s c w st) =
-      elim (s.same new at) as (λ b. cond b None (Some new) ≡ Some w → (new ≡ w) × (cond b st (lower_state s c new st) ≡ lower_state s c w st)) [
-        | true ↦ λ h. cc
-        | false ↦ λ h. let e : new ≡ w = same_Some new w h in (e, ap (λ v. lower_state s c v st) e)
-      ] (subst P is changed) in
-      (ap (λ o. s.combine o c.weight) is ∙ both.0, both.1)
-
-  -- where it does not
-  pub applied_none : (c : Change W) (st : CoreState S W Map) (old : W) → old ≡ weight_at s c.goal st.transitions → changed_weight s old c.weight ≡ None → apply s c st ≡ st
-  applied_none c st old is unchanged =
-      let P : W → Type 0 = λ o. changed_weight s o c.weight ≡ None in
-      let at = weight_at s c.goal st.transitions in
-      let new = s.combine at c.weight in
-      elim (s.same new at) as (λ b. cond b None (Some new) ≡ None → cond b st (lower_state s c new st) ≡ st) [
-        | true ↦ λ h. refl
-        | false ↦ λ h. cc
-      ] (subst P is unchanged)
 
 module _ {W Map : Type 0} {s : Operations W Map} (laws : IsSemiring s) where
   pub changed_fits : (old weight w : W) → Fits s old → Fits s weight → changed_weight s old weight ≡ Some w → Fits s w

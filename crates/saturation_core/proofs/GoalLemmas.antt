@@ -1,9 +1,9 @@
 -- Where the lowerings of a place stand in a plan.
-use Rattle.std.proofs.Common.{◌≡◌, ℕ, suc, ◌+◌, ◌<◌, ◌≤◌, Bool, true, false, List, [], ◌∷◌, ◌++◌, length, map, get_or, refl, sym, ap, ◌∙◌, subst, inl, inr, arith}
+use Rattle.std.proofs.Common.{◌≡◌, ℕ, suc, ◌+◌, ◌<◌, ◌≤◌, Bool, true, false, List, [], ◌∷◌, ◌++◌, length, map, get_or, refl, sym, ap, ◌∙◌, inl, inr, arith}
 use Rattle.std.specs.Prelude.{Option, None, Some, IfSome, cond, option_map, slice_get, nat_eq, ◌||◌, ◌⊎◌}
 use Rattle.std.specs.Ordering.{eq_by_cmp}
 use Rattle.std.proofs.lemmas.Bool.{cond-true, cond-false, cases_Bool, or_left, or_right, eqb-true, eq-eqb}
-use Rattle.std.proofs.lemmas.Option.{same_Some, slice_get-get_or}
+use Rattle.std.proofs.lemmas.Option.{same_Some}
 use Rattle.key_rows.specs.Rows.{index_where, last_where, has_key}
 use Rattle.weighted_automata.specs.contracts.place.PlaceOrd.TheImpl.{ghosts as of_places}
 use Rattle.weighted_automata.specs.declared.place.Place.{Place}
@@ -11,15 +11,11 @@ use Rattle.weighted_automata.specs.declared.transitions.Entry.{Entry}
 use Rattle.weighted_automata.specs.Places.{same_place, has_place}
 use Rattle.weighted_automata.specs.Entries.{entry_at, lowered}
 use Rattle.weighted_automata.proofs.CallerLemmas.{same_place_is, same_place_itself, entry_at-lowered_same, entry_at-lowered_other, place_test}
-use Rattle.saturation_laws.specs.Jobs.{node_of}
 use Rattle.saturation_core.specs.declared.plan.Planned.{Planned}
 use Rattle.saturation_core.specs.private.Finding.{found_at}
 use Rattle.saturation_core.specs.private.Plans.{put_from, goal_of}
 use Rattle.saturation_core.proofs.QueueFacts.{one_more}
 use Rattle.saturation_core.proofs.PutPlan.{next_and}
-
-pub of_found : (P : ℕ → Type 0) (o : Option ℕ) (k : ℕ) → o ≡ Some k → IfSome o P → P k
-of_found P o k is h = subst (λ p. IfSome p P) is h
 
 -- where the last stands that passes, by where it stands behind the first, and by the test of the first
 abbrev next_last : Option ℕ → Bool → Option ℕ
@@ -38,10 +34,6 @@ last_within p (x ∷ xs) = elim (last_where p xs) as (λ o. IfSome o (λ k. k < 
 pub within_limit : (o : Option ℕ) (n m : ℕ) → n ≤ m → IfSome o (λ k. k < n) → IfSome o (λ k. k < m)
 within_limit None n m le h = tt
 within_limit (Some k) n m le h = let before : k < n = h in let after : k < m = omega (arith, le, before) in after
-
-item_at : {X : Type 0} (xs : List X) (k : ℕ) → k < length xs → X
-item_at [] k within = absurd (omega (arith, within))
-item_at (x ∷ xs) k within = x
 
 module _ {S W Map : Type 0} where
   -- the lowering is of this place
@@ -94,14 +86,6 @@ module _ {S W Map : Type 0} where
     pub planned_at : (k : ℕ) (l : Planned S W Map) → o ≡ Some k → slice_get ls k ≡ Some l → (n : ℕ) (ts : List (Entry S W Map))
         → entry_at x (put_from n ls ts) ≡ Some (record { place = x; weight = l.weight; node = n + k })
     planned_at k l is at n ts = found n ts ∙ ap (λ p. found_at x n ls p (entry_at x ts)) is ∙ ap (option_map (entry_of x (n + k))) at
-
-    pub planned_node : (k : ℕ) → o ≡ Some k → k < length ls → (n : ℕ) (ts : List (Entry S W Map)) → option_map node_of (entry_at x (put_from n ls ts)) ≡ Some (n + k)
-    planned_node k is within n ts =
-        let d = item_at ls k within in
-        ap (option_map node_of) (planned_at k (get_or ls k d) is (slice_get-get_or ls k d within) n ts)
-
-    pub planned_not : o ≡ None → (n : ℕ) (ts : List (Entry S W Map)) → entry_at x (put_from n ls ts) ≡ entry_at x ts
-    planned_not is n ts = found n ts ∙ ap (λ p. found_at x n ls p (entry_at x ts)) is
 
   -- What stands first of a place is of this place,
   pub first_is_of : (x : Place) (ls : List (Planned S W Map)) (k : ℕ) (d : Planned S W Map) → index_where (is_of x) ls ≡ Some k → same_place (get_or ls k d).goal x ≡ true

@@ -7,7 +7,6 @@ mod RecordLemmas
 mod ChangeLemmas
 mod StartLemmas
 mod OpeningBook
-mod Passes
 mod PutPlan
 mod GoalLemmas
 mod PlanEqualsApply

@@ -1,10 +1,9 @@
 -- The lowerings of a plan, one after another.
-use Rattle.std.proofs.Common.{◌≡◌, ℕ, suc, ◌+◌, ◌<◌, ◌≤◌, List, [], ◌∷◌, ◌++◌, length, ap, ◌∙◌, subst, arith}
+use Rattle.std.proofs.Common.{◌≡◌, ℕ, suc, ◌+◌, ◌≤◌, List, [], ◌∷◌, ◌++◌, length, ap, ◌∙◌, subst, arith}
 use Rattle.std.specs.Prelude.{IsTrue}
 use Rattle.std.proofs.lemmas.List.{length_push}
 use Rattle.weighted_automata.specs.declared.place.Place.{Place}
 use Rattle.weighted_automata.specs.Places.{has_place}
-use Rattle.witness_graph.specs.Nodes.{IsNodeAt}
 use Rattle.saturation_core.specs.declared.found.Found.{Found}
 use Rattle.saturation_core.specs.declared.plan.Planned.{Planned}
 use Rattle.saturation_core.specs.private.Plans.{AreNodesFrom}
@@ -20,20 +19,8 @@ module _ {S W Map : Type 0} where
     pub count : first.transitions.spare + length ls ≤ now.transitions.spare + all
 
   module _ (l : Planned S W Map) (ls : List (Planned S W Map)) (all : ℕ) (now first : Found S W Map) (is : IsUnderWay (l ∷ ls) all now first) where
-    pub next_node : IsNodeAt (length now.graph.nodes) l.node
-    next_node = is.nodes.0
-
     pub next_place : IsTrue (has_place l.goal now.transitions.room)
     next_place = room_first now.transitions.room l ls is.room.places
-
-    pub next_spare : 0 < now.graph.spare
-    next_spare = omega (arith, is.room.spare)
-
-    pub next_queue : 0 < now.transitions.spare
-    next_queue = omega (arith, is.room.queue)
-
-    pub next_mark : 0 < now.transitions.marks
-    next_mark = omega (arith, is.room.marks)
 
     pub step_on : (new : Found S W Map) → ((x : Place) → IsTrue (has_place x now.transitions.room) → IsTrue (has_place x new.transitions.room)) → new.graph.nodes ≡ now.graph.nodes ++ l.node ∷ []
         → now.graph.spare ≤ new.graph.spare + 1 → new.graph.side ≡ now.graph.side → now.transitions.spare ≤ new.transitions.spare + 1

@@ -1,9 +1,9 @@
 -- To make the planned lowerings is to apply the changes.
-use Rattle.std.proofs.Common.{◌≡◌, ℕ, suc, ◌+◌, ◌<◌, ◌≤◌, true, false, List, [], ◌∷◌, ◌++◌, length, map, get_or, drop, append_assoc, append-nil, refl, sym, ap, ◌∙◌, subst, arith}
+use Rattle.std.proofs.Common.{◌≡◌, ℕ, suc, ◌+◌, ◌<◌, ◌≤◌, true, false, List, [], ◌∷◌, ◌++◌, length, map, get_or, drop, append_assoc, refl, sym, ap, ◌∙◌, subst, arith}
 use Rattle.std.specs.Prelude.{Option, None, Some, IfSome, IsTrue, is_some, ◌||◌, cond, option_map, option_to_list}
 use Rattle.std.specs.List.{AllByRecursion}
 use Rattle.std.proofs.lemmas.Bool.{or_left, or_right}
-use Rattle.std.proofs.lemmas.List.{length_push, at_drop_more, at_drop_all, length-append}
+use Rattle.std.proofs.lemmas.List.{length_push, at_drop_more, length-append}
 use Rattle.semiring_laws.specs.Semiring.{Operations, IsSemiring, Fits}
 use Rattle.weighted_automata.specs.declared.place.Place.{Place}
 use Rattle.weighted_automata.specs.declared.transitions.Entry.{Entry}
@@ -116,11 +116,6 @@ module _ {S W Map : Type 0} (s : Operations W Map) where
         ∙ ap (λ k. (plan ++ ls) ++ plan_of s cs k (put_from m ls us)) count
         ∙ ap (λ vs. (plan ++ ls) ++ plan_of s cs (n + length (plan ++ ls)) vs) (sym (put_from-append n plan ls ts))
         ∙ ap (λ (ps : List (Planned S W Map)). ps ++ plan_of s cs (n + length ps) (put_from n ps ts)) (sym new_is)
-
-  pub plan_ends : (js : List (Job S W Map)) (ws : List W) (i n : ℕ) (ts : List (Entry S W Map)) (plan all : List (Planned S W Map)) → length js ≤ i
-      → all ≡ plan ++ plan_of s (changes_with (drop i js) (drop i ws)) (n + length plan) (put_from n plan ts) → plan ≡ all
-  plan_ends js ws i n ts plan all past was =
-      sym (was ∙ ap (λ cs. plan ++ plan_of s cs (n + length plan) (put_from n plan ts)) (at_drop_all (λ xs. changes_with xs (drop i ws)) js i past) ∙ append-nil plan)
 
 pub earlier_more : (m n : ℕ) → m ≤ n → (o : Option ℕ) → IfSome o (λ k. k < m) → IfSome o (λ k. k < n)
 earlier_more m n le None _ = tt

@@ -177,9 +177,6 @@ module _ {S W Map : Type 0} where
     first_below : AreBelow (length ts) (k ∷ rest)
     first_below = subst (AreBelow (length ts)) front was.there
 
-    pub first_within : k < length ts
-    first_within = first_below.0
-
     pub queued_rest : (m : ℕ) → m ≡ marks → IsQueued ts rest m
     queued_rest m same = record { distinct = was.distinct; there = first_below.1; marked = let h = was.marked in omega (arith, h, same) }
 

@@ -1,5 +1,5 @@
 -- What a book is after it has settled a hand.
-use Rattle.std.proofs.Common.{◌≡◌, ◌<◌, inl, inr, ℕ, ◌+◌, List, [], ◌∷◌, ◌++◌, length, map, false, refl, sym, ap, ap₂, ◌∙◌, subst, arith}
+use Rattle.std.proofs.Common.{◌≡◌, ◌<◌, inl, inr, ℕ, ◌+◌, List, [], ◌∷◌, ◌++◌, length, map, refl, sym, ap, ap₂, ◌∙◌, subst, arith}
 use Rattle.std.specs.Prelude.{◌↔◌, All, Bool, Result, Ok, Err, OnErr, Option, None, Some, IfSome, IsTrue, option_map, slice_set}
 use Rattle.std.specs.List.{AllByRecursion}
 use Rattle.std.proofs.lemmas.Option.{same_Some}
@@ -82,10 +82,6 @@ module _ {S W Map D : Type 0} (way : Way S W Map D) (b : BookValue S W Map D) (w
   -- the hand that it can settle is listed
   pub lists_it : (seat : ℕ) (hands : List (Option (Holding S W Map))) (jobs : List (Job S W Map)) → seat ≡ w.seat → hands ≡ b.state.hands → jobs ≡ w.jobs → CanSettle way b w → jobs_out seat hands ≡ Some jobs
   lists_it seat hands jobs at out same can = ap (λ k. jobs_out k hands) at ∙ ap (jobs_out w.seat) out ∙ can.hand ∙ ap Some (sym same)
-
-  -- and where it is not, the answer is no
-  pub refuses : (CanSettle way b w → ⊥) → IsTrue false ↔ CanSettle way b w
-  refuses never = (λ h. cc, λ can. absurd (never can))
 
 module _ {S W Map D : Type 0} (operations : S → Operations W Map) (way : Way S W Map D) where
   -- the candidates of a hand that a book can settle are the book's

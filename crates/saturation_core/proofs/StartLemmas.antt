@@ -7,7 +7,7 @@ use Rattle.semiring_laws.specs.Semiring.{Operations}
 use Rattle.weighted_automata.specs.declared.place.Place.{Place}
 use Rattle.pushdown_rules.specs.declared.rule.Rule.{Rule}
 use Rattle.saturation_laws.specs.States.{CoreState, Change, apply, apply_all}
-use Rattle.saturation_laws.specs.Openings.{pop_change, pops_of, pops_at, pops_from, with_edges}
+use Rattle.saturation_laws.specs.Openings.{pops_of, pops_at, pops_from, with_edges}
 use Rattle.saturation_laws.specs.Queues.{queued}
 use Rattle.weighted_automata.specs.Entries.{lowered}
 use Rattle.weighted_automata.specs.declared.transitions.Entry.{Entry}
@@ -68,15 +68,3 @@ module _ {S W Map : Type 0} (s : Operations W Map) where
             ∙ sym (apply_all-append (pops_of k r) (pops_from (k + 1) (drop (k + 1) rs)) now)
             ∙ from_here rs k r e now all was
       ] refl
-
-  -- a pop rule adds one change, and another rule none
-  pub pop_added : (rs : List (Rule S W Map)) (k : ℕ) (r : Rule S W Map) → slice_get rs k ≡ Some r → (st : CoreState S W Map) → r.right ≡ [] → apply_all s (pops_at k rs) st ≡ apply s (pop_change k r) st
-  pop_added rs k r there st none =
-      let P : List ℕ → List (Change W) = λ w. elim w [ [] ↦ pop_change k r ∷ [] | g ∷ gs ↦ [] ] in
-      ap (λ cs. apply_all s cs st) (pops_at_is rs k r there ∙ ap P none)
-
-  pub pop_left : (rs : List (Rule S W Map)) (k : ℕ) (r : Rule S W Map) → slice_get rs k ≡ Some r → (st : CoreState S W Map) → (r.right ≡ [] → ⊥) → st ≡ apply_all s (pops_at k rs) st
-  pop_left rs k r there st some =
-      let Q : List ℕ → List (Change W) = λ w. elim w [ [] ↦ pop_change k r ∷ [] | g ∷ gs ↦ [] ] in
-      let none : pops_of k r ≡ [] = elim r.right as (λ w. (w ≡ [] → ⊥) → Q w ≡ []) [ [] ↦ λ f. absurd (f refl) | g ∷ gs ↦ λ f. refl ] some in
-      sym (ap (λ cs. apply_all s cs st) (pops_at_is rs k r there ∙ none))

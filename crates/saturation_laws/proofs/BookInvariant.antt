@@ -5,19 +5,18 @@ use Rattle.std.proofs.lemmas.List.{length-map}
 use Rattle.std.specs.Prelude.{Option, None, Some, IsTrue, option_and_then}
 use Rattle.semiring_laws.specs.Semiring.{Operations, IsSemiring, Fits}
 use Rattle.weighted_automata.specs.declared.place.Place.{Place}
-use Rattle.weighted_automata.specs.Entries.{entry_at}
 use Rattle.pushdown_rules.specs.Pushdown.{IsSystem}
 use Rattle.pushdown_rules.specs.Values.{value_of}
 use Rattle.saturation_laws.specs.declared.event.Event.{Event}
-use Rattle.saturation_laws.specs.Jobs.{Tables, place_of, InputsFit}
-use Rattle.saturation_laws.specs.States.{CoreState, hand_at, jobs_at, step, replay}
+use Rattle.saturation_laws.specs.Jobs.{Tables, place_of}
+use Rattle.saturation_laws.specs.States.{CoreState, hand_at, step, replay}
 use Rattle.saturation_laws.specs.Directions.{IsConsequence}
 use Rattle.saturation_laws.specs.Invariants.{IsApplied}
 use Rattle.wpds_base.specs.Lists.{IsIn}
 use Rattle.saturation_laws.specs.declared.job.Job.{Job}
 use Rattle.saturation_laws.specs.Books.{BookValue, IsClosed, opened_by, replayed, Makes, IsBook, CanWork, TakesAreBounded, NodesAreBounded}
 use Rattle.pushdown_rules.proofs.CallerLemmas.{value_fits}
-use Rattle.saturation_laws.proofs.HandJobs.{transitions_fit, hand_works, jobs_fit}
+use Rattle.saturation_laws.proofs.HandJobs.{transitions_fit, hand_works}
 use Rattle.saturation_laws.proofs.BookFields.{after}
 use Rattle.std.proofs.lemmas.List.{get_or-set_same}
 use Rattle.saturation_laws.specs.declared.holding.Holding.{Holding}
@@ -90,14 +89,6 @@ module _ {S W Map D : Type 0} (operations : S → Operations W Map) (laws : (x :
       let s = operations b.system.semiring in
       transitions_fit (laws b.system.semiring) (value_of s b.system) (value_fits is.system (laws b.system.semiring)) (way.runs b.direction b.system b.opening) (way.tables b.direction b.system)
       (opened_by operations way b).transitions b.state is.lock
-
-  -- and so do the inputs of a transition's jobs
-  pub book_lists : (b : BookValue S W Map D) → IsBook operations way b → (x : Place)
-      → All (InputsFit (operations b.system.semiring)) (jobs_at (operations b.system.semiring) (way.tables b.direction b.system) (entry_at x b.state.transitions) b.state.transitions)
-  book_lists b is x =
-      let s = operations b.system.semiring in
-      jobs_fit (laws b.system.semiring) (value_of s b.system) (value_fits is.system (laws b.system.semiring)) (way.runs b.direction b.system b.opening) (way.tables b.direction b.system)
-      (opened_by operations way b).transitions (direction b.direction b.system b.opening is.system is.fits) b.state is.lock x
 
   -- the takes of a book's journal are bounded, and so are its nodes
   pub book_takes : (b : BookValue S W Map D) → IsBook operations way b → TakesAreBounded operations way b

@@ -2,10 +2,9 @@
 pub use Rattle.saturation_laws.proofs.ApplyChange.{Grows, IsSoundChange, IsSoundState, change_fits}
 pub use Rattle.saturation_laws.proofs.ApplyChange.{entry_fits, tight_same, weights_fit}
 pub use Rattle.saturation_laws.proofs.BookFields.{after, given, indexed, none_at_all, none_more}
-pub use Rattle.saturation_laws.proofs.BookFields.{not_some, some_there, taken, unindexed}
-pub use Rattle.saturation_laws.proofs.BookInvariant.{book_fits, book_from, book_lists, book_takes}
-pub use Rattle.saturation_laws.proofs.BookInvariant.{book_works, closed_applies, event_keeps}
-pub use Rattle.saturation_laws.proofs.BookInvariant.{taken_works}
+pub use Rattle.saturation_laws.proofs.BookFields.{not_some, some_there, taken}
+pub use Rattle.saturation_laws.proofs.BookInvariant.{book_fits, book_from, book_takes, book_works}
+pub use Rattle.saturation_laws.proofs.BookInvariant.{closed_applies, event_keeps, taken_works}
 pub use Rattle.saturation_laws.proofs.CombinationLemmas.{IsLinear, after_rule, all_map, all_pairs}
 pub use Rattle.saturation_laws.proofs.CombinationLemmas.{bilinear, linear, then_empty}
 pub use Rattle.saturation_laws.proofs.EventsKeepBound.{Counts, apply_counts, counts_further}

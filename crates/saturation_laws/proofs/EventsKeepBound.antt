@@ -4,7 +4,7 @@ use Rattle.std.specs.Prelude.{Option, None, Some, IsSome, option_map, is_none, n
 use Rattle.std.proofs.lemmas.Bool.{cond_both, cases_eq, and_parts, ltb-true}
 use Rattle.std.proofs.lemmas.Option.{option_and_then_some}
 use Rattle.std.proofs.lemmas.List.{get_or-set_same, get_or-set_other, length_push}
-use Rattle.semiring_laws.specs.Semiring.{Operations, IsSemiring, Fits, Below}
+use Rattle.semiring_laws.specs.Semiring.{Operations, IsSemiring, Fits}
 use Rattle.weighted_automata.specs.declared.place.Place.{Place}
 use Rattle.weighted_automata.specs.declared.transitions.Entry.{Entry}
 use Rattle.weighted_automata.specs.Entries.{entry_at}
@@ -42,12 +42,6 @@ module _ {W Map : Type 0} {s : Operations W Map} (laws : IsSemiring s) where
       let h : s.rank (s.combine s.zero a) ≤ s.rank s.zero = laws.rank_never_rises s.zero a laws.fits-zero fit in
       let e : s.rank (s.combine s.zero a) ≡ s.rank a = ap s.rank (laws.combine_zero a fit) in
       omega (arith, laws.rank-zero)
-
-  pub rank_below : (a b : W) → Fits s a → Fits s b → Below s a b → s.rank a ≤ s.rank b
-  rank_below a b fa fb below =
-      let h : s.rank (s.combine b a) ≤ s.rank b = laws.rank_never_rises b a fb fa in
-      let e : s.rank (s.combine b a) ≡ s.rank a = ap s.rank (laws.combine_comm b a fb fa ∙ below) in
-      omega arith
 
 module _ {S W Map : Type 0} (s : Operations W Map) (ts us : List (Entry S W Map))
     (falls : (x : Place) → s.rank (weight_at s x us) ≤ s.rank (weight_at s x ts)) where

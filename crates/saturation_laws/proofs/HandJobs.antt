@@ -1,21 +1,16 @@
 -- A hand that is out can be worked on.
-use Rattle.std.proofs.Common.{◌≡◌, inl, inr, ℕ, List, [], ◌∷◌, refl, sym, ap, ◌∙◌, subst}
+use Rattle.std.proofs.Common.{◌≡◌, inl, inr, ℕ, List, [], ◌∷◌, refl, sym, subst}
 use Rattle.std.specs.Prelude.{Option, None, Some, IsTrue, IfSome, All}
 use Rattle.std.specs.List.{AllByRecursion}
 use Rattle.std.proofs.lemmas.List.Elements.{All-from_recursion}
 use Rattle.semiring_laws.specs.Semiring.{Operations, IsSemiring, Fits}
 use Rattle.weighted_automata.specs.declared.place.Place.{Place}
 use Rattle.weighted_automata.specs.declared.transitions.Entry.{Entry}
-use Rattle.weighted_automata.specs.Entries.{entry_at, Present}
-use Rattle.weighted_automata.proofs.CallerLemmas.{entry_at-place}
-use Rattle.pushdown_rules.specs.Pushdown.{Pushdown}
-use Rattle.saturation_laws.specs.declared.opening.Opening.{Opening}
-use Rattle.saturation_laws.specs.Directions.{IsDirection}
 use Rattle.saturation_laws.specs.declared.job.Job.{Job}
 use Rattle.saturation_laws.specs.declared.holding.Holding.{Holding}
 use Rattle.saturation_laws.specs.Jobs.{Tables, row_of, InputsFit}
 use Rattle.wpds_base.specs.Lists.{IsIn}
-use Rattle.saturation_laws.specs.States.{CoreState, hand_at, jobs_at}
+use Rattle.saturation_laws.specs.States.{CoreState, hand_at}
 use Rattle.saturation_laws.specs.Invariants.{LockInvariant}
 use Rattle.saturation_laws.proofs.ValueLemmas.{worth_fits}
 use Rattle.saturation_laws.proofs.ListMembers.{in_present}
@@ -43,20 +38,6 @@ module _ {S W Map : Type 0} {s : Operations W Map} (laws : IsSemiring s) (value 
         All-from_recursion (λ j. IsTrue (d.rows (row_of j))) h.jobs (all_of (λ j. IsTrue (d.rows (row_of j))) h.jobs (λ j in'. (hand.jobs j in').row)),
         All-from_recursion (InputsFit s) h.jobs (all_of (InputsFit s) h.jobs fits),
       )
-
-  -- the inputs of a transition's jobs fit
-  pub jobs_fit : {p : Pushdown S W Map} {o : Opening} {places : List Place} → IsDirection s p o d places runs → (st : CoreState S W Map) → LockInvariant s value runs d opening st → (x : Place)
-      → All (InputsFit s) (jobs_at s d (entry_at x st.transitions) st.transitions)
-  jobs_fit direction st inv x = elim (entry_at x st.transitions) as (λ o. entry_at x st.transitions ≡ o → All (InputsFit s) (jobs_at s d o st.transitions)) [
-    | None ↦ λ e. All-from_recursion (InputsFit s) [] tt
-    | Some t ↦ λ e.
-        let P : W → Type 0 = Fits s in
-        let here : Present st.transitions t = ap (λ y. entry_at y st.transitions) (entry_at-place x st.transitions t e) ∙ e in
-        let fits : (u : Entry S W Map) → Present st.transitions u → Fits s u.weight = λ u there. subst P (sym (inv.sound u there).are_runs.weight) (worth_fits laws value fits_value _) in
-        All-from_recursion (InputsFit s) (d.jobs st.transitions t) (all_of (InputsFit s) (d.jobs st.transitions t) (λ j listed.
-        let drawn = (direction.jobs_are st.transitions t j inv.shape.places here listed).0 in
-        record { first = if_fits j.first (λ u is. fits u (drawn.inputs u (inl is))); second = if_fits j.second (λ u is. fits u (drawn.inputs u (inr is))) }))
-  ] refl
 
   -- each weight of the list fits
   pub transitions_fit : (st : CoreState S W Map) → LockInvariant s value runs d opening st → All (λ t. Fits s t.weight) st.transitions

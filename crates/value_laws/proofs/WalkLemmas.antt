@@ -177,24 +177,29 @@ module _ {S W Map : Type 0} {operations : S → Operations W Map} {p : Pushdown 
           joined_value valid laws a b (at_stack from.control down.word) (at_stack c []) down.goes refl,
         )) v w one two
 
+    -- a run that crosses does so over a symbol more
+    pub crosses_on : (a b : ℕ) → IsIn (record { from = a; symbol = g; to = b }) target → (run : List ℕ) → Across i a run → Across j b run
+    crosses_on a b edge' run is = record {
+      word = is.word ++ g ∷ [];
+      left = is.left ++ g ∷ [];
+      reads = reads_then source 0 is.word i g j is.reads edge;
+      goes = run_above p (g ∷ []) run (at_stack from.control is.word) (at_stack to.control is.left) is.goes;
+      reads_left = reads_then target 0 is.left a g b is.reads_left edge';
+    }
+
     pub read_sums : (a b : ℕ) → IsIn (record { from = a; symbol = g; to = b }) target → (w : W) → Sound (Across i a) w → Sound (Across j b) w
-    read_sums a b edge' w sums =
-        sums_within laws value (fv valid laws) (Across i a) (Across j b)
-        (λ run is. record {
-          word = is.word ++ g ∷ [];
-          left = is.left ++ g ∷ [];
-          reads = reads_then source 0 is.word i g j is.reads edge;
-          goes = run_above p (g ∷ []) run (at_stack from.control is.word) (at_stack to.control is.left) is.goes;
-          reads_left = reads_then target 0 is.left a g b is.reads_left edge';
-        }) w sums
+    read_sums a b edge' w sums = sums_within laws value (fv valid laws) (Across i a) (Across j b) (crosses_on a b edge') w sums
 
   pub meet_sums : (i : ℕ) (w : W) → Sound (Down i to.control) w → Sound (Across i 0) w
   meet_sums i w sums = sums_within laws value (fv valid laws) (Down i to.control) (Across i 0)
       (λ run is. record { word = is.word; left = []; reads = is.reads; goes = is.goes; reads_left = refl }) w sums
 
+  -- a run that crosses leads from a member to a member, where both states are final
+  pub crosses_lead : (i a : ℕ) → IsTrue (is_final_of from.items i) → IsTrue (is_final_of to.items a) → (run : List ℕ) → Across i a run → Leads s p (has_member from) (has_member to) run
+  crosses_lead i a final final' run is = (at_stack from.control is.word, at_stack to.control is.left, is_member from is.word (i, is.reads, final), is_member to is.left (a, is.reads_left, final'), is.goes)
+
   pub end_sums : (i a : ℕ) → IsTrue (is_final_of from.items i) → IsTrue (is_final_of to.items a) → (w : W) → Sound (Across i a) w → Sound (Leads s p (has_member from) (has_member to)) w
-  end_sums i a final final' w sums = sums_within laws value (fv valid laws) (Across i a) (Leads s p (has_member from) (has_member to))
-      (λ run is. (at_stack from.control is.word, at_stack to.control is.left, is_member from is.word (i, is.reads, final), is_member to is.left (a, is.reads_left, final'), is.goes)) w sums
+  end_sums i a final final' w sums = sums_within laws value (fv valid laws) (Across i a) (Leads s p (has_member from) (has_member to)) (crosses_lead i a final final') w sums
 
   -- a sum of all runs is an answer
   pub sum_answers : (w : W) → (sums : Sound (Leads s p (has_member from) (has_member to)) w) → ((run : List ℕ) → Leads s p (has_member from) (has_member to) run → Below s w (value run))

@@ -4,14 +4,7 @@ ghost use Rattle.wpds_base.specs.Lists.{IsIn};
 ghost use Rattle.config_patterns.specs.Membership.{has_symbol};
 ghost use Rattle.config_patterns.specs.Edges.{edges_of, leads_to, stays_on};
 
-use config_patterns::{Item, Pattern};
-
-// Whether an item has a symbol.
-fn has(item: &Item, symbol: u32) -> bool
-    ensures { result ≡ has_symbol symbol item.now.set }
-{
-    item.set.as_slice().contains(&symbol)
-}
+use config_patterns::Pattern;
 
 // The next state above one that has an edge from it over a symbol: the items between are skipped, each of which has a star.
 fn above(target: &Pattern, from: u32, symbol: u32) -> Option<u32>
@@ -24,7 +17,7 @@ fn above(target: &Pattern, from: u32, symbol: u32) -> Option<u32>
 {
     for i in from..target.items() {
         let item = target.item(i);
-        if has(item, symbol) {
+        if item.set.has(symbol) {
             return Some(i + 1);
         }
         if !item.star {
@@ -51,7 +44,7 @@ fn stays(target: &Pattern, from: u32, symbol: u32) -> bool
     if !item.star {
         return false;
     }
-    has(item, symbol)
+    item.set.has(symbol)
 }
 
 /// The first state to which an edge of a pattern leads from a state over a symbol.

@@ -14,6 +14,4 @@ mod take;
 
 pub use laws::{closed_enters_are_sums, closed_pops_are_sums};
 pub use opening::{aim, open};
-pub use search::{close, close_to_target, turn, turn_to_target};
-
-mod tries;
+pub use search::{turn, turn_to_target};

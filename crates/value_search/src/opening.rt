@@ -117,9 +117,9 @@ fn open_item<'s, S: Semiring, M: Weigher<S>>(
     ensures hand { OnOk result (tables.new.hand ≡ (S.operations system.now.semiring).one) }
 {
     let _semiring = system.semiring();
-    let item = target.item(k);
-    for symbol in item.set.as_slice() {
-        open_edge(system, tables, target, *symbol, k + 1)?;
+    let set = &target.item(k).set;
+    for i in 0..set.len() {
+        open_edge(system, tables, target, set.at(i), k + 1)?;
     }
     Ok(())
 }

@@ -1,7 +1,4 @@
 ghost use Rattle.std.specs.Prelude.{◌≡◌, ◌<◌, ℕ, IfOk, OnOk, None, Some, false, option_map, true};
-ghost use Rattle.config_patterns.specs.Edges.{edges_of};
-ghost use Rattle.pushdown_rules.specs.Values.{value_of};
-ghost use Rattle.value_laws.specs.Runs.{Pops, Enters, IsSum};
 ghost use Rattle.weight_tables.specs.Entries.{NoneWaits};
 ghost use Rattle.weight_tables.specs.Tables.{with_entries, with_hand};
 ghost use Rattle.weight_tables.specs.Turns.{turns_left};
@@ -9,7 +6,6 @@ ghost use Rattle.value_search.specs.Views.{AreSettled, counting, found, layer_of
 ghost use Rattle.value_search.specs.Finds.{FindsPops, FindsEnters, IsSearch};
 
 use crate::give::{Taken, layer};
-use crate::opening::{aim, open};
 use crate::take::take;
 use config_patterns::Pattern;
 use pushdown_rules::System;
@@ -109,50 +105,4 @@ pub fn turn_to_target<'s, S: Semiring, M: Weigher<S>>(
     tables.valid();
     let some = take_next(system, tables, Some(target))?;
     Ok(some)
-}
-
-/// All that leads from control to control: the weight of each place is the sum of all runs that use up its symbol and end in its
-/// control. A caller that has more to do between turns loops over `turn` itself.
-pub fn close<'s, S: Semiring, M: Weigher<S>>(
-    tables: &mut Tables<'s, S, M>,
-) -> Result<(), OutOfMemory>
-    ensures system { OnOk result (tables.new.system ≡ tables.old.system) }
-    ensures sums { let p = tables.old.system in let s = S.operations p.semiring in
-        OnOk result ((from g to : ℕ) →
-        IsSum s (value_of s p) (Pops p from g to) (weights s tables.new.base from g to)) }
-    ensures finds { let p = tables.old.system in
-        OnOk result (FindsPops (S.operations p.semiring) p tables.new) }
-    ensures done { OnOk result (NoneWaits tables.new.base) }
-{
-    open(tables)?;
-    'turns: loop {
-        if !turn(tables)? {
-            tables.valid();
-            return Ok(());
-        }
-    }
-}
-
-/// All that leads to a target: the weight of each place is the sum of all runs from its control over its symbol alone into the
-/// target's control, with a stack that is not empty and that the target's edges read to the place's state.
-pub fn close_to_target<'s, S: Semiring, M: Weigher<S>>(
-    tables: &mut Tables<'s, S, M>,
-    target: &Pattern,
-) -> Result<(), OutOfMemory>
-    requires pops { let p = tables.old.system in FindsPops (S.operations p.semiring) p tables.old }
-    requires closed { NoneWaits tables.old.base }
-    ensures system { OnOk result (tables.new.system ≡ tables.old.system) }
-    ensures sums { let p = tables.old.system in let s = S.operations p.semiring in
-        OnOk result ((from g to : ℕ) → IsSum s (value_of s p)
-        (Enters p target.now.control (edges_of target.now.items) from g to)
-        (weights s tables.new.target from g to)) }
-    ensures base { OnOk result (tables.new.base ≡ tables.old.base) }
-{
-    aim(tables, target)?;
-    'turns: loop {
-        if !turn_to_target(tables, target)? {
-            tables.valid();
-            return Ok(());
-        }
-    }
 }

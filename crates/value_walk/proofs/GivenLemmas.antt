@@ -1,14 +1,12 @@
 -- What a pair gives, one part after another.
-use Rattle.std.proofs.Common.{◌≡◌, ◌⊎◌, inl, inr, ℕ, List, refl, sym, ap, ◌∙◌, subst}
-use Rattle.std.specs.Prelude.{IsTrue}
+use Rattle.std.proofs.Common.{◌≡◌, inl, inr, ℕ, List, sym, ◌∙◌, subst}
 use Rattle.wpds_base.specs.Lists.{IsIn}
 use Rattle.semiring_laws.specs.Semiring.{Operations, IsSemiring, Fits, Below}
 use Rattle.config_patterns.specs.declared.edge.Edge.{Edge}
-use Rattle.config_patterns.specs.declared.item.Item.{Item}
-use Rattle.config_patterns.specs.Edges.{edges_of, is_final_of}
+use Rattle.config_patterns.specs.Edges.{edges_of}
 use Rattle.config_patterns.specs.Membership.{PatternValue}
 use Rattle.weighted_automata.specs.declared.place.Place.{Place}
-use Rattle.weight_tables.specs.Entries.{TableEntry, weight_in}
+use Rattle.weight_tables.specs.Entries.{weight_in}
 use Rattle.weight_tables.specs.Tables.{TablesValue, AreTables, with_entries}
 use Rattle.weight_tables.specs.declared.layer.Layer.{Layer}
 use Rattle.weight_tables.specs.declared.layer.Layer.TheVariants.{Base, Target, Walk}
@@ -16,12 +14,12 @@ use Rattle.walk_pairs.specs.declared.pairs.Order.{Order}
 use Rattle.walk_pairs.specs.declared.pairs.Order.TheVariants.{Then}
 use Rattle.walk_pairs.specs.declared.pairs.Stage.{Stage}
 use Rattle.walk_pairs.specs.declared.pairs.Stage.TheVariants.{Down, Across}
-use Rattle.walk_pairs.specs.Pairs.{pair_place, answer_place, place_over}
+use Rattle.walk_pairs.specs.Pairs.{pair_place}
 use Rattle.walk_pairs.specs.Lowerings.{ArePairsLowered}
-use Rattle.walk_pairs.specs.Giving.{IsKept, IsFall, AreFallsGiven, worth_over, IsReading, AreReadingsGiven, IsEnding, IsEndingGiven}
-use Rattle.walk_pairs.proofs.CallerLemmas.{pairs_then, pairs_wider, pairs_fit, below_later, worth_fits, ways_fit, worth_stays, reading_fits}
-use Rattle.value_walk.specs.Answering.{pops_in, enters_in}
-use Rattle.value_walk.specs.private.Walking.{IsMeeting, IsMeetingGiven, IsGivenDown, IsGivenAcross, IsDownGiven, IsAcrossGiven}
+use Rattle.walk_pairs.specs.Giving.{IsKept, IsFall, AreFallsGiven, worth_over}
+use Rattle.walk_pairs.specs.Reading.{IsStand, IsStep}
+use Rattle.walk_pairs.proofs.CallerLemmas.{pairs_then, pairs_wider, pairs_fit, below_later, worth_fits, ways_fit, worth_stays}
+use Rattle.value_walk.specs.private.Walking.{IsMeeting, IsMeetingGiven, IsGivenDown, IsDownGiven}
 
 -- by all ways, said of the tables as they were first
 module _ {S W Map : Type 0} (operations : S → Operations W Map) (v : TablesValue S W Map) (order : Order) (layer : Layer) (kept : IsKept layer) (stage : Stage) (from : ℕ) (edges : List Edge) (state : ℕ)
@@ -49,9 +47,11 @@ module _ {S W Map : Type 0} (operations : S → Operations W Map) (v : TablesVal
   down_fits i c x w (inr (inl is)) = ways_fit laws v valid Then Target Across c (edges_of from.items) i x w is
   down_fits i c x w (inr (inr is)) = subst (Fits ours) (sym is.weight) valid.hand
 
-  pub across_fits : (i a : ℕ) (x : Place) (w : W) → IsGivenAcross ours from to v i a x w → Fits ours w
-  across_fits i a x w (inl is) = reading_fits v valid Across (edges_of from.items) (edges_of to.items) i a x w is
-  across_fits i a x w (inr is) = subst (Fits ours) (sym is.weight) valid.hand
+  pub stand_fits : (i a : ℕ) (x : Place) (w : W) → IsStand v.hand from.items to.items i a x w → Fits ours w
+  stand_fits i a x w is = subst (Fits ours) (sym is.weight) valid.hand
+
+  pub step_fits : (k l : ℕ) (x : Place) (w : W) → IsStep v.hand from.items to.items Across k l x w → Fits ours w
+  step_fits k l x w is = subst (Fits ours) (sym is.0) valid.hand
 
   -- a pair at a control: across where the control is the target's, and along both layers
   module _ (i c : ℕ) (v1 v2 v3 : TablesValue S W Map) (one : IsMeetingGiven ours to i c v v1) (two : AreFallsGiven (operations v1.system.semiring) v1 Then Base Down c (edges_of from.items) i v2)
@@ -85,31 +85,5 @@ module _ {S W Map : Type 0} (operations : S → Operations W Map) (v : TablesVal
             (ways_met operations v Then Base tt Down c (edges_of from.items) i v1 v2 first.others two g j edge q);
         goes_in = λ g j edge a. ways_met operations v Then Target tt Across c (edges_of from.items) i v2 v3 second.others three g j edge a;
         meets = λ same. later' (pair_place Across i 0) v.hand valid.hand (later (pair_place Across i 0) v.hand valid.hand (one.met same));
-      };
-    }
-
-  -- a pair at a state of the target: read on, and the answer
-  module _ (i a : ℕ) (v1 v2 : TablesValue S W Map) (one : AreReadingsGiven ours v Across (edges_of from.items) (edges_of to.items) i a v1)
-      (two : IsEndingGiven (operations v1.system.semiring) v1 from.items to.items i a v2) where
-    abbrev Is' : Place → W → Type 0
-    Is' = IsGivenAcross ours from to v i a
-
-    begun : ArePairsLowered ours Is' v v1
-    begun = pairs_wider ours (IsReading ours v Across (edges_of from.items) (edges_of to.items) i a) Is' (λ x w is. inl is) v v1 one.lowered
-
-    ending : IsEndingGiven ours (with_entries Walk v1.walk v) from.items to.items i a v2
-    ending = let P : TablesValue S W Map → Type 0 = λ u. IsEndingGiven (operations u.system.semiring) u from.items to.items i a v2 in subst P one.lowered.others two
-
-    ended : ArePairsLowered ours Is' (with_entries Walk v1.walk v) v2
-    ended = pairs_wider ours (IsEnding ours (with_entries Walk v1.walk v) from.items to.items i a) Is'
-        (λ x w is. inr (record { final = is.final; final_other = is.final_other; place = is.place; weight = is.weight })) (with_entries Walk v1.walk v) v2 ending.lowered
-
-    pub across_given : IsAcrossGiven ours from to i a v v2
-    across_given = record {
-      lowered = pairs_then ours Is' v v1 v2 begun ended;
-      met = record {
-        reads = λ g j edge b edge'. below_later laws Is' (across_fits i a) (with_entries Walk v1.walk v) (pairs_fit laws Is' (across_fits i a) v valid.walk.fits v1 begun) v2 ended (pair_place Across j b) v.hand valid.hand
-            (one.met g j b edge edge');
-        ends = λ final final'. ending.met final final';
       };
     }

@@ -1,20 +1,23 @@
 -- What a pair gives is made of runs, as the pair is.
-use Rattle.std.proofs.Common.{◌≡◌, ◌⊎◌, inl, inr, ℕ, sym, subst}
+use Rattle.std.proofs.Common.{◌≡◌, inl, inr, ℕ, suc, List, sym, subst}
 use Rattle.semiring_laws.specs.Semiring.{Operations, IsSemiring, Fits}
 use Rattle.pushdown_rules.specs.Pushdown.{Pushdown, IsSystem}
+use Rattle.pushdown_rules.specs.Answers.{Leads}
 use Rattle.pushdown_rules.specs.Values.{value_of}
 use Rattle.pushdown_rules.proofs.CallerLemmas.{value_fits}
 use Rattle.config_patterns.specs.Edges.{edges_of}
-use Rattle.config_patterns.specs.Membership.{PatternValue}
+use Rattle.config_patterns.specs.Membership.{PatternValue, has_member}
 use Rattle.weighted_automata.specs.declared.place.Place.{Place}
 use Rattle.weight_tables.specs.Tables.{TablesValue}
-use Rattle.walk_pairs.specs.declared.pairs.Stage.TheVariants.{Down, Across}
+use Rattle.walk_pairs.specs.declared.pairs.Stage.TheVariants.{Down, Across, Before}
 use Rattle.walk_pairs.specs.Pairs.{pair_place, answer_place}
 use Rattle.value_laws.specs.Runs.{Sums}
-use Rattle.value_laws.specs.Walk.{Descends}
-use Rattle.value_laws.proofs.CallerLemmas.{sums_none, sums_combine, begin_sums, fall_sums, enter_sums, read_sums, meet_sums, end_sums}
+use Rattle.walk_pairs.specs.Reading.{IsStand, IsStep, ComesBefore}
+use Rattle.walk_pairs.proofs.CallerLemmas.{stands_comes, skip_comes, comes_edge, comes_final}
+use Rattle.value_laws.specs.Walk.{Descends, Crosses}
+use Rattle.value_laws.proofs.CallerLemmas.{sums_none, sums_combine, sums_within, begin_sums, fall_sums, enter_sums, crosses_on, meet_sums, crosses_lead}
 use Rattle.value_walk.specs.Answering.{ArePopSums, AreEnterSums, pops_in, enters_in}
-use Rattle.value_walk.specs.private.Walking.{Goes, IsMade, IsGivenDown, IsGivenAcross}
+use Rattle.value_walk.specs.private.Walking.{Stands, Goes, IsMade, IsGivenDown}
 
 module _ {S W Map : Type 0} {operations : S → Operations W Map} {p : Pushdown S W Map} (system : IsSystem operations p) (laws : IsSemiring (operations p.semiring)) (from to : PatternValue) where
   abbrev s : Operations W Map
@@ -51,9 +54,36 @@ module _ {S W Map : Type 0} {operations : S → Operations W Map} (v : TablesVal
       let P : ℕ → Type 0 = λ q. Sums ours (value_of ours v.system) (Descends v.system from.control (edges_of from.items) i q) v.hand in
       at_place system laws from to x (pair_place Across i 0) v.hand w is.place is.weight (meet_sums system laws from to i v.hand (subst P is.control made))
 
-  pub across_made : (i a : ℕ) → IsMade from to v.system ours (pair_place Across i a) v.hand → (x : Place) (w : W) → IsGivenAcross ours from to v i a x w → IsMade from to v.system ours x w
-  across_made i a made x w (inl is) =
-      at_place system laws from to x (pair_place Across is.next is.next_other) v.hand w is.place is.weight
-      (read_sums system laws from to i is.symbol is.next is.edge a is.next_other is.edge_other v.hand made)
-  across_made i a made x w (inr is) =
-      at_place system laws from to x answer_place v.hand w is.place is.weight (end_sums system laws from to i a is.final is.final_other v.hand made)
+  -- what runs of one kind are made of, where all of it is of another kind
+  within : (Is Or : List ℕ → Type 0) → ((run : List ℕ) → Is run → Or run) → (w : W) → Sums ours (value_of ours v.system) Is w → Sums ours (value_of ours v.system) Or w
+  within Is Or wider w sums = sums_within laws (value_of ours v.system) (value_fits system laws) Is Or wider w sums
+
+  abbrev Cross : ℕ → ℕ → List ℕ → Type 0
+  Cross = Crosses v.system from.control (edges_of from.items) to.control (edges_of to.items)
+
+  pub stand_made : (i a : ℕ) → IsMade from to v.system ours (pair_place Across i a) v.hand → (x : Place) (w : W) → IsStand v.hand from.items to.items i a x w → IsMade from to v.system ours x w
+  stand_made i a made x w is =
+      at_place system laws from to x (pair_place Before is.item is.item_other) v.hand w is.place is.weight
+      (within (Cross i a) (Stands from to v.system is.item is.item_other)
+      (λ run crosses. record { state = i; end = a; comes = stands_comes from.items i is.item is.stands; comes_end = stands_comes to.items a is.item_other is.stands_other; crosses = crosses }) v.hand made)
+
+  pub step_made : (k l : ℕ) → IsMade from to v.system ours (pair_place Before k l) v.hand → (x : Place) (w : W) → IsStep v.hand from.items to.items Across k l x w → IsMade from to v.system ours x w
+  step_made k l made x w (weight, inl (skipped, place)) =
+      at_place system laws from to x (pair_place Before (suc k) l) v.hand w place weight
+      (within (Stands from to v.system k l) (Stands from to v.system (suc k) l)
+      (λ run is. record { state = is.state; end = is.end; comes = skip_comes from.items is.state k is.comes skipped; comes_end = is.comes_end; crosses = is.crosses }) v.hand made)
+  step_made k l made x w (weight, inr (inl (skipped, place))) =
+      at_place system laws from to x (pair_place Before k (suc l)) v.hand w place weight
+      (within (Stands from to v.system k l) (Stands from to v.system k (suc l))
+      (λ run is. record { state = is.state; end = is.end; comes = is.comes; comes_end = skip_comes to.items is.end l is.comes_end skipped; crosses = is.crosses }) v.hand made)
+  step_made k l made x w (weight, inr (inr (inl (g, takes, takes', place)))) =
+      at_place system laws from to x (pair_place Across (suc k) (suc l)) v.hand w place weight
+      (within (Stands from to v.system k l) (Cross (suc k) (suc l))
+      (λ run is. crosses_on system laws from to is.state g (suc k) (comes_edge from.items is.state k g is.comes takes) is.end (suc l) (comes_edge to.items is.end l g is.comes_end takes') run is.crosses) v.hand made)
+  step_made k l made x w (weight, inr (inr (inr (e, e', place)))) =
+      at_place system laws from to x answer_place v.hand w place weight
+      (within (Stands from to v.system k l) (Leads ours v.system (has_member from) (has_member to))
+      (λ run is.
+      let P : ℕ → Type 0 = ComesBefore from.items is.state in
+      let Q : ℕ → Type 0 = ComesBefore to.items is.end in
+      crosses_lead system laws from to is.state is.end (comes_final from.items is.state (subst P e is.comes)) (comes_final to.items is.end (subst Q e' is.comes_end)) run is.crosses) v.hand made)

@@ -1,142 +1,171 @@
 -- A turn of the walk keeps what was settled.
-use Rattle.std.proofs.Common.{◌≡◌, ◌⊎◌, inl, inr, ℕ, ◌<◌, ◌≤◌, ◌^◌, Bool, true, false, List, [], ◌∷◌, length, refl, sym, ap, ◌∙◌, subst, arith}
-use Rattle.std.specs.Prelude.{Some, slice_get, ◌&&◌, nat_eq, if◌then◌else◌}
-use Rattle.std.proofs.lemmas.Bool.{cases_Bool, and_parts, and_from, eq-eqb, eqb-true}
+use Rattle.std.proofs.Common.{◌≡◌, ◌⊎◌, inl, inr, ℕ, suc, List, refl, sym, ap, ◌∙◌, subst}
+use Rattle.std.specs.Prelude.{Some, slice_get}
 use Rattle.semiring_laws.specs.Semiring.{Operations, IsSemiring, Fits, Below}
-use Rattle.semiring_laws.proofs.CallerLemmas.{below_itself, below_zero}
+use Rattle.semiring_laws.proofs.CallerLemmas.{below_itself, below_trans, below_zero}
 use Rattle.config_patterns.specs.Membership.{PatternValue}
 use Rattle.weighted_automata.specs.declared.place.Place.{Place}
-use Rattle.weighted_automata.specs.declared.place.Label.{Label}
-use Rattle.weighted_automata.specs.declared.place.Label.TheVariants.{Symbol, Empty}
 use Rattle.weighted_automata.proofs.CallerLemmas.{cases_place}
 use Rattle.weight_tables.specs.Entries.{TableEntry, IsTable, NoneWaits, taken, weight_in, settled_in}
 use Rattle.weight_tables.proofs.CallerLemmas.{place_fits, taken_weight, taken_settled, settled_or_none, index_there, weight_at_index, all_settled}
-use Rattle.walk_pairs.specs.declared.pairs.Stage.{Stage}
-use Rattle.walk_pairs.specs.declared.pairs.Stage.TheVariants.{Down, Across}
+use Rattle.walk_pairs.specs.declared.pairs.Stage.TheVariants.{Down, Across, Before}
 use Rattle.walk_pairs.specs.Pairs.{pair_place, answer_place}
 use Rattle.walk_pairs.specs.Lowerings.{AreLowered}
-use Rattle.walk_pairs.proofs.CallerLemmas.{AllFit, pair_parts, pair_apart, lowered_all_fit, lowered_falls, lowered_counts}
+use Rattle.walk_pairs.specs.Reading.{IsPairRead, IsBeforeRead, AreReadingsSettled}
+use Rattle.walk_pairs.proofs.CallerLemmas.{AllFit, lowered_all_fit, lowered_falls, lowered_counts, readings_read, readings_end, pair_kept, before_kept}
 use Rattle.value_laws.specs.Settled.{Table, AreWeights}
-use Rattle.value_laws.specs.Walk.{Pairs, IsWalkSettled, ArePairsFurther, IsDownMet, IsAcrossMet, without_pair}
-use Rattle.value_laws.proofs.CallerLemmas.{walk_kept, down_done, across_done}
-use Rattle.value_walk.specs.private.Walking.{down_in, across_in, answer_in, settled_down, settled_across}
+use Rattle.value_laws.specs.Walk.{Pairs, IsWalkSettled, IsDownMet}
+use Rattle.value_walk.specs.private.Walking.{down_in, across_in, before_in, answer_in, settled_down, settled_across, settled_before, ArePairsSettled}
 
-module _ {W Map : Type 0} {s : Operations W Map} (laws : IsSemiring s) where
-  settled_fits : (es : List (TableEntry W)) → AllFit s es → (x : Place) → Fits s (settled_in s es x)
-  settled_fits es all x = elim (settled_or_none s x es) [
-    | inl e ↦ subst (Fits s) (sym e) (place_fits s x es laws.fits-zero all)
-    | inr e ↦ subst (Fits s) (sym e) laws.fits-zero
-  ]
+module _ {W Map : Type 0} {s : Operations W Map} (laws : IsSemiring s) (from to : PatternValue) (pops enters : Table W) (fp : AreWeights s pops) (fe : AreWeights s enters) where
+  abbrev pub AreSettled : List (TableEntry W) → Type 0
+  AreSettled = ArePairsSettled s from to pops enters
 
-  module _ (from to : PatternValue) (pops enters : Table W) (fp : AreWeights s pops) (fe : AreWeights s enters) where
-    -- the walk's entries are settled
-    abbrev pub AreSettled : List (TableEntry W) → Type 0
-    AreSettled es = IsWalkSettled s from to pops enters (down_in s es) (across_in s es) (settled_down s es) (settled_across s es) (answer_in s es)
+  -- what lies below a weight and then another lies below it once the first counts for nothing, or as before
+  extended_kept : (x x' w w' m : W) → Fits s x → Fits s x' → Fits s w → Fits s m → Below s x' x → (w' ≡ w) ⊎ (w' ≡ s.zero) → Below s x (s.extend w m) → Below s x' (s.extend w' m)
+  extended_kept x x' w w' m fx fx' fw fm falls (inl same) below =
+      let P : W → Type 0 = λ u. Below s x' (s.extend u m) in
+      subst P (sym same) (below_trans laws x' x (s.extend w m) fx' fx (laws.fits-extend w m fw fm) falls below)
+  extended_kept x x' w w' m fx fx' fw fm falls (inr none) below =
+      let P : W → Type 0 = Below s x' in
+      subst P (sym (ap (λ u. s.extend u m) none ∙ laws.extend-zero_left m fm)) (below_zero laws x' fx')
+
+  kept : (x x' w w' : W) → Fits s x → Fits s x' → Fits s w → Below s x' x → (w' ≡ w) ⊎ (w' ≡ s.zero) → Below s x w → Below s x' w'
+  kept x x' w w' fx fx' fw falls (inl same) below = let P : W → Type 0 = Below s x' in subst P (sym same) (below_trans laws x' x w fx' fx fw falls below)
+  kept x x' w w' fx fx' fw falls (inr none) below = let P : W → Type 0 = Below s x' in subst P (sym none) (below_zero laws x' fx')
+
+  -- what a pair at a control gave is there later
+  module _ (down across down' across' : Pairs W) (fd : (i c : ℕ) → Fits s (down i c)) (fa : (i a : ℕ) → Fits s (across i a)) (fd' : (i c : ℕ) → Fits s (down' i c)) (fa' : (i a : ℕ) → Fits s (across' i a))
+      (falls_down : (i c : ℕ) → Below s (down' i c) (down i c)) (falls_across : (i a : ℕ) → Below s (across' i a) (across i a)) (w w' : W) (fw : Fits s w) (counts : (w' ≡ w) ⊎ (w' ≡ s.zero)) where
+    down_kept : (i c : ℕ) → IsDownMet s from to pops enters i c w down across → IsDownMet s from to pops enters i c w' down' across'
+    down_kept i c was = record {
+      falls = λ g j edge q. extended_kept (down j q) (down' j q) w w' (pops c g q) (fd j q) (fd' j q) fw (fp c g q) (falls_down j q) counts (was.falls g j edge q);
+      goes_in = λ g j edge a. extended_kept (across j a) (across' j a) w w' (enters c g a) (fa j a) (fa' j a) fw (fe c g a) (falls_across j a) counts (was.goes_in g j edge a);
+      meets = λ same. kept (across i 0) (across' i 0) w w' (fa i 0) (fa' i 0) fw (falls_across i 0) counts (was.meets same);
+    }
+
+  module _ (es : List (TableEntry W)) (all : AllFit s es) where
+    fits : (x : Place) → Fits s (weight_in s es x)
+    fits x = place_fits s x es laws.fits-zero all
 
     -- where nothing waits, the weights themselves are settled
-    pub done_settled : (es : List (TableEntry W)) → AllFit s es → NoneWaits es → AreSettled es → IsWalkSettled s from to pops enters (down_in s es) (across_in s es) (down_in s es) (across_in s es) (answer_in s es)
-    done_settled es all none settled =
-        let fits : (x : Place) → Fits s (weight_in s es x) = λ x. place_fits s x es laws.fits-zero all in
-        walk_kept laws from to pops enters fp fe (down_in s es) (across_in s es) (settled_down s es) (settled_across s es) (down_in s es) (across_in s es) (down_in s es) (across_in s es) (answer_in s es) (answer_in s es)
-        (λ i c. fits (pair_place Down i c)) (λ i c. fits (pair_place Across i c)) (λ i c. settled_fits es all (pair_place Down i c)) (λ i c. settled_fits es all (pair_place Across i c))
-        (λ i c. fits (pair_place Down i c)) (λ i c. fits (pair_place Across i c)) (fits answer_place) (fits answer_place)
-        (record { falls = λ i c. below_itself laws (down_in s es i c) (fits (pair_place Down i c)); counts = λ i c. inl (sym (all_settled s (pair_place Down i c) es none)) })
-        (record { falls = λ i c. below_itself laws (across_in s es i c) (fits (pair_place Across i c)); counts = λ i c. inl (sym (all_settled s (pair_place Across i c) es none)) })
-        (below_itself laws (answer_in s es) (fits answer_place)) settled
-
-    -- where nothing counts, all is settled once the walk has begun
-    pub first_settled : (es : List (TableEntry W)) → AllFit s es → ((x : Place) → settled_in s es x ≡ s.zero) → Below s (down_in s es 0 from.control) s.one → AreSettled es
-    first_settled es all none begins =
-        let fits : (x : Place) → Fits s (weight_in s es x) = λ x. place_fits s x es laws.fits-zero all in
+    pub done_settled : NoneWaits es → AreSettled es → IsWalkSettled s from to pops enters (down_in s es) (across_in s es) (down_in s es) (across_in s es) (answer_in s es)
+    done_settled none settled =
+        let same : (x : Place) → settled_in s es x ≡ weight_in s es x = λ x. all_settled s x es none in
+        let D : (i c : ℕ) → W → Type 0 = λ i c w. IsDownMet s from to pops enters i c w (down_in s es) (across_in s es) in
+        let downs : (i c : ℕ) → D i c (down_in s es i c) = λ i c. subst (D i c) (same (pair_place Down i c)) (settled.downs i c) in
+        let P : (i a : ℕ) → W → Type 0 = λ i a w. IsPairRead s from.items to.items i a w (before_in s es) in
+        let B : (k l : ℕ) → W → Type 0 = λ k l w. IsBeforeRead s from.items to.items k l w (across_in s es) (before_in s es) (answer_in s es) in
+        let closed : AreReadingsSettled s from.items to.items (across_in s es) (across_in s es) (before_in s es) (before_in s es) (answer_in s es) =
+        record { pairs = λ i a. subst (P i a) (same (pair_place Across i a)) (settled.readings.pairs i a); befores = λ k l. subst (B k l) (same (pair_place Before k l)) (settled.readings.befores k l) } in
+        let fa : (i a : ℕ) → Fits s (across_in s es i a) = λ i a. fits (pair_place Across i a) in
+        let fb : (k l : ℕ) → Fits s (before_in s es k l) = λ k l. fits (pair_place Before k l) in
         record {
-          begins = begins;
-          falls = λ i g j edge c q. let P : W → Type 0 = Below s (down_in s es j q) in
-              subst P (sym (ap (λ w. s.extend w (pops c g q)) (none (pair_place Down i c)) ∙ laws.extend-zero_left (pops c g q) (fp c g q))) (below_zero laws (down_in s es j q) (fits (pair_place Down j q)));
-          goes_in = λ i g j edge c a. let P : W → Type 0 = Below s (across_in s es j a) in
-              subst P (sym (ap (λ w. s.extend w (enters c g a)) (none (pair_place Down i c)) ∙ laws.extend-zero_left (enters c g a) (fe c g a))) (below_zero laws (across_in s es j a) (fits (pair_place Across j a)));
-          reads = λ i g j edge a b edge'. let P : W → Type 0 = Below s (across_in s es j b) in subst P (sym (none (pair_place Across i a))) (below_zero laws (across_in s es j b) (fits (pair_place Across j b)));
-          meets = λ i. let P : W → Type 0 = Below s (across_in s es i 0) in subst P (sym (none (pair_place Down i to.control))) (below_zero laws (across_in s es i 0) (fits (pair_place Across i 0)));
-          ends = λ i a final final'. let P : W → Type 0 = Below s (answer_in s es) in subst P (sym (none (pair_place Across i a))) (below_zero laws (answer_in s es) (fits answer_place));
+          begins = settled.begins;
+          falls = λ i g j edge c q. (downs i c).falls g j edge q;
+          goes_in = λ i g j edge c a. (downs i c).goes_in g j edge a;
+          reads = λ i g j edge a b edge'. readings_read laws from.items to.items (across_in s es) (before_in s es) (answer_in s es) fa fb (fits answer_place) closed g i j a b edge edge';
+          meets = λ i. (downs i to.control).meets refl;
+          ends = λ i a final final'. readings_end laws from.items to.items (across_in s es) (before_in s es) (answer_in s es) fa fb (fits answer_place) closed i a final final';
         }
 
-    -- An entry was taken, and others were lowered.
-    module _ (old : List (TableEntry W)) (table : IsTable s old) (t : ℕ) (e : TableEntry W) (there : slice_get old t ≡ Some e) (taken_fit : AllFit s (taken t old))
-        (Is : Place → W → Type 0) (fit : (x : Place) (w : W) → Is x w → Fits s w) (new : List (TableEntry W)) (by : AreLowered s Is (taken t old) new) where
-      new_fit : AllFit s new
-      new_fit = lowered_all_fit laws Is fit (taken t old) new by taken_fit
+    -- where nothing counts, all is settled once the walk has begun
+    pub first_settled : ((x : Place) → settled_in s es x ≡ s.zero) → Below s (down_in s es 0 from.control) s.one → AreSettled es
+    first_settled none begins =
+        let nothing : (x y : Place) → Below s (weight_in s es y) (settled_in s es x) = λ x y. let P : W → Type 0 = Below s (weight_in s es y) in subst P (sym (none x)) (below_zero laws (weight_in s es y) (fits y)) in
+        let nothing_then : (x y : Place) (m : W) → Fits s m → Below s (weight_in s es y) (s.extend (settled_in s es x) m) = λ x y m fm. let P : W → Type 0 = Below s (weight_in s es y) in
+        subst P (sym (ap (λ u. s.extend u m) (none x) ∙ laws.extend-zero_left m fm)) (below_zero laws (weight_in s es y) (fits y)) in
+        record {
+          begins = begins;
+          downs = λ i c. record {
+            falls = λ g j edge q. nothing_then (pair_place Down i c) (pair_place Down j q) (pops c g q) (fp c g q);
+            goes_in = λ g j edge a. nothing_then (pair_place Down i c) (pair_place Across j a) (enters c g a) (fe c g a);
+            meets = λ same. nothing (pair_place Down i c) (pair_place Across i 0);
+          };
+          readings = record {
+            pairs = λ i a. record { stands = λ low low' k l stands stands'. nothing (pair_place Across i a) (pair_place Before k l) };
+            befores = λ k l. record {
+              skips = λ _ skipped. nothing (pair_place Before k l) (pair_place Before (suc k) l);
+              skips_other = λ _ skipped. nothing (pair_place Before k l) (pair_place Before k (suc l));
+              reads = λ g takes takes'. nothing (pair_place Before k l) (pair_place Across (suc k) (suc l));
+              ends = λ e e'. nothing (pair_place Before k l) answer_place;
+            };
+          };
+        }
 
-      pub old_falls : (x : Place) → Below s (weight_in s new x) (weight_in s old x)
-      old_falls x = let P : W → Type 0 = Below s (weight_in s new x) in subst P (taken_weight s x t old) (lowered_falls laws Is fit (taken t old) new by taken_fit x)
+  -- An entry was taken, and others were lowered.
+  module _ (old : List (TableEntry W)) (table : IsTable s old) (t : ℕ) (e : TableEntry W) (there : slice_get old t ≡ Some e) (fw : Fits s e.weight) (taken_fit : AllFit s (taken t old))
+      (Is : Place → W → Type 0) (fit : (x : Place) (w : W) → Is x w → Fits s w) (new : List (TableEntry W)) (by : AreLowered s Is (taken t old) new) where
+    new_fit : AllFit s new
+    new_fit = lowered_all_fit laws Is fit (taken t old) new by taken_fit
 
-      -- elsewhere what counts counted
-      elsewhere : (x : Place) → (e.place ≡ x → ⊥) → (settled_in s new x ≡ settled_in s old x) ⊎ (settled_in s new x ≡ s.zero)
-      elsewhere x differs = elim (lowered_counts laws Is fit (taken t old) new by taken_fit x) [
-        | inl same ↦ inl (same ∙ taken_settled s x t old e there differs)
-        | inr none ↦ inr none
+    fo : (x : Place) → Fits s (weight_in s old x)
+    fo x = place_fits s x old laws.fits-zero table.fits
+
+    fn : (x : Place) → Fits s (weight_in s new x)
+    fn x = place_fits s x new laws.fits-zero new_fit
+
+    fs : (x : Place) → Fits s (settled_in s old x)
+    fs x = elim (settled_or_none s x old) [ inl is ↦ subst (Fits s) (sym is) (fo x) | inr is ↦ subst (Fits s) (sym is) laws.fits-zero ]
+
+    falls : (x : Place) → Below s (weight_in s new x) (weight_in s old x)
+    falls x = let P : W → Type 0 = Below s (weight_in s new x) in subst P (taken_weight s x t old) (lowered_falls laws Is fit (taken t old) new by taken_fit x)
+
+    stays : (x : Place) → Below s (weight_in s new x) (weight_in s new x)
+    stays x = below_itself laws (weight_in s new x) (fn x)
+
+    -- elsewhere what counts counted
+    elsewhere : (x : Place) → (e.place ≡ x → ⊥) → (settled_in s new x ≡ settled_in s old x) ⊎ (settled_in s new x ≡ s.zero)
+    elsewhere x differs = elim (lowered_counts laws Is fit (taken t old) new by taken_fit x) [
+      | inl same ↦ inl (same ∙ taken_settled s x t old e there differs)
+      | inr none ↦ inr none
+    ]
+
+    -- and there it is the entry's weight, or nothing
+    here : (x : Place) → e.place ≡ x → (settled_in s new x ≡ e.weight) ⊎ (settled_in s new x ≡ s.zero)
+    here x is =
+        let weight : weight_in s (taken t old) e.place ≡ e.weight = taken_weight s e.place t old ∙ (weight_at_index s e.place old t e (index_there old table.distinct t e there) there).0 in
+        let P : Place → Type 0 = λ y. (settled_in s new y ≡ e.weight) ⊎ (settled_in s new y ≡ s.zero) in
+        subst P is (elim (lowered_counts laws Is fit (taken t old) new by taken_fit e.place) [
+          | inr none ↦ inr none
+          | inl same ↦ elim (settled_or_none s e.place (taken t old)) [ inl at ↦ inl (same ∙ at ∙ weight) | inr none ↦ inr (same ∙ none) ]
+        ])
+
+    -- All pairs that count have given what they give, if that which was taken has.
+    module _ (given_down : (i c : ℕ) → e.place ≡ pair_place Down i c → IsDownMet s from to pops enters i c e.weight (down_in s new) (across_in s new))
+        (given_across : (i a : ℕ) → e.place ≡ pair_place Across i a → IsPairRead s from.items to.items i a e.weight (before_in s new))
+        (given_before : (k l : ℕ) → e.place ≡ pair_place Before k l → IsBeforeRead s from.items to.items k l e.weight (across_in s new) (before_in s new) (answer_in s new)) (settled : AreSettled old) where
+      downs : (i c : ℕ) → IsDownMet s from to pops enters i c (settled_down s new i c) (down_in s new) (across_in s new)
+      downs i c = elim (cases_place e.place (pair_place Down i c)) [
+        | inl is ↦ down_kept (down_in s new) (across_in s new) (down_in s new) (across_in s new) (λ x y. fn (pair_place Down x y)) (λ x y. fn (pair_place Across x y)) (λ x y. fn (pair_place Down x y)) (λ x y. fn (pair_place Across x y))
+            (λ x y. stays (pair_place Down x y)) (λ x y. stays (pair_place Across x y)) e.weight (settled_down s new i c) fw (here (pair_place Down i c) is) i c (given_down i c is)
+        | inr differs ↦ down_kept (down_in s old) (across_in s old) (down_in s new) (across_in s new) (λ x y. fo (pair_place Down x y)) (λ x y. fo (pair_place Across x y)) (λ x y. fn (pair_place Down x y)) (λ x y. fn (pair_place Across x y))
+            (λ x y. falls (pair_place Down x y)) (λ x y. falls (pair_place Across x y)) (settled_down s old i c) (settled_down s new i c) (fs (pair_place Down i c)) (elsewhere (pair_place Down i c) differs) i c (settled.downs i c)
       ]
 
-      -- and there it is the entry's weight, or nothing
-      pub here_back : (settled_in s new e.place ≡ e.weight) ⊎ (settled_in s new e.place ≡ s.zero)
-      here_back =
-          let weight : weight_in s (taken t old) e.place ≡ e.weight = taken_weight s e.place t old ∙ (weight_at_index s e.place old t e (index_there old table.distinct t e there) there).0 in
-          elim (lowered_counts laws Is fit (taken t old) new by taken_fit e.place) [
-            | inr none ↦ inr none
-            | inl same ↦ elim (settled_or_none s e.place (taken t old)) [ inl is ↦ inl (same ∙ is ∙ weight) | inr none ↦ inr (same ∙ none) ]
-          ]
+      pairs : (i a : ℕ) → IsPairRead s from.items to.items i a (settled_across s new i a) (before_in s new)
+      pairs i a = elim (cases_place e.place (pair_place Across i a)) [
+        | inl is ↦ pair_kept laws from.items to.items (before_in s new) (before_in s new) (λ x y. fn (pair_place Before x y)) (λ x y. fn (pair_place Before x y)) (λ x y. stays (pair_place Before x y))
+            e.weight (settled_across s new i a) fw (here (pair_place Across i a) is) i a (given_across i a is)
+        | inr differs ↦ pair_kept laws from.items to.items (before_in s old) (before_in s new) (λ x y. fo (pair_place Before x y)) (λ x y. fn (pair_place Before x y)) (λ x y. falls (pair_place Before x y))
+            (settled_across s old i a) (settled_across s new i a) (fs (pair_place Across i a)) (elsewhere (pair_place Across i a) differs) i a (settled.readings.pairs i a)
+      ]
 
-      further : (stage : Stage) → ((i c : ℕ) → e.place ≡ pair_place stage i c → ⊥)
-          → ArePairsFurther s (λ i c. weight_in s old (pair_place stage i c)) (λ i c. settled_in s old (pair_place stage i c)) (λ i c. weight_in s new (pair_place stage i c)) (λ i c. settled_in s new (pair_place stage i c))
-      further stage apart = record { falls = λ i c. old_falls (pair_place stage i c); counts = λ i c. elsewhere (pair_place stage i c) (apart i c) }
+      befores : (k l : ℕ) → IsBeforeRead s from.items to.items k l (settled_before s new k l) (across_in s new) (before_in s new) (answer_in s new)
+      befores k l = elim (cases_place e.place (pair_place Before k l)) [
+        | inl is ↦ before_kept laws from.items to.items (before_in s new) (before_in s new) (λ x y. fn (pair_place Before x y)) (λ x y. fn (pair_place Before x y)) (λ x y. stays (pair_place Before x y))
+            e.weight (settled_before s new k l) fw (here (pair_place Before k l) is) (across_in s new) (across_in s new) (λ x y. fn (pair_place Across x y)) (λ x y. fn (pair_place Across x y)) (λ x y. stays (pair_place Across x y))
+            (answer_in s new) (answer_in s new) (fn answer_place) (fn answer_place) (stays answer_place) k l (given_before k l is)
+        | inr differs ↦ before_kept laws from.items to.items (before_in s old) (before_in s new) (λ x y. fo (pair_place Before x y)) (λ x y. fn (pair_place Before x y)) (λ x y. falls (pair_place Before x y))
+            (settled_before s old k l) (settled_before s new k l) (fs (pair_place Before k l)) (elsewhere (pair_place Before k l) differs) (across_in s old) (across_in s new) (λ x y. fo (pair_place Across x y)) (λ x y. fn (pair_place Across x y))
+            (λ x y. falls (pair_place Across x y)) (answer_in s old) (answer_in s new) (fo answer_place) (fn answer_place) (falls answer_place) k l (settled.readings.befores k l)
+      ]
 
-      further_but : (stage : Stage) (i c : ℕ) → e.place ≡ pair_place stage i c
-          → ArePairsFurther s (λ i c. weight_in s old (pair_place stage i c)) (λ i c. settled_in s old (pair_place stage i c)) (λ i c. weight_in s new (pair_place stage i c))
-          (without_pair s.zero i c (λ i c. settled_in s new (pair_place stage i c)))
-      further_but stage i c is = record {
-        falls = λ x y. old_falls (pair_place stage x y);
-        counts = λ x y. elim (cases_Bool (nat_eq i x && nat_eq c y)) [
-          | inl same ↦ inr (ap (λ (b : Bool). if b then s.zero else settled_in s new (pair_place stage x y)) same)
-          | inr other ↦
-              let differs : e.place ≡ pair_place stage x y → ⊥ =
-              λ q. let parts = pair_parts stage i c x y (sym is ∙ q) in let yes = and_from (nat_eq i x) (nat_eq c y) (eq-eqb i x parts.0) (eq-eqb c y parts.1) in let both : true ≡ false = sym yes ∙ other in cc in
-              let step = ap (λ (b : Bool). if b then s.zero else settled_in s new (pair_place stage x y)) other in
-              elim (elsewhere (pair_place stage x y) differs) [ inl was ↦ inl (step ∙ was) | inr none ↦ inr (step ∙ none) ]
-        ];
-      }
-
-      fits_old : (x : Place) → Fits s (weight_in s old x)
-      fits_old x = place_fits s x old laws.fits-zero table.fits
-
-      fits_new : (x : Place) → Fits s (weight_in s new x)
-      fits_new x = place_fits s x new laws.fits-zero new_fit
-
-      -- it was no pair
-      pub other_settled : ((stage : Stage) (i c : ℕ) → e.place ≡ pair_place stage i c → ⊥) → AreSettled old → AreSettled new
-      other_settled apart settled =
-          walk_kept laws from to pops enters fp fe (down_in s old) (across_in s old) (settled_down s old) (settled_across s old) (down_in s new) (across_in s new) (settled_down s new) (settled_across s new) (answer_in s old) (answer_in s new)
-          (λ i c. fits_old (pair_place Down i c)) (λ i c. fits_old (pair_place Across i c)) (λ i c. settled_fits old table.fits (pair_place Down i c)) (λ i c. settled_fits old table.fits (pair_place Across i c))
-          (λ i c. fits_new (pair_place Down i c)) (λ i c. fits_new (pair_place Across i c)) (fits_old answer_place) (fits_new answer_place)
-          (further Down (apart Down)) (further Across (apart Across)) (old_falls answer_place) settled
-
-      -- it was a pair at a control
-      pub down_settled : (i c : ℕ) → e.place ≡ pair_place Down i c → Fits s e.weight → AreSettled old → IsDownMet s from to pops enters i c e.weight (down_in s new) (across_in s new) → AreSettled new
-      down_settled i c is fw settled met =
-          let P : Place → Type 0 = λ x. (settled_in s new x ≡ e.weight) ⊎ (settled_in s new x ≡ s.zero) in
-          down_done laws from to pops enters fp fe (down_in s new) (across_in s new) (settled_down s new) (settled_across s new) (answer_in s new)
-          (λ x y. fits_new (pair_place Down x y)) (λ x y. fits_new (pair_place Across x y)) (fits_new answer_place) i c e.weight fw (subst P is here_back)
-          (walk_kept laws from to pops enters fp fe (down_in s old) (across_in s old) (settled_down s old) (settled_across s old) (down_in s new) (across_in s new)
-          (without_pair s.zero i c (settled_down s new)) (settled_across s new) (answer_in s old) (answer_in s new)
-          (λ x y. fits_old (pair_place Down x y)) (λ x y. fits_old (pair_place Across x y)) (λ x y. settled_fits old table.fits (pair_place Down x y)) (λ x y. settled_fits old table.fits (pair_place Across x y))
-          (λ x y. fits_new (pair_place Down x y)) (λ x y. fits_new (pair_place Across x y)) (fits_old answer_place) (fits_new answer_place)
-          (further_but Down i c is) (further Across (λ x y q. pair_apart i c x y (sym is ∙ q))) (old_falls answer_place) settled) met
-
-      -- it was a pair at a state of the target
-      pub across_settled : (i a : ℕ) → e.place ≡ pair_place Across i a → Fits s e.weight → AreSettled old → IsAcrossMet s from to i a e.weight (across_in s new) (answer_in s new) → AreSettled new
-      across_settled i a is fw settled met =
-          let P : Place → Type 0 = λ x. (settled_in s new x ≡ e.weight) ⊎ (settled_in s new x ≡ s.zero) in
-          across_done laws from to pops enters fp fe (down_in s new) (across_in s new) (settled_down s new) (settled_across s new) (answer_in s new)
-          (λ x y. fits_new (pair_place Down x y)) (λ x y. fits_new (pair_place Across x y)) (fits_new answer_place) i a e.weight fw (subst P is here_back)
-          (walk_kept laws from to pops enters fp fe (down_in s old) (across_in s old) (settled_down s old) (settled_across s old) (down_in s new) (across_in s new)
-          (settled_down s new) (without_pair s.zero i a (settled_across s new)) (answer_in s old) (answer_in s new)
-          (λ x y. fits_old (pair_place Down x y)) (λ x y. fits_old (pair_place Across x y)) (λ x y. settled_fits old table.fits (pair_place Down x y)) (λ x y. settled_fits old table.fits (pair_place Across x y))
-          (λ x y. fits_new (pair_place Down x y)) (λ x y. fits_new (pair_place Across x y)) (fits_old answer_place) (fits_new answer_place)
-          (further Down (λ x y q. pair_apart x y i a (sym q ∙ is))) (further_but Across i a is) (old_falls answer_place) settled) met
+      pub turn_settled : AreSettled new
+      turn_settled =
+          let x0 : Place = pair_place Down 0 from.control in
+          record {
+            begins = below_trans laws (weight_in s new x0) (weight_in s old x0) s.one (fn x0) (fo x0) laws.fits-one (falls x0) settled.begins;
+            downs = downs;
+            readings = record { pairs = pairs; befores = befores };
+          }

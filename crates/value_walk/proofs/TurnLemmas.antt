@@ -1,10 +1,9 @@
 -- The beginning of the walk, a turn, and its end.
-use Rattle.std.proofs.Common.{◌≡◌, ◌⊎◌, inl, inr, ℕ, zero, suc, ◌<◌, ◌≤◌, ◌^◌, true, false, List, [], ◌∷◌, length, refl, sym, ap, ◌∙◌, subst, arith}
+use Rattle.std.proofs.Common.{◌≡◌, ◌⊎◌, inl, inr, ℕ, zero, suc, ◌<◌, ◌^◌, true, false, List, [], ◌∷◌, length, refl, sym, ap, ◌∙◌, subst, arith}
 use Rattle.std.specs.Prelude.{Some, slice_get}
 use Rattle.std.proofs.lemmas.Option.{same_Some}
-use Rattle.semiring_laws.specs.Semiring.{Operations, IsSemiring, Fits, Below}
-use Rattle.pushdown_rules.specs.Pushdown.{Pushdown, IsSystem}
-use Rattle.config_patterns.specs.Edges.{edges_of}
+use Rattle.semiring_laws.specs.Semiring.{Operations, IsSemiring, Fits}
+use Rattle.pushdown_rules.specs.Pushdown.{IsSystem}
 use Rattle.config_patterns.specs.Membership.{PatternValue}
 use Rattle.weighted_automata.specs.declared.place.Label.{Label}
 use Rattle.weighted_automata.specs.declared.place.Label.TheVariants.{Symbol, Empty}
@@ -15,33 +14,36 @@ use Rattle.weight_tables.specs.Turns.{turns_left}
 use Rattle.weight_tables.specs.declared.layer.Layer.TheVariants.{Walk}
 use Rattle.weight_tables.proofs.CallerLemmas.{place_fits, taken_weight, index_there, weight_at_index, taken_turns}
 use Rattle.walk_pairs.specs.declared.pairs.Stage.{Stage}
-use Rattle.walk_pairs.specs.declared.pairs.Stage.TheVariants.{Down, Across}
+use Rattle.walk_pairs.specs.declared.pairs.Stage.TheVariants.{Down, Across, Before}
 use Rattle.walk_pairs.specs.Pairs.{number_of, pair_place, answer_place, place_over}
 use Rattle.walk_pairs.specs.Lowerings.{AreLowered, ArePairsLowered}
-use Rattle.walk_pairs.proofs.CallerLemmas.{AllFit, none_pairs, one_lowered, lowered_all_fit, lowered_counts, lowered_holds, lowered_all_turns, one_below}
+use Rattle.walk_pairs.specs.Reading.{IsStand, IsStep}
+use Rattle.walk_pairs.proofs.CallerLemmas.{none_pairs, one_lowered, lowered_all_fit, lowered_counts, lowered_holds, lowered_all_turns, one_below}
 use Rattle.value_laws.specs.Settled.{AreWeights}
 use Rattle.value_laws.proofs.CallerLemmas.{answer_below, sum_answers}
 use Rattle.walk_pairs.specs.Answering.{IsAnswered, IsWalkedOver}
 use Rattle.value_walk.specs.Answering.{pops_in, enters_in, ArePopSums, AreEnterSums}
-use Rattle.value_walk.specs.private.Walking.{IsMade, IsWalking, IsGivenDown, IsGivenAcross, IsPlaceGiven, down_in, across_in, answer_in}
-use Rattle.value_walk.proofs.GivenLemmas.{down_fits, across_fits}
-use Rattle.value_walk.proofs.MadeLemmas.{made_none, made_joins, made_first, at_place, down_made, across_made}
-use Rattle.value_walk.proofs.SettleLemmas.{AreSettled, done_settled, first_settled, other_settled, down_settled, across_settled}
+use Rattle.value_walk.specs.private.Walking.{IsMade, IsWalking, IsGivenDown, IsPlaceGiven, down_in, across_in, answer_in}
+use Rattle.value_walk.proofs.GivenLemmas.{down_fits, stand_fits, step_fits}
+use Rattle.value_walk.proofs.MadeLemmas.{made_none, made_joins, made_first, at_place, down_made, stand_made, step_made}
+use Rattle.value_walk.proofs.SettleLemmas.{AreSettled, done_settled, first_settled, turn_settled}
 
-number_small : (stage : Stage) → number_of stage < 2
+number_small : (stage : Stage) → number_of stage < 3
 number_small Down = omega arith
 number_small Across = omega arith
+number_small Before = omega arith
 
 abbrev IsNoPair : Place → Type 0
 IsNoPair x = (stage : Stage) (i y : ℕ) → x ≡ pair_place stage i y → ⊥
 
--- what stands at a place is a pair of one stage, or of the other, or none
+-- what stands at a place is a pair of a stage, or none
 which_pair : (f : ℕ) (l : Label) (t : ℕ) → let x : Place = record { from = f; label = l; to = t } in
-    ((i : ℕ) × (c : ℕ) × (x ≡ pair_place Down i c)) ⊎ (((i : ℕ) × (a : ℕ) × (x ≡ pair_place Across i a)) ⊎ IsNoPair x)
-which_pair zero (Symbol i) t = inl (i, t, refl)
-which_pair (suc zero) (Symbol i) t = inr (inl (i, t, refl))
-which_pair (suc (suc n)) (Symbol i) t = inr (inr (λ stage j y e. let same : suc (suc n) ≡ number_of stage = ap (λ (p : Place). p.from) e in let small = number_small stage in omega (arith, same, small)))
-which_pair f Empty t = inr (inr (λ stage j y e. let same : Empty ≡ Symbol j = ap (λ (p : Place). p.label) e in cc))
+    ((stage : Stage) × (i : ℕ) × (y : ℕ) × (x ≡ pair_place stage i y)) ⊎ IsNoPair x
+which_pair zero (Symbol i) t = inl (Down, i, t, refl)
+which_pair (suc zero) (Symbol i) t = inl (Across, i, t, refl)
+which_pair (suc (suc zero)) (Symbol i) t = inl (Before, i, t, refl)
+which_pair (suc (suc (suc n))) (Symbol i) t = inr (λ stage j y e. let same : suc (suc (suc n)) ≡ number_of stage = ap (λ (p : Place). p.from) e in let small = number_small stage in omega (arith, same, small))
+which_pair f Empty t = inr (λ stage j y e. let same : Empty ≡ Symbol j = ap (λ (p : Place). p.label) e in cc)
 
 -- an entry that was taken stands where it stood
 pub taken_at : {W : Type 0} (t : ℕ) (es : List (TableEntry W)) (e : TableEntry W) → slice_get es t ≡ Some e → slice_get (taken t es) t ≡ Some (record e { waits = false })
@@ -93,28 +95,38 @@ module _ {S W Map : Type 0} (operations : S → Operations W Map) (v : TablesVal
             fewer = omega (arith, less, one);
           }
 
+      -- what was taken has given all that it gives, and the rest was settled
+      settled_by : (Is : Place → W → Type 0) → ((x : Place) (w : W) → Is x w → Fits s w) → ArePairsLowered s Is at_hand new → IsPlaceGiven s from to e.place at_hand new → Settled new.walk
+      settled_by Is fit lowered given =
+          turn_settled laws from to (pops_in s v) (enters_in s v) pops_fit enters_fit v.walk valid.walk t e there valid'.hand valid'.walk.fits Is fit new.walk lowered.pairs (λ i c is. (given.down i c is).met)
+          (λ i a is. (given.across i a is).met) (λ k l is. (given.before k l is).met) walking.settled
+
+      made_here : (x : Place) → e.place ≡ x → IsMade from to v.system s x e.weight
+      made_here x is =
+          let P : Place → Type 0 = λ y. IsMade from to v.system s y e.weight in
+          subst P is (subst (IsMade from to v.system s e.place) weight_is (walking.made e.place))
+
+      of_stage : (stage : Stage) (i y : ℕ) → e.place ≡ pair_place stage i y → IsPlaceGiven s from to e.place at_hand new → IsTurned new
+      of_stage Down i c is given =
+          let all = given.down i c is in
+          let fit = down_fits operations at_hand laws valid' from to i c in
+          conclude (IsGivenDown s from to at_hand i c) fit (down_made at_hand system laws from to pops enters i c (made_here (pair_place Down i c) is)) all.lowered (settled_by (IsGivenDown s from to at_hand i c) fit all.lowered given)
+      of_stage Across i a is given =
+          let all = given.across i a is in
+          let fit = stand_fits operations at_hand laws valid' from to i a in
+          conclude (IsStand e.weight from.items to.items i a) fit (stand_made at_hand system laws from to i a (made_here (pair_place Across i a) is)) all.lowered (settled_by (IsStand e.weight from.items to.items i a) fit all.lowered given)
+      of_stage Before k l is given =
+          let all = given.before k l is in
+          let fit = step_fits operations at_hand laws valid' from to k l in
+          conclude (IsStep e.weight from.items to.items Across k l) fit (step_made at_hand system laws from to k l (made_here (pair_place Before k l) is)) all.lowered (settled_by (IsStep e.weight from.items to.items Across k l) fit all.lowered given)
+
       pub turned : IsPlaceGiven s from to e.place at_hand new → IsTurned new
       turned given = elim (which_pair e.place.from e.place.label e.place.to) [
-        | inl (i, c, is) ↦
-            let all = given.down i c is in
-            let P : Place → Type 0 = λ x. IsMade from to v.system s x e.weight in
-            let made : P (pair_place Down i c) = subst P is (subst (IsMade from to v.system s e.place) weight_is (walking.made e.place)) in
-            conclude (IsGivenDown s from to at_hand i c) (down_fits operations at_hand laws valid' from to i c) (down_made at_hand system laws from to pops enters i c made) all.lowered
-            (down_settled laws from to (pops_in s v) (enters_in s v) pops_fit enters_fit v.walk valid.walk t e there valid'.walk.fits (IsGivenDown s from to at_hand i c) (down_fits operations at_hand laws valid' from to i c) new.walk all.lowered.pairs
-            i c is valid'.hand walking.settled all.met)
-        | inr (inl (i, a, is)) ↦
-            let all = given.across i a is in
-            let P : Place → Type 0 = λ x. IsMade from to v.system s x e.weight in
-            let made : P (pair_place Across i a) = subst P is (subst (IsMade from to v.system s e.place) weight_is (walking.made e.place)) in
-            conclude (IsGivenAcross s from to at_hand i a) (across_fits operations at_hand laws valid' from to i a) (across_made at_hand system laws from to i a made) all.lowered
-            (across_settled laws from to (pops_in s v) (enters_in s v) pops_fit enters_fit v.walk valid.walk t e there valid'.walk.fits (IsGivenAcross s from to at_hand i a) (across_fits operations at_hand laws valid' from to i a) new.walk all.lowered.pairs
-            i a is valid'.hand walking.settled all.met)
-        | inr (inr none) ↦
-            let same = given.others none in
+        | inl (stage, i, y, is) ↦ of_stage stage i y is given
+        | inr none ↦
             let Q : TablesValue S W Map → Type 0 = λ u. ArePairsLowered s (λ _ _. ⊥) at_hand u in
-            let lowered : ArePairsLowered s (λ _ _. ⊥) at_hand new = subst Q (sym same) (none_pairs s (λ _ _. ⊥) at_hand) in
-            conclude (λ _ _. ⊥) (λ x w no. absurd no) (λ x w no. absurd no) lowered
-            (other_settled laws from to (pops_in s v) (enters_in s v) pops_fit enters_fit v.walk valid.walk t e there valid'.walk.fits (λ _ _. ⊥) (λ x w no. absurd no) new.walk lowered.pairs none walking.settled)
+            let lowered : ArePairsLowered s (λ _ _. ⊥) at_hand new = subst Q (sym (given.others none)) (none_pairs s (λ _ _. ⊥) at_hand) in
+            conclude (λ _ _. ⊥) (λ x w no. absurd no) (λ x w no. absurd no) lowered (settled_by (λ _ _. ⊥) (λ x w no. absurd no) lowered given)
       ]
 
   -- The walk has begun: one pair waits.

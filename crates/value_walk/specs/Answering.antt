@@ -1,5 +1,5 @@
 -- What tables say that a walk goes over.
-use Rattle.std.specs.Prelude.{◌≡◌, ℕ}
+use Rattle.std.specs.Prelude.{ℕ}
 use Rattle.semiring_laws.specs.Semiring.{Operations}
 use Rattle.config_patterns.specs.Edges.{edges_of}
 use Rattle.config_patterns.specs.Membership.{PatternValue}

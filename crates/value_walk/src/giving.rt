@@ -1,9 +1,9 @@
 ghost use Rattle.std.specs.Prelude.{OnOk};
-ghost use Rattle.value_walk.specs.private.Walking.{IsMeetingGiven, IsDownGiven, IsAcrossGiven, IsPlaceGiven};
+ghost use Rattle.value_walk.specs.private.Walking.{IsMeetingGiven, IsDownGiven, IsPlaceGiven};
 
 use config_patterns::Pattern;
 use semiring_laws::Semiring;
-use walk_pairs::{Order, Stage, end_at, fall_ways, pair_at, pair_place, read_ways};
+use walk_pairs::{Order, Stage, fall_ways, pair_at, pair_place, read_items, read_on};
 use weight_tables::{Layer, Tables, Weigher};
 use weighted_automata::Place;
 use wpds_base::OutOfMemory;
@@ -25,8 +25,8 @@ fn meet<'s, S: Semiring, M: Weigher<S>>(
     Ok(())
 }
 
-/// Gives all that a pair at a control gives, whose weight is in hand.
-pub(crate) fn give_down<'s, S: Semiring, M: Weigher<S>>(
+// Gives all that a pair at a control gives, whose weight is in hand.
+fn give_down<'s, S: Semiring, M: Weigher<S>>(
     tables: &mut Tables<'s, S, M>,
     from: &Pattern,
     to: &Pattern,
@@ -59,23 +59,6 @@ pub(crate) fn give_down<'s, S: Semiring, M: Weigher<S>>(
     Ok(())
 }
 
-/// Gives all that a pair at a state of the target gives, whose weight is in hand.
-pub(crate) fn give_across<'s, S: Semiring, M: Weigher<S>>(
-    tables: &mut Tables<'s, S, M>,
-    from: &Pattern,
-    to: &Pattern,
-    state: u32,
-    target: u32,
-) -> Result<(), OutOfMemory>
-    ensures { let s = S.operations tables.old.system.semiring in
-        OnOk result (IsAcrossGiven s from.now to.now state target tables.old tables.new) }
-{
-    tables.valid();
-    read_ways(tables, Stage::Across, from, state, to, target)?;
-    end_at(tables, from, state, to, target)?;
-    Ok(())
-}
-
 /// Gives all that what stands at a place of the walk gives, whose weight is in hand. What is no pair gives nothing.
 pub(crate) fn give<'s, S: Semiring, M: Weigher<S>>(
     tables: &mut Tables<'s, S, M>,
@@ -95,7 +78,11 @@ pub(crate) fn give<'s, S: Semiring, M: Weigher<S>>(
             Ok(())
         }
         Stage::Across => {
-            give_across(tables, from, to, pair.state, pair.to)?;
+            read_on(tables, from, pair.state, to, pair.to)?;
+            Ok(())
+        }
+        Stage::Before => {
+            read_items(tables, Stage::Across, from, pair.state, to, pair.to)?;
             Ok(())
         }
     }

@@ -1,9 +1,7 @@
 -- What was given while pairs were lowered, said of the tables as they were first.
-use Rattle.std.proofs.Common.{◌≡◌, ℕ, List, sym, ap, ◌∙◌, subst}
+use Rattle.std.proofs.Common.{◌≡◌, ℕ, List, ap, ◌∙◌, subst}
 use Rattle.std.specs.Prelude.{Some, slice_get}
 use Rattle.semiring_laws.specs.Semiring.{Operations, Below}
-use Rattle.config_patterns.specs.declared.item.Item.{Item}
-use Rattle.config_patterns.specs.declared.edge.Edge.{Edge}
 use Rattle.weighted_automata.specs.declared.place.Label.TheVariants.{Symbol}
 use Rattle.weighted_automata.specs.declared.place.Place.{Place}
 use Rattle.weight_tables.specs.Entries.{TableEntry, weight_in}
@@ -14,8 +12,8 @@ use Rattle.walk_pairs.specs.declared.pairs.Order.{Order}
 use Rattle.walk_pairs.specs.declared.pairs.Stage.{Stage}
 use Rattle.walk_pairs.specs.Pairs.{joined, pair_place, place_over}
 use Rattle.walk_pairs.specs.Lowerings.{ArePairsLowered}
-use Rattle.walk_pairs.specs.Giving.{IsKept, IsFallOn, AreFallsOnGiven, IsFall, AreFallsGiven, worth_over, AreReadingsOnGiven, IsReadingOn}
-use Rattle.walk_pairs.specs.private.Steps.{IsEntryGiven, IsBoth, IsBothGiven}
+use Rattle.walk_pairs.specs.Giving.{IsKept, IsFallOn, AreFallsOnGiven, worth_over}
+use Rattle.walk_pairs.specs.private.Steps.{IsEntryGiven}
 use Rattle.walk_pairs.proofs.PairLemmas.{same_layer, pairs_wider}
 
 module _ {S W Map : Type 0} (operations : S → Operations W Map) (v : TablesValue S W Map) where
@@ -55,11 +53,3 @@ module _ {S W Map : Type 0} (operations : S → Operations W Map) (v : TablesVal
 
         pub over_met : (g : ℕ) → e.place.label ≡ Symbol g → Has g → Below s (weight_in s v2.walk (pair_place stage next e.place.to)) (joined s order v.hand e.weight)
         over_met g label has = over_between.met e there_between g label has
-
-  -- by the edges of another pattern, and by one pair
-  module _ (v1 v2 : TablesValue S W Map) (others : v1 ≡ with_entries Walk v1.walk v) (stage : Stage) where
-    pub read_on_between : (one : List Item) (other : List Edge) (next a : ℕ) → AreReadingsOnGiven (operations v1.system.semiring) v1 stage one other next a v2 → AreReadingsOnGiven s (with_entries Walk v1.walk v) stage one other next a v2
-    read_on_between one other next a given = let P : TablesValue S W Map → Type 0 = λ u. AreReadingsOnGiven (operations u.system.semiring) u stage one other next a v2 in subst P others given
-
-    pub both_between : (one other : List Item) (next b : ℕ) → IsBothGiven (operations v1.system.semiring) v1 stage one other next b v2 → IsBothGiven s (with_entries Walk v1.walk v) stage one other next b v2
-    both_between one other next b given = let P : TablesValue S W Map → Type 0 = λ u. IsBothGiven (operations u.system.semiring) u stage one other next b v2 in subst P others given

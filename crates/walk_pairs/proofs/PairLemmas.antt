@@ -1,9 +1,7 @@
 -- Pairs that are lowered while the rest stays.
-use Rattle.std.proofs.Common.{◌≡◌, ℕ, List, refl, sym, ap, ◌∙◌, subst, arith}
-use Rattle.std.specs.List.{AllByRecursion}
+use Rattle.std.proofs.Common.{◌≡◌, ℕ, List, refl, sym, ap, ◌∙◌, subst}
 use Rattle.semiring_laws.specs.Semiring.{Operations, IsSemiring, Fits, Below}
 use Rattle.semiring_laws.proofs.CallerLemmas.{below_trans}
-use Rattle.weighted_automata.specs.declared.place.Label.{Label}
 use Rattle.weighted_automata.specs.declared.place.Label.TheVariants.{Symbol}
 use Rattle.weighted_automata.specs.declared.place.Place.{Place}
 use Rattle.weight_tables.specs.Entries.{TableEntry, IsTable, lowered_in, weight_in}
@@ -12,9 +10,8 @@ use Rattle.weight_tables.specs.declared.layer.Layer.{Layer}
 use Rattle.weight_tables.specs.declared.layer.Layer.TheVariants.{Base, Target, Walk}
 use Rattle.weight_tables.proofs.CallerLemmas.{place_fits}
 use Rattle.walk_pairs.specs.declared.pairs.Stage.{Stage}
-use Rattle.walk_pairs.specs.declared.pairs.Stage.TheVariants.{Down, Across}
-use Rattle.walk_pairs.specs.Pairs.{pair_place}
-use Rattle.walk_pairs.specs.Lowerings.{AreLowered, ArePairsLowered}
+use Rattle.walk_pairs.specs.Pairs.{number_of, pair_place}
+use Rattle.walk_pairs.specs.Lowerings.{ArePairsLowered}
 use Rattle.walk_pairs.specs.Giving.{IsKept}
 use Rattle.walk_pairs.proofs.LoweringLemmas.{AllFit, none_lowered, one_lowered, lowered_then, lowered_wider, lowered_all_fit, lowered_falls}
 
@@ -25,8 +22,9 @@ symbol_is a b e = cc
 pub pair_parts : (stage : Stage) (i x j y : ℕ) → pair_place stage i x ≡ pair_place stage j y → (i ≡ j) × (x ≡ y)
 pair_parts stage i x j y e = (symbol_is i j (ap (λ (p : Place). p.label) e), ap (λ (p : Place). p.to) e)
 
-pub pair_apart : (i x j y : ℕ) → pair_place Down i x ≡ pair_place Across j y → ⊥
-pair_apart i x j y e = let f : 0 ≡ 1 = ap (λ (p : Place). p.from) e in omega (arith, f)
+-- pairs of different stages stand at different places
+pub stages_apart : (stage stage' : Stage) (i x j y : ℕ) → (number_of stage ≡ number_of stage' → ⊥) → pair_place stage i x ≡ pair_place stage' j y → ⊥
+stages_apart stage stage' i x j y differ e = differ (ap (λ (p : Place). p.from) e)
 
 module _ {S W Map : Type 0} where
   -- a layer that a walk leaves is as it was

@@ -1,8 +1,9 @@
 -- Sets of symbols: one with as many as there are has them all.
-use Rattle.std.proofs.Common.{◌≡◌, inl, inr, ℕ, zero, suc, get_or, ltb, ◌<◌, ◌≤◌, ◌+◌, Bool, true, false, List, [], ◌∷◌, length, eqb, refl, sym, ap, ◌∙◌, subst, arith}
-use Rattle.std.specs.Prelude.{◌↔◌, IsTrue, ◌||◌, ◌&&◌, not, nat_eq, nat_lt, All}
+use Rattle.std.proofs.Common.{◌≡◌, inl, inr, ℕ, zero, suc, get_or, ◌<◌, ◌≤◌, Bool, true, false, List, [], ◌∷◌, length, eqb, refl, sym, ap, ◌∙◌, subst, arith}
+use Rattle.std.specs.Prelude.{◌||◌, not, nat_eq, Some, All, slice_get}
 use Rattle.std.specs.List.{AllByRecursion, IsDistinct, list_any}
-use Rattle.std.proofs.lemmas.Bool.{and_parts, cases_Bool, eqb-true, eq-eqb, ltb-true, lt-ltb, false≢true}
+use Rattle.std.proofs.lemmas.Bool.{and_parts, cases_Bool, eqb-true, eq-eqb, false≢true}
+use Rattle.std.proofs.lemmas.Option.{get_or_from_slice_get, slice_get_within}
 use Rattle.std.proofs.lemmas.List.Elements.{recursion_from_All}
 use Rattle.std.proofs.lemmas.Map.Steps.{length-le_from_distinct_below}
 use Rattle.config_patterns.specs.Membership.{has_symbol}
@@ -51,24 +52,6 @@ all_symbols n set below is size g low = elim (cases_Bool (has_symbol g set)) [
       absurd (omega (arith, few, size))
 ]
 
--- a symbol of a set is below what all of it are below
-pub symbol_below : (n : ℕ) (set : List ℕ) → AllByRecursion (λ g. g < n) set → (g : ℕ) → has_symbol g set ≡ true → g < n
-symbol_below n [] all g is = absurd (false≢true is)
-symbol_below n (y ∷ ys) all g is = elim (cases_Bool (nat_eq y g)) [
-  | inl same ↦ let P : ℕ → Type 0 = λ k. k < n in subst P (eqb-true y g same) all.0
-  | inr differs ↦ symbol_below n ys all.1 g (sym (ap (λ b. b || has_symbol g ys) differs) ∙ is)
-]
-
--- whether a symbol is in a set that has all below a number
-pub all_taken : (n g : ℕ) (set : List ℕ) → All (λ g. g < n) set → ((k : ℕ) → k < n → has_symbol k set ≡ true) → nat_lt g n ≡ has_symbol g set
-all_taken n g set below has = elim (cases_Bool (nat_lt g n)) [
-  | inl low ↦ low ∙ sym (has g (ltb-true g n low))
-  | inr high ↦ elim (cases_Bool (has_symbol g set)) [
-    | inl is ↦ let low : nat_lt g n ≡ true = lt-ltb g n (symbol_below n set (recursion_from_All (λ k. k < n) set below) g is) in let both : true ≡ false = sym low ∙ high in cc
-    | inr none ↦ high ∙ sym none
-  ]
-]
-
 -- where a symbol stands
 pub symbol_at : (set : List ℕ) (g : ℕ) → has_symbol g set ≡ true → (k : ℕ) × (k < length set) × (get_or set k 0 ≡ g)
 symbol_at [] g is = absurd (false≢true is)
@@ -77,13 +60,16 @@ symbol_at (y ∷ ys) g is = elim (cases_Bool (nat_eq y g)) [
   | inr differs ↦ let rest = symbol_at ys g (sym (ap (λ b. b || has_symbol g ys) differs) ∙ is) in (suc rest.0, let low = rest.1 in omega (arith, low), rest.2)
 ]
 
-pub has_symbol_at : (set : List ℕ) (k : ℕ) → k < length set → has_symbol (get_or set k 0) set ≡ true
+has_symbol_at : (set : List ℕ) (k : ℕ) → k < length set → has_symbol (get_or set k 0) set ≡ true
 has_symbol_at [] k low = absurd (omega (arith, low))
 has_symbol_at (y ∷ ys) zero low = ap (λ b. b || has_symbol y ys) (eq-eqb y y refl)
 has_symbol_at (y ∷ ys) (suc k) low = elim (nat_eq y (get_or ys k 0)) as (λ b. (b || has_symbol (get_or ys k 0) ys) ≡ true) [
   | true ↦ refl
   | false ↦ has_symbol_at ys k (omega (arith, low))
 ]
+
+pub has_symbol_of : (set : List ℕ) (k g : ℕ) → slice_get set k ≡ Some g → has_symbol g set ≡ true
+has_symbol_of set k g at = subst (λ h. has_symbol h set ≡ true) (get_or_from_slice_get set k g 0 at) (has_symbol_at set k (slice_get_within set k g at))
 
 -- none of a list is in a set where none stands at a place of it
 pub none_shared : (xs set : List ℕ) → ((k : ℕ) → k < length xs → has_symbol (get_or xs k 0) set ≡ false) → (g : ℕ) → has_symbol g xs ≡ true → has_symbol g set ≡ true → ⊥

@@ -1,16 +1,14 @@
 -- Where edges lead.
 use Rattle.std.proofs.Common.{◌≡◌, ◌⊎◌, inl, inr, ℕ, zero, suc, ◌<◌, ◌≤◌, ◌+◌, ◌-◌, Bool, true, false, List, [], ◌∷◌, length, drop, refl, sym, ap, ◌∙◌, subst, arith}
-use Rattle.std.specs.Prelude.{◌↔◌, IsTrue, IsFalse, Some, None, slice_get, ◌&&◌, if◌then◌else◌}
+use Rattle.std.specs.Prelude.{◌↔◌, IsTrue, Some, slice_get, ◌&&◌, if◌then◌else◌}
 use Rattle.std.proofs.lemmas.Bool.{and_parts, and_from, false≢true, cases_Bool, cases_lt}
 use Rattle.std.proofs.lemmas.Option.{same_Some, slice_get_within}
 use Rattle.wpds_base.specs.Lists.{IsIn}
 use Rattle.config_patterns.specs.declared.item.Item.{Item}
-use Rattle.config_patterns.specs.declared.edge.Edge.{Edge}
 use Rattle.config_patterns.specs.Membership.{has_symbol}
 use Rattle.config_patterns.specs.Edges.{edges_of, leads_to, stays_on}
 use Rattle.config_patterns.specs.Paths.{IsEdge}
 use Rattle.config_patterns.proofs.CallerLemmas.{edges_are}
-use Rattle.walk_pairs.specs.declared.ways.Ways.{Ways}
 use Rattle.walk_pairs.specs.Ways.{TakesAt, StaysAt, IsLastWay, AreWays}
 
 -- what stands at a place of the rest stands further on
@@ -24,12 +22,12 @@ item_at [] k low = absurd (omega (arith, low))
 item_at (x ∷ xs) zero low = (x, refl)
 item_at (x ∷ xs) (suc k) low = item_at xs k (omega (arith, low))
 
-leads_take : (xs : List Item) (k g : ℕ) → IsTrue (leads_to xs k g) → (x : Item) × (slice_get xs k ≡ Some x) × IsTrue (has_symbol g x.set)
+pub leads_take : (xs : List Item) (k g : ℕ) → IsTrue (leads_to xs k g) → (x : Item) × (slice_get xs k ≡ Some x) × IsTrue (has_symbol g x.set)
 leads_take [] k g h = absurd (false≢true h)
 leads_take (x ∷ xs) zero g h = (x, refl, h)
 leads_take (x ∷ xs) (suc k) g h = leads_take xs k g (and_parts x.star (leads_to xs k g) h).1
 
-leads_starred : (xs : List Item) (k g : ℕ) → IsTrue (leads_to xs k g) → (i : ℕ) → i < k → (x : Item) → slice_get xs i ≡ Some x → IsTrue x.star
+pub leads_starred : (xs : List Item) (k g : ℕ) → IsTrue (leads_to xs k g) → (i : ℕ) → i < k → (x : Item) → slice_get xs i ≡ Some x → IsTrue x.star
 leads_starred [] k g h i low x there = absurd (false≢true h)
 leads_starred (y ∷ xs) zero g h i low x there = absurd (omega (arith, low))
 leads_starred (y ∷ xs) (suc k) g h zero low x there =
@@ -37,7 +35,7 @@ leads_starred (y ∷ xs) (suc k) g h zero low x there =
     subst P (same_Some y x there) (and_parts y.star (leads_to xs k g) h).0
 leads_starred (y ∷ xs) (suc k) g h (suc i) low x there = leads_starred xs k g (and_parts y.star (leads_to xs k g) h).1 i (omega (arith, low)) x there
 
-leads_made : (xs : List Item) (k g : ℕ) → ((i : ℕ) → i < k → (x : Item) → slice_get xs i ≡ Some x → IsTrue x.star) → (x : Item) → slice_get xs k ≡ Some x → IsTrue (has_symbol g x.set)
+pub leads_made : (xs : List Item) (k g : ℕ) → ((i : ℕ) → i < k → (x : Item) → slice_get xs i ≡ Some x → IsTrue x.star) → (x : Item) → slice_get xs k ≡ Some x → IsTrue (has_symbol g x.set)
     → IsTrue (leads_to xs k g)
 leads_made [] k g stars x there has = cc
 leads_made (y ∷ xs) zero g stars x there has =
@@ -46,12 +44,12 @@ leads_made (y ∷ xs) zero g stars x there has =
 leads_made (y ∷ xs) (suc k) g stars x there has =
     and_from y.star (leads_to xs k g) (stars zero (omega arith) y refl) (leads_made xs k g (λ i low z at. stars (suc i) (omega (arith, low)) z at) x there has)
 
-stays_take : (xs : List Item) (k g : ℕ) → IsTrue (stays_on xs k g) → (x : Item) × (slice_get xs k ≡ Some x) × IsTrue x.star × IsTrue (has_symbol g x.set)
+pub stays_take : (xs : List Item) (k g : ℕ) → IsTrue (stays_on xs k g) → (x : Item) × (slice_get xs k ≡ Some x) × IsTrue x.star × IsTrue (has_symbol g x.set)
 stays_take [] k g h = absurd (false≢true h)
 stays_take (x ∷ xs) zero g h = let both = and_parts x.star (has_symbol g x.set) h in (x, refl, both.0, both.1)
 stays_take (x ∷ xs) (suc k) g h = stays_take xs k g h
 
-stays_made : (xs : List Item) (k g : ℕ) (x : Item) → slice_get xs k ≡ Some x → IsTrue x.star → IsTrue (has_symbol g x.set) → IsTrue (stays_on xs k g)
+pub stays_made : (xs : List Item) (k g : ℕ) (x : Item) → slice_get xs k ≡ Some x → IsTrue x.star → IsTrue (has_symbol g x.set) → IsTrue (stays_on xs k g)
 stays_made [] k g x there star has = cc
 stays_made (y ∷ xs) zero g x there star has =
     let P : Item → Type 0 = λ z. IsTrue (z.star && has_symbol g z.set) in

@@ -8,7 +8,7 @@ ghost use Rattle.walk_pairs.specs.Pairs.{joined, pair_place as pair_value};
 ghost use Rattle.walk_pairs.specs.Ways.{TakesAt};
 ghost use Rattle.walk_pairs.specs.private.Steps.{IsEntryGiven};
 
-use crate::meeting::{takes, takes_all};
+use crate::meeting::takes_all;
 use crate::pairs::{Order, Stage, pair_place};
 use crate::ways::ways_from;
 use config_patterns::Pattern;
@@ -88,9 +88,9 @@ fn fall_rows<'s, S: Semiring, M: Weigher<S>>(
         (TakesAt pattern.now.items next) next tables.new) }
 {
     tables.valid();
-    let set = pattern.item(next - 1).set.as_slice();
-    for symbol in set {
-        fall_row(tables, order, layer, stage, from, *symbol, next)?;
+    let set = &pattern.item(next - 1).set;
+    for k in 0..set.len() {
+        fall_row(tables, order, layer, stage, from, set.at(k), next)?;
     }
     Ok(())
 }
@@ -117,7 +117,7 @@ fn fall_over<'s, S: Semiring, M: Weigher<S>>(
     let item = pattern.item(next - 1);
     match tables.place(layer, t).label {
         Label::Symbol(symbol) => {
-            if !takes(item, pattern.symbols(), symbol) {
+            if !item.set.has(symbol) {
                 return Ok(());
             }
             fall(tables, order, layer, stage, next, t)?;

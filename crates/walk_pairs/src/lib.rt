@@ -10,7 +10,6 @@ mod ways;
 
 pub use falls::{fall_row, fall_ways};
 pub use laws::lowerings_fall;
-pub use meeting::takes;
 pub use pairs::{Order, Pair, Stage, answer_place, pair_at, pair_place};
-pub use readings::{end_at, read_ways};
+pub use readings::{read_items, read_on};
 pub use ways::{Ways, ways_from};

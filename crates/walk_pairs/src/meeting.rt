@@ -3,7 +3,7 @@ ghost use Rattle.config_patterns.specs.Membership.{has_symbol};
 ghost use Rattle.config_patterns.specs.Validity.{IsItem};
 ghost use Rattle.walk_pairs.specs.Ways.{TakesAt};
 
-use config_patterns::{Item, Pattern};
+use config_patterns::{Item, Pattern, SymbolSet};
 
 /// Whether an item takes each of so many symbols. It takes no time.
 pub(crate) fn takes_all(item: &Item, symbols: u32) -> bool
@@ -13,26 +13,13 @@ pub(crate) fn takes_all(item: &Item, symbols: u32) -> bool
     item.set.len() == symbols as usize
 }
 
-/// Whether an item takes a symbol. It takes no time where the item takes them all.
-pub fn takes(item: &Item, symbols: u32, symbol: u32) -> bool
-    requires { IsItem symbols item.now }
-    ensures { result ≡ has_symbol symbol item.now.set }
-{
-    if takes_all(item, symbols) {
-        symbol < symbols
-    } else {
-        item.set.as_slice().contains(&symbol)
-    }
-}
-
-// Whether an item takes one of these symbols.
-fn takes_one(item: &Item, symbols: u32, set: &[u32]) -> bool
-    requires { IsItem symbols item.now }
+// Whether one of the symbols of a set is in another.
+fn are_shared(set: &SymbolSet, other: &SymbolSet) -> bool
     ensures { IsTrue result ↔ ((g : ℕ) × IsTrue (has_symbol g set.now)
-        × IsTrue (has_symbol g item.now.set)) }
+        × IsTrue (has_symbol g other.now)) }
 {
-    for symbol in set {
-        if takes(item, symbols, *symbol) {
+    for k in 0..set.len() {
+        if other.has(set.at(k)) {
             return true;
         }
     }
@@ -48,11 +35,11 @@ pub(crate) fn is_shared(one: &Pattern, i: u32, other: &Pattern, j: u32) -> bool
     requires within_other { j ≤ length other.now.items }
     ensures { IsTrue result ↔ ((g : ℕ) × TakesAt one.now.items i g × TakesAt other.now.items j g) }
 {
-    let a = one.item(i - 1);
-    let b = other.item(j - 1);
-    if a.set.len() <= b.set.len() {
-        takes_one(b, other.symbols(), a.set.as_slice())
+    let a = &one.item(i - 1).set;
+    let b = &other.item(j - 1).set;
+    if a.len() <= b.len() {
+        are_shared(a, b)
     } else {
-        takes_one(a, one.symbols(), b.set.as_slice())
+        are_shared(b, a)
     }
 }

@@ -11,6 +11,8 @@ pub enum Stage {
     Down,
     /// A state of the target.
     Across,
+    /// An item of the other pattern, as its first part is one of this: both read these next.
+    Before,
 }
 
 /// In which order the weight in hand and an entry's are joined.
@@ -29,6 +31,7 @@ pub fn pair_place(stage: Stage, state: u32, to: u32) -> Place
     let from = match stage {
         Stage::Down => 0,
         Stage::Across => 1,
+        Stage::Before => 2,
     };
     Place {
         from,
@@ -68,6 +71,7 @@ pub fn pair_at(place: Place) -> Option<Pair>
     let stage = match place.from {
         0 => Stage::Down,
         1 => Stage::Across,
+        2 => Stage::Before,
         _ => return None,
     };
     Some(Pair {

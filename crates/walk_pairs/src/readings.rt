@@ -1,86 +1,75 @@
-ghost use Rattle.std.specs.Prelude.{◌≡◌, ◌≤◌, OnOk, length};
-ghost use Rattle.config_patterns.specs.Edges.{edges_of};
-ghost use Rattle.walk_pairs.specs.Giving.{AreReadingsOnGiven, AreReadingsGiven, IsEndingGiven};
-ghost use Rattle.walk_pairs.specs.private.Steps.{IsBothGiven};
+ghost use Rattle.std.specs.Prelude.{◌≡◌, ◌↔◌, ◌<◌, ◌≤◌, ℕ, suc, length, IsTrue, OnOk};
+ghost use Rattle.wpds_base.specs.Limits.{most_items};
+ghost use Rattle.walk_pairs.specs.Reading.{IsSkipped, IsPairGiven, IsBeforeGiven};
+ghost use Rattle.walk_pairs.specs.Pairs.{pair_place as pair_value};
+ghost use Rattle.walk_pairs.specs.Ways.{StaysAt, TakesAt};
+ghost use Rattle.walk_pairs.specs.declared.pairs.Stage.TheVariants.{Before};
+ghost use Rattle.walk_pairs.specs.private.Steps.{IsLoweredWhere};
 
 use crate::meeting::is_shared;
 use crate::pairs::{Stage, answer_place, pair_place};
-use crate::ways::ways_from;
+use crate::ways::stays_at;
 use config_patterns::Pattern;
 use semiring_laws::Semiring;
 use weight_tables::{Layer, Tables, Weigher};
+use weighted_automata::Place;
 use wpds_base::OutOfMemory;
 
-// Along each edge of one pattern over a symbol that the item of a state of the other takes.
-fn read_on<'s, S: Semiring, M: Weigher<S>>(
+// Lowers a place of the walk by the weight in hand, if it is to.
+fn lower_where<'s, S: Semiring, M: Weigher<S>>(
     tables: &mut Tables<'s, S, M>,
-    stage: Stage,
-    one: &Pattern,
-    next: u32,
-    other: &Pattern,
-    state: u32,
+    is_to: bool,
+    place: Place,
 ) -> Result<(), OutOfMemory>
-    requires above { 1 ≤ next }
-    requires within { next ≤ length one.now.items }
-    ensures { let s = S.operations tables.old.system.semiring in OnOk result
-        (AreReadingsOnGiven s tables.old stage one.now.items (edges_of other.now.items) next state
-        tables.new) }
+    ensures { let s = S.operations tables.old.system.semiring in
+        OnOk result (IsLoweredWhere s is_to place tables.old tables.new) }
 {
     tables.valid();
-    let ways = ways_from(other, state);
-    for b in ways.first..ways.end {
-        read_both(tables, stage, one, next, other, b)?;
+    if is_to {
+        tables.lower(Layer::Walk, place)?;
     }
     Ok(())
 }
 
-// Lowers a pair of states, where a symbol leads to both.
-fn read_both<'s, S: Semiring, M: Weigher<S>>(
-    tables: &mut Tables<'s, S, M>,
-    stage: Stage,
-    one: &Pattern,
-    next: u32,
-    other: &Pattern,
-    b: u32,
-) -> Result<(), OutOfMemory>
-    requires above { 1 ≤ next }
-    requires within { next ≤ length one.now.items }
-    requires above_other { 1 ≤ b }
-    requires within_other { b ≤ length other.now.items }
-    ensures { let s = S.operations tables.old.system.semiring in OnOk result
-        (IsBothGiven s tables.old stage one.now.items other.now.items next b tables.new) }
+// Whether two numbers are none behind all items of their patterns.
+fn are_within(one: &Pattern, k: u32, other: &Pattern, l: u32) -> bool
+    ensures yes { IsTrue result → (k ≤ length one.now.items) × (l ≤ length other.now.items) }
+    ensures no { k ≤ length one.now.items → l ≤ length other.now.items → IsTrue result }
+    ensures few { IsTrue result → (k ≤ most_items) × (l ≤ most_items) }
 {
-    tables.valid();
-    if is_shared(one, next, other, b) {
-        tables.lower(Layer::Walk, pair_place(stage, next, b))?;
-    }
-    Ok(())
+    k <= one.items() && l <= other.items()
 }
 
-/// Goes along each edge of one pattern from a state, and each edge of another over the same symbol: the pair of where both lead is
-/// lowered by the weight in hand.
-pub fn read_ways<'s, S: Semiring, M: Weigher<S>>(
-    tables: &mut Tables<'s, S, M>,
-    stage: Stage,
-    one: &Pattern,
-    state: u32,
-    other: &Pattern,
-    state_other: u32,
-) -> Result<(), OutOfMemory>
-    ensures { let s = S.operations tables.old.system.semiring in OnOk result
-        (AreReadingsGiven s tables.old stage (edges_of one.now.items) (edges_of other.now.items)
-        state state_other tables.new) }
+// Whether two numbers are those right behind all items of their patterns.
+fn are_behind(one: &Pattern, k: u32, other: &Pattern, l: u32) -> bool
+    ensures yes { IsTrue result → (k ≡ length one.now.items) × (l ≡ length other.now.items) }
+    ensures no { k ≡ length one.now.items → l ≡ length other.now.items → IsTrue result }
 {
-    tables.valid();
-    let ways = ways_from(one, state);
-    for next in ways.first..ways.end {
-        read_on(tables, stage, one, next, other, state_other)?;
-    }
-    Ok(())
+    k == one.items() && l == other.items()
 }
 
-/// Lowers the answer by the weight in hand, where both patterns may stop in their states.
-pub fn end_at<'s, S: Semiring, M: Weigher<S>>(
+// Whether both states are those of starred items.
+fn stay_both(one: &Pattern, state: u32, other: &Pattern, state_other: u32) -> bool
+    requires within { state ≤ length one.now.items }
+    requires within_other { state_other ≤ length other.now.items }
+    ensures yes { IsTrue result →
+        StaysAt one.now.items state × StaysAt other.now.items state_other }
+    ensures no { StaysAt one.now.items state → StaysAt other.now.items state_other →
+        IsTrue result }
+{
+    stays_at(one, state) && stays_at(other, state_other)
+}
+
+// The place of two items that are read next.
+fn before(k: u32, l: u32) -> Place
+    ensures { result ≡ pair_value Before k l }
+{
+    pair_place(Stage::Before, k, l)
+}
+
+/// Has a pair of states of two patterns go on before the items that each may read next: these are lowered by the weight in hand.
+/// Numbers that are no states give nothing.
+pub fn read_on<'s, S: Semiring, M: Weigher<S>>(
     tables: &mut Tables<'s, S, M>,
     one: &Pattern,
     state: u32,
@@ -88,11 +77,63 @@ pub fn end_at<'s, S: Semiring, M: Weigher<S>>(
     state_other: u32,
 ) -> Result<(), OutOfMemory>
     ensures { let s = S.operations tables.old.system.semiring in OnOk result
-        (IsEndingGiven s tables.old one.now.items other.now.items state state_other tables.new) }
+        (IsPairGiven s tables.old one.now.items other.now.items state state_other tables.new) }
 {
     tables.valid();
-    if one.is_final(state) && other.is_final(state_other) {
-        tables.lower(Layer::Walk, answer_place())?;
+    if !are_within(one, state, other, state_other) {
+        return Ok(());
     }
+    let (again, again_other) = (stays_at(one, state), stays_at(other, state_other));
+    let both = stay_both(one, state, other, state_other);
+    let (item, item_other) = (state.saturating_sub(1), state_other.saturating_sub(1));
+    lower_where(tables, true, before(state, state_other))?;
+    lower_where(tables, again, before(item, state_other))?;
+    lower_where(tables, again_other, before(state, item_other))?;
+    lower_where(tables, both, before(item, item_other))?;
+    Ok(())
+}
+
+// Whether the item of a number has a star.
+fn is_skipped(pattern: &Pattern, k: u32) -> bool
+    ensures { IsTrue result ↔ IsSkipped pattern.now.items k }
+{
+    k < pattern.items() && pattern.item(k).star
+}
+
+// Whether the items of two numbers take a symbol in common.
+fn both_read(one: &Pattern, k: u32, other: &Pattern, l: u32) -> bool
+    requires within { k ≤ length one.now.items }
+    requires within_other { l ≤ length other.now.items }
+    ensures { IsTrue result ↔ ((g : ℕ) × TakesAt one.now.items (suc k) g
+        × TakesAt other.now.items (suc l) g) }
+{
+    k < one.items() && l < other.items() && is_shared(one, k + 1, other, l + 1)
+}
+
+/// Goes on from before two items: past one with a star, or to the states of both over a symbol that both take; behind all items of
+/// both patterns to the answer. Each is lowered by the weight in hand.
+pub fn read_items<'s, S: Semiring, M: Weigher<S>>(
+    tables: &mut Tables<'s, S, M>,
+    stage: Stage,
+    one: &Pattern,
+    k: u32,
+    other: &Pattern,
+    l: u32,
+) -> Result<(), OutOfMemory>
+    ensures { let s = S.operations tables.old.system.semiring in OnOk result
+        (IsBeforeGiven s tables.old one.now.items other.now.items stage k l tables.new) }
+{
+    tables.valid();
+    if !are_within(one, k, other, l) {
+        return Ok(());
+    }
+    let ends = are_behind(one, k, other, l);
+    let skips = is_skipped(one, k);
+    let skips_other = is_skipped(other, l);
+    let reads = both_read(one, k, other, l);
+    lower_where(tables, skips, before(k + 1, l))?;
+    lower_where(tables, skips_other, before(k, l + 1))?;
+    lower_where(tables, reads, pair_place(stage, k + 1, l + 1))?;
+    lower_where(tables, ends, answer_place())?;
     Ok(())
 }

@@ -31,8 +31,8 @@ pub fn ways_from(pattern: &Pattern, state: u32) -> Ways
     }
 }
 
-// Whether a state is that of a starred item.
-fn stays_at(pattern: &Pattern, state: u32) -> bool
+/// Whether a state is that of a starred item.
+pub(crate) fn stays_at(pattern: &Pattern, state: u32) -> bool
     requires { state ≤ length pattern.now.items }
     ensures { IsTrue result ↔ StaysAt pattern.now.items state }
 {

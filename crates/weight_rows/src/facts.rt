@@ -2,9 +2,9 @@ ghost use Rattle.semiring_laws.specs.Semiring.{Fits, FitsMap};
 ghost use Rattle.genkill_weights.specs.GenKill.{genkill_operations};
 
 use genkill_weights::{
-    GenKill, GenKillW, MaskMap, SharedGenKill, equal_weights_are_equal_functions,
-    restored_facts_are_the_callers, weights_are_functions, weights_are_their_effects,
-    weights_have_their_facts, widths_are_least, with_width, words_for,
+    GenKill, GenKillW, MaskMap, equal_weights_are_equal_functions, restored_facts_are_the_callers,
+    weights_are_functions, weights_are_their_effects, weights_have_their_facts, widths_are_least,
+    with_width, words_for,
 };
 use semiring_laws::Semiring;
 use std::alloc::Global;
@@ -50,13 +50,6 @@ fn alike<S: Semiring>(one: &S, other: &S, map: &S::Ret) -> (bool, bool)
     requires { FitsMap (S.operations one.now) map.now }
 {
     (one.same_kind(other), one.same_map(map, &one.plain()))
-}
-
-fn weight_of<const N: usize>(weight: &Option<SharedGenKill<N>>) -> Option<GenKillW<N>> {
-    match weight {
-        Some(weight) => Some(weight.weight()),
-        None => None,
-    }
 }
 
 // What the function of a weight makes of each set of the facts 0, 1 and 2, and of no other fact. A set is a number: bit `f`
@@ -126,25 +119,18 @@ fn three_facts(rt: HostRuntime) -> Result<(), Fail> {
         },
     ];
     for row in &rows {
-        let first = semiring.make_shared(alloc, row.first.0, row.first.1)?;
-        let second = semiring.make_shared(alloc, row.second.0, row.second.1)?;
+        let first = semiring.make(row.first.0, row.first.1);
+        let second = semiring.make(row.second.0, row.second.1);
         let made = answers_for(alloc, &semiring, &first, &second)?;
         let restore = semiring.restore(row.restored);
         let returned = semiring.after(alloc, &restore, &first)?;
-        assert_eq!(rt; on_all_sets(&made.extended.weight()), row.extended);
-        assert_eq!(rt; on_all_sets(&made.combined.weight()), row.combined);
-        assert_eq!(rt; on_all_sets(&returned.weight()), row.returned);
+        assert_eq!(rt; on_all_sets(&made.extended), row.extended);
+        assert_eq!(rt; on_all_sets(&made.combined), row.combined);
+        assert_eq!(rt; on_all_sets(&returned), row.returned);
         let same = row.first == row.second;
         assert_eq!(rt; (made.same, made.is_zero), (same, false));
         // Where the two differ, the second adds something to the first.
-        assert_eq!(rt;
-            weight_of(&made.lowered),
-            if same {
-                None
-            } else {
-                Some(made.combined.weight())
-            }
-        );
+        assert_eq!(rt; made.lowered, if same { None } else { Some(made.combined) });
         assert_eq!(rt; alike(&semiring, &semiring, &restore), (true, false));
     }
     Ok(())
@@ -156,7 +142,6 @@ fn no_run_and_the_empty_run(rt: HostRuntime) -> Result<(), Fail> {
     let semiring = GenKill::<2>;
     let (zero, one) = neutral(alloc, &semiring)?;
     let (keep, gens) = ([u64::MAX; 2], [0; 2]);
-    let (zero, one) = (zero.weight(), one.weight());
     assert_eq!(rt; zero, GenKillW::Zero);
     assert_eq!(rt; one, GenKillW::Map { keep, gens });
     assert_eq!(rt; alike(&semiring, &semiring, &MaskMap::Plain), (true, true));
@@ -172,20 +157,19 @@ fn zero_absorbs(rt: HostRuntime) -> Result<(), Fail> {
     let keep = [0xffff_ffff_ffff_fffe, 0x7fff_ffff_ffff_ffff];
     let gens = [0, 1];
     assert_eq!(rt; made, GenKillW::Map { keep, gens });
-    let zero = SharedGenKill::zero();
-    let some = SharedGenKill::new(alloc, &made)?;
+    let zero = GenKillW::Zero;
     let rows = [
         (
-            answers_for(alloc, &semiring, &zero, &some)?,
+            answers_for(alloc, &semiring, &zero, &made)?,
             Some(made),
             true,
         ),
-        (answers_for(alloc, &semiring, &some, &zero)?, None, false),
+        (answers_for(alloc, &semiring, &made, &zero)?, None, false),
     ];
     for (answers, lowered, is_zero) in &rows {
-        assert_eq!(rt; answers.combined.weight(), made);
-        assert_eq!(rt; answers.extended.weight(), GenKillW::Zero);
-        assert_eq!(rt; weight_of(&answers.lowered), *lowered);
+        assert_eq!(rt; answers.combined, made);
+        assert_eq!(rt; answers.extended, GenKillW::Zero);
+        assert_eq!(rt; answers.lowered, *lowered);
         assert_eq!(rt; (answers.same, answers.is_zero), (false, *is_zero));
     }
     Ok(())
@@ -193,7 +177,7 @@ fn zero_absorbs(rt: HostRuntime) -> Result<(), Fail> {
 
 // The empty run before or after others changes nothing, and so does one that a weight has already.
 #[test]
-fn the_other_weight_is_shared(rt: HostRuntime) -> Result<(), Fail> {
+fn the_other_weight_stays(rt: HostRuntime) -> Result<(), Fail> {
     let alloc = rt.alloc();
     let semiring = GenKill::<1>;
     let one: (&[u32], &[u32]) = (&[], &[]);
@@ -208,16 +192,13 @@ fn the_other_weight_is_shared(rt: HostRuntime) -> Result<(), Fail> {
         (some, some, some, some),
     ];
     for (a, b, extended, combined) in rows {
-        let first = SharedGenKill::new(alloc, &semiring.make(a.0, a.1))?;
-        let second = SharedGenKill::new(alloc, &semiring.make(b.0, b.1))?;
+        let first = semiring.make(a.0, a.1);
+        let second = semiring.make(b.0, b.1);
         let made = answers_for(alloc, &semiring, &first, &second)?;
         let combined = semiring.make(combined.0, combined.1);
-        assert_eq!(rt;
-            made.extended.weight(),
-            semiring.make(extended.0, extended.1)
-        );
-        assert_eq!(rt; made.combined.weight(), combined);
-        assert_eq!(rt; made.lowered.is_some(), combined != first.weight());
+        assert_eq!(rt; made.extended, semiring.make(extended.0, extended.1));
+        assert_eq!(rt; made.combined, combined);
+        assert_eq!(rt; made.lowered.is_some(), combined != first);
     }
     Ok(())
 }
@@ -246,7 +227,7 @@ fn crosses<T: Send + Sync>(_weight: &T) {}
 // Workers share these weights.
 #[test]
 fn weights_cross_threads() {
-    crosses(&SharedGenKill::<16>::zero());
+    crosses(&GenKillW::<16>::Zero);
 }
 
 #[test]
@@ -270,9 +251,7 @@ fn last_is_told<const N: usize>(
     requires kill { Fits (genkill_operations N) kill.now }
     requires generate { Fits (genkill_operations N) generate.now }
 {
-    let first = SharedGenKill::new(alloc, kill)?;
-    let second = SharedGenKill::new(alloc, generate)?;
-    let made = answers_for(alloc, &GenKill::<N>, &first, &second)?;
+    let made = answers_for(alloc, &GenKill::<N>, kill, generate)?;
     let both = &made.extended;
     for fact in 0..facts as usize {
         let last = fact + 1 == facts as usize;

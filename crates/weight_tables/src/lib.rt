@@ -11,8 +11,6 @@ mod layers;
 mod lowering;
 mod plain;
 mod tables;
-#[cfg(test)]
-mod tests;
 mod weigher;
 
 pub use laws::{turns_are_bounded, turns_fall};

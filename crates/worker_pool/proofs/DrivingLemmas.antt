@@ -1,6 +1,5 @@
 -- The rounds of a worker, one after another.
 use Rattle.std.proofs.Common.{◌≡◌, ℕ, Bool, true, List, [], ◌∷◌, ◌++◌, refl, sym, ap, ◌∙◌, subst, append_assoc}
-use Rattle.std.proofs.lemmas.List.{append-nil}
 use mathlib.Core.List.{IsPrefix}
 use Rattle.weighted_automata.specs.declared.place.Place.{Place}
 use Rattle.saturation_laws.specs.declared.event.Event.{Event}
@@ -9,7 +8,6 @@ use Rattle.seat_lock.specs.declared.view.View.{View}
 use Rattle.seat_lock.specs.declared.view.Journaled.{Ghosts}
 use Rattle.seat_lock.specs.declared.lock.Pass.{Pass}
 use Rattle.seat_lock.specs.Passes.{own_number, own_entries}
-use Rattle.seat_lock.proofs.CallerLemmas.{prefix-self}
 use Rattle.worker_pool.specs.Events.{free_after, is_ended, turns_by}
 use Rattle.worker_pool.specs.Passes.{IsSame}
 use Rattle.worker_pool.specs.Turns.{Keeps, HasMore}
@@ -32,9 +30,6 @@ prefix_trans : {E : Type 0} (xs ys zs : List E) → IsPrefix xs ys → IsPrefix 
 prefix_trans xs ys zs p q = (p.0 ++ q.0, sym (append_assoc xs p.0 q.0) ∙ ap (λ w. w ++ q.0) p.1 ∙ q.1)
 
 module _ {B E : Type 0} where
-  pub keeps_self : (v : View B E) → Keeps v v
-  keeps_self v = record { base = refl; seen = prefix-self v.seen; number = refl; joined = refl }
-
   pub keeps_on : (u v w : View B E) → Keeps u v → Keeps v w → Keeps u w
   keeps_on u v w a b = record {
     base = b.base ∙ a.base;
@@ -47,9 +42,6 @@ module _ {B E : Type 0} where
   more_on u v w es fs a b = b ∙ ap (λ z. z ++ fs) a ∙ append_assoc (own_entries u.claims) es fs
 
 module _ {T B E : Type 0} {J : Ghosts T B E} where
-  pub same_self : (p : Pass T B E J) → IsSame p p
-  same_self p = record { lock = refl; number = refl; left = refl; joined = refl; made = refl }
-
   pub same_on : (p q r : Pass T B E J) → IsSame p q → IsSame q r → IsSame p r
   same_on p q r a b = record { lock = b.lock ∙ a.lock; number = b.number ∙ a.number; left = b.left ∙ a.left; joined = b.joined ∙ a.joined; made = b.made ∙ a.made }
 
@@ -59,9 +51,6 @@ module _ {B : Type 0} where
     pub keeps : Keeps u v
     pub places : List Place
     pub more : HasMore (turns_by (own_number u.claims) places) u v
-
-  pub begins : (u : View B Event) → IsBetween u u
-  begins u = record { keeps = keeps_self u; places = []; more = sym (append-nil (own_entries u.claims)) }
 
   -- a worker between rounds has ended what it took
   pub ended_between : (u v : View B Event) → is_ended (own_entries u.claims) ≡ true → IsBetween u v → is_ended (own_entries v.claims) ≡ true

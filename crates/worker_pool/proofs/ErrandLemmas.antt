@@ -1,13 +1,9 @@
 -- Passes that are handed to threads, and what they are when they come back.
-use Rattle.std.proofs.Common.{◌≡◌, ◌≢◌, ℕ, ◌+◌, ◌-◌, ◌<◌, true, inl, inr, List, [], ◌∷◌, ◌++◌, length, refl, sym, ap, ◌∙◌, subst, arith}
-use Rattle.std.specs.Prelude.{Option, Some, None, IfSome, All, slice_index_or, Result, Ok, Err, IfOk, Vec}
-use Rattle.std.specs.Vec.{with_items}
-use Rattle.std.proofs.lemmas.List.{with_items_is}
+use Rattle.std.proofs.Common.{◌≡◌, ◌≢◌, ℕ, ◌+◌, ◌-◌, ◌<◌, inl, inr, List, [], ◌∷◌, ◌++◌, length, refl, sym, ap, ◌∙◌, subst, arith}
+use Rattle.std.specs.Prelude.{Option, Some, None, IfSome, All, slice_index_or, Result, Ok, Err, IfOk}
 use Rattle.std.specs.Option.{IsSomeAnd}
 use Rattle.std.proofs.lemmas.List.{append-nil, get_or_push}
-use Rattle.std.proofs.lemmas.Option.{same_Some}
 use Rattle.saturation_laws.specs.declared.event.Event.{Event}
-use Rattle.saturation_laws.specs.Books.{BookValue}
 use Rattle.seat_lock.specs.declared.view.View.{View}
 use Rattle.seat_lock.specs.declared.view.Journaled.{Ghosts}
 use Rattle.seat_lock.specs.declared.lock.Pass.{Pass}
@@ -18,13 +14,11 @@ use Rattle.std.proofs.lemmas.Bool.{cases_eq}
 use Rattle.weighted_automata.specs.declared.place.Place.{Place}
 use Rattle.saturation_laws.specs.declared.event.Event.TheVariants.{Take, Settle}
 use Rattle.seat_lock.proofs.CallerLemmas.{own-after, each-map, each-both, among_or, among-each, filter-none}
-use Rattle.worker_pool.specs.declared.shared.Origin.{Origin}
 use Rattle.worker_pool.specs.declared.driven.DriveEnd.{DriveEnd}
 use Rattle.worker_pool.specs.declared.driven.DriveEnd.TheVariants.{Closed, Memory}
-use Rattle.worker_pool.specs.Alone.{HasBase, IsAlone, turns_of}
+use Rattle.worker_pool.specs.Alone.{IsAlone, turns_of}
 use Rattle.saturation_laws.specs.States.{seat_of}
-use Rattle.worker_pool.specs.Events.{turns_by, given_by, free_after}
-use Rattle.worker_pool.specs.Origins.{origin_of}
+use Rattle.worker_pool.specs.Events.{turns_by, given_by}
 use Rattle.worker_pool.specs.Driving.{HasDriven}
 use Rattle.worker_pool.specs.Errands.{IsDrivenBy, IsWorkedBySeats, HasRun, IsFresh, IsDone, IsFirst}
 
@@ -36,9 +30,6 @@ one_claim (c ∷ d ∷ cs) n workers one is within driven = absurd (omega arith)
 
 pub count_first : (joined rest all workers : ℕ) → joined ≡ 1 → rest + 1 ≡ all → all ≡ workers → joined + rest ≡ workers
 count_first joined rest all workers one more are = omega arith
-
-pub count_more : (new joined one rest all workers : ℕ) → new ≡ joined + one → one ≡ 1 → rest + 1 ≡ all → joined + all ≡ workers → new + rest ≡ workers
-count_more new joined one rest all workers is single more are = omega arith
 
 -- what a worker that begins with nothing has done
 driven_by : {B : Type 0} (end : DriveEnd) (old new : View B Event) → own_entries old.claims ≡ [] → HasDriven end old new → IsDrivenBy (own_number old.claims) (own_entries new.claims)
@@ -64,14 +55,7 @@ module _ {T B : Type 0} {J : Ghosts T B Event} where
   some_first base workers (Some p) None first run = absurd run
   some_first base workers (Some p) (Some q) first run = record { number = run.0.number ∙ first.number; made = run.0.made ∙ first.made; based = run.1.base ∙ first.based }
 
-  fresh_ended : (lock : SeatLock T B Event) (workers : ℕ) (o : Option (Pass T B Event J)) → IsSomeAnd o (IsFresh lock workers) → IfSome o (λ p. free_after true (own_entries p.seat.me.0.claims) ≡ true)
-  fresh_ended lock workers None fresh = tt
-  fresh_ended lock workers (Some p) fresh = ap (free_after true) fresh.own
-
   module _ {X : Type 0} (f : X → Option (Pass T B Event J)) (lock : SeatLock T B Event) (workers : ℕ) (xs ys : List X) where
-    pub all_ended : All (λ e. IsSomeAnd (f e) (IsFresh lock workers)) xs → All (λ e. IfSome (f e) (λ p. free_after true (own_entries p.seat.me.0.claims) ≡ true)) xs
-    all_ended fresh k d within = fresh_ended lock workers (f (slice_index_or xs k d)) (fresh k d within)
-
     pub all_done : length ys ≡ length xs → All (λ e. IsSomeAnd (f e) (IsFresh lock workers)) xs
         → ((k : ℕ) (d : X) → k < length xs → IfSome (f (slice_index_or xs k d)) (λ p. IsSomeAnd (f (slice_index_or ys k d)) (HasRun p))) → All (λ e. IsSomeAnd (f e) (IsDone lock workers)) ys
     all_done len fresh ran k d within =
@@ -81,43 +65,6 @@ module _ {T B : Type 0} {J : Ghosts T B Event} where
     pub first_done : (base : Option B) (k : ℕ) → k < length xs → ((d : X) → IsSomeAnd (f (slice_index_or xs k d)) (IsFirst base workers))
         → ((k : ℕ) (d : X) → k < length xs → IfSome (f (slice_index_or xs k d)) (λ p. IsSomeAnd (f (slice_index_or ys k d)) (HasRun p))) → (d : X) → IsSomeAnd (f (slice_index_or ys k d)) (IsFirst base workers)
     first_done base k within first ran d = some_first base workers (f (slice_index_or xs k d)) (f (slice_index_or ys k d)) (first d) (ran k d within)
-
--- what a worker pool's passes are when they come back
-module _ {T B X Z : Type 0} {J : Ghosts T B Event} (f : X → Option (Pass T B Event J)) (lock : SeatLock T B Event) (workers : ℕ) (vec : Vec X Z) (xs ys : List X) (base : Option B)
-    (value : xs ≡ vec.items) (kept : length ys ≡ length xs) (within : length xs ≡ vec.len) (len : vec.len ≡ workers) (some : 0 < workers)
-    (fresh : All (λ e. IsSomeAnd (f e) (IsFresh lock workers)) vec.items) (first : (d : X) → IsSomeAnd (f (slice_index_or vec.items (workers - 1) d)) (IsFirst base workers))
-    (ran : (k : ℕ) (d : X) → k < length xs → IfSome (f (slice_index_or xs k d)) (λ p. IsSomeAnd (f (slice_index_or ys k d)) (HasRun p))) where
-  pub after_run : (All (λ e. IsSomeAnd (f e) (IsDone lock workers)) (with_items vec ys).items)
-      × ((d : X) → IsSomeAnd (f (slice_index_or (with_items vec ys).items (workers - 1) d)) (IsFirst base workers))
-      × (workers - 1 < length (with_items vec ys).items)
-  after_run =
-      let is : (with_items vec ys).items ≡ ys = with_items_is vec ys (kept ∙ within) in
-      let last : workers - 1 < length xs = omega (arith, within, len, some) in
-      let first0 : (d : X) → IsSomeAnd (f (slice_index_or xs (workers - 1) d)) (IsFirst base workers) = subst (λ zs. (d : X) → IsSomeAnd (f (slice_index_or zs (workers - 1) d)) (IsFirst base workers)) (sym value) first in (
-        subst (All (λ e. IsSomeAnd (f e) (IsDone lock workers))) (sym is) (all_done f lock workers xs ys kept (subst (All (λ e. IsSomeAnd (f e) (IsFresh lock workers))) (sym value) fresh) ran),
-        subst (λ zs. (d : X) → IsSomeAnd (f (slice_index_or zs (workers - 1) d)) (IsFirst base workers)) (sym is) (first_done f lock workers xs ys base (workers - 1) last first0 ran),
-        subst (λ zs. workers - 1 < length zs) (sym is) (subst (λ n. workers - 1 < n) (sym kept) last),
-      )
-
--- what is known of the first pass
-known : {T B : Type 0} {J : Ghosts T B Event} (base : Option B) (workers made : ℕ) (b : Option B) (o : Option (Pass T B Event J)) → IsSomeAnd o (IsFirst base workers)
-    → IsSomeAnd o (λ p. (made ≡ p.made) × (b ≡ p.seat.me.0.base)) → (made ≡ workers) × (b ≡ base)
-known base workers made b None first same = absurd first
-known base workers made b (Some p) first same = (same.0 ∙ first.made, same.1 ∙ first.based)
-
-pub first_known : {T B X : Type 0} {J : Ghosts T B Event} (f : X → Option (Pass T B Event J)) (xs : List X) (k : ℕ) → k < length xs → (base : Option B) (workers made : ℕ) (b : Option B)
-    → ((d : X) → IsSomeAnd (f (slice_index_or xs k d)) (IsFirst base workers)) → ((d : X) → IsSomeAnd (f (slice_index_or xs k d)) (λ p. (made ≡ p.made) × (b ≡ p.seat.me.0.base)))
-    → (made ≡ workers) × (b ≡ base)
-first_known f [] k within base workers made b first same = absurd (omega arith)
-first_known f (x ∷ xs) k within base workers made b first same = known base workers made b (f (slice_index_or (x ∷ xs) k x)) (first x) (same x)
-
-zero_of : {T B : Type 0} {J : Ghosts T B Event} (base : Option B) (workers : ℕ) (o : Option (Pass T B Event J)) → IsSomeAnd o (IsFirst base workers) → IsSomeAnd o (λ p. p.number ≡ 0)
-zero_of base workers None first = absurd first
-zero_of base workers (Some p) first = first.number
-
-pub first_zero : {T B X : Type 0} {J : Ghosts T B Event} (f : X → Option (Pass T B Event J)) (xs : List X) (k : ℕ) (base : Option B) (workers : ℕ)
-    → ((d : X) → IsSomeAnd (f (slice_index_or xs k d)) (IsFirst base workers)) → (d : X) → IsSomeAnd (f (slice_index_or xs k d)) (λ p. p.number ≡ 0)
-first_zero f xs k base workers first d = zero_of base workers (f (slice_index_or xs k d)) (first d)
 
 -- what the claims of all passes say of the journal
 module _ (workers : ℕ) (log : List Event) (claims : List (Claim Event)) (fits : Each (λ c. of_pass seat_of c.0 log ≡ c.1) claims) (among : Each (λ e. Among (seat_of e) claims) log)
@@ -142,17 +89,6 @@ module _ (workers : ℕ) (log : List Event) (claims : List (Claim Event)) (fits 
     seats = each-map (λ e. Among (seat_of e) claims) (λ e. seat_of e < workers) (λ e a. seat_below (seat_of e) a) log among;
     each = seat_driven;
   }
-
-module _ {S W Map D : Type 0} (a b : BookValue S W Map D) where
-  -- books of one origin
-  pub base_of_origin : (v : Option (Origin S D W Map)) → v ≡ Some (origin_of b) → v ≡ Some (origin_of a) → HasBase a b
-  base_of_origin v is was =
-      let same : origin_of b ≡ origin_of a = same_Some (origin_of b) (origin_of a) (sym is ∙ was) in
-      record {
-        system = ap (λ (o : Origin S D W Map). o.system) same;
-        direction = ap (λ (o : Origin S D W Map). o.direction) same;
-        opening = ap (λ (o : Origin S D W Map). o.opening) same;
-      }
 
 -- one worker is seat 0
 turns_are : (xs : List Place) → turns_of xs ≡ turns_by 0 xs
@@ -179,9 +115,6 @@ alone_seats workers log some alone =
 pub ok_alone : {X Y : Type 0} (r : Result X Y) (workers : ℕ) (journal : X → List Event) → workers ≡ 1 → IfOk r (λ b. IsAlone (journal b)) → IfOk r (λ b. IsWorkedBySeats workers (journal b))
 ok_alone (Ok b) workers journal one alone = alone_seats workers (journal b) (omega (arith, one)) alone
 ok_alone (Err e) workers journal one alone = tt
-
-pub too_few : (joined made workers : ℕ) → joined ≡ workers → made ≡ workers → joined < made → ⊥
-too_few joined made workers is are few = absurd (omega arith)
 
 -- the pass that stands last is the first one
 pub last_first : {T B X : Type 0} {J : Ghosts T B Event} (f : X → Option (Pass T B Event J)) (base : Option B) (workers : ℕ) (ys rest : List X) (last : X) (p : Pass T B Event J)

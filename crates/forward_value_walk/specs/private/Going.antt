@@ -7,13 +7,13 @@ use Rattle.weighted_automata.specs.declared.place.Place.{Place}
 use Rattle.weighted_automata.specs.declared.place.Label.TheVariants.{Empty}
 use Rattle.weight_tables.specs.Entries.{TableEntry, weight_in}
 use Rattle.weight_tables.specs.Tables.{TablesValue}
-use Rattle.walk_pairs.specs.declared.pairs.Stage.TheVariants.{Down}
+use Rattle.walk_pairs.specs.declared.pairs.Stage.TheVariants.{Down, Before}
 use Rattle.walk_pairs.specs.Pairs.{pair_place}
 use Rattle.walk_pairs.specs.Lowerings.{AreLowered}
 use Rattle.walk_pairs.specs.Answering.{IsWalkedOver}
 use Rattle.forward_value_laws.specs.Model.{callee}
 use Rattle.forward_value_search.specs.Places.{arrow}
-use Rattle.forward_value_walk.specs.Walking.{number, IsMade, IsSettled, IsPairMet}
+use Rattle.forward_value_walk.specs.Walking.{number, IsMade, IsSettled, IsPairMet, IsBeforeMet}
 use Rattle.forward_value_walk.specs.private.Opening.{IsCallMet}
 
 -- the pair of an item's number, of which nothing has been read, is below what leads to that item over nothing
@@ -45,10 +45,16 @@ module _ {S W Map : Type 0} (s : Operations W Map) (first wanted : PatternValue)
     pub gone : IsGoneOn v new
     pub met : IsPairMet s v.system first wanted v.base new.walk state source
 
+  -- So has what stands before two items.
+  pub record AreItemsGiven (k l : ℕ) (v new : TablesValue S W Map) : Type 0 where
+    pub gone : IsGoneOn v new
+    pub met : IsBeforeMet s v.system first wanted v.base new.walk k l
+
   -- What stands at a place has given all that it gives. What is no pair gives nothing.
   pub record IsPlaceGiven (place : Place) (v new : TablesValue S W Map) : Type 0 where
     pub gone : IsGoneOn v new
     pub met : (i m : ℕ) → place ≡ pair_place Down i m → IsPairMet s v.system first wanted v.base new.walk i m
+    pub met_before : (k l : ℕ) → place ≡ pair_place Before k l → IsBeforeMet s v.system first wanted v.base new.walk k l
 
   -- Each weight combines runs, and each pair that does not wait has given what it gives.
   pub record IsWalking (v : TablesValue S W Map) : Type 0 where

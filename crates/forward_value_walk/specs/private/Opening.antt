@@ -6,7 +6,6 @@ use Rattle.pushdown_rules.specs.declared.rule.Rule.{Rule}
 use Rattle.config_patterns.specs.declared.item.Item.{Item}
 use Rattle.config_patterns.specs.Edges.{edges_of}
 use Rattle.config_patterns.specs.Membership.{PatternValue}
-use Rattle.weighted_automata.specs.declared.place.Label.TheVariants.{Symbol}
 use Rattle.weighted_automata.specs.declared.place.Place.{Place}
 use Rattle.weight_tables.specs.Entries.{TableEntry, weight_in, settled_in}
 use Rattle.weight_tables.specs.Tables.{TablesValue}

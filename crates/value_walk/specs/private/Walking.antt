@@ -1,5 +1,5 @@
 -- What holds of a walk between its turns.
-use Rattle.std.specs.Prelude.{◌≡◌, ◌⊎◌, ℕ, zero, suc, ◌≤◌, List, length}
+use Rattle.std.specs.Prelude.{◌≡◌, ◌⊎◌, ℕ, zero, suc, List}
 use Rattle.semiring_laws.specs.Semiring.{Operations, Below}
 use Rattle.pushdown_rules.specs.Pushdown.{Pushdown}
 use Rattle.pushdown_rules.specs.Answers.{Leads}
@@ -14,20 +14,32 @@ use Rattle.weight_tables.specs.Tables.{TablesValue}
 use Rattle.weight_tables.specs.declared.layer.Layer.TheVariants.{Base, Target}
 use Rattle.walk_pairs.specs.declared.pairs.Order.TheVariants.{Then}
 use Rattle.walk_pairs.specs.declared.pairs.Stage.{Stage}
-use Rattle.walk_pairs.specs.declared.pairs.Stage.TheVariants.{Down, Across}
+use Rattle.walk_pairs.specs.declared.pairs.Stage.TheVariants.{Down, Across, Before}
 use Rattle.walk_pairs.specs.Pairs.{pair_place, answer_place}
 use Rattle.walk_pairs.specs.Lowerings.{ArePairsLowered}
-use Rattle.walk_pairs.specs.Giving.{IsFall, IsReading, IsEnding}
+use Rattle.walk_pairs.specs.Giving.{IsFall}
+use Rattle.walk_pairs.specs.Reading.{ComesBefore, AreReadingsSettled, IsPairGiven, IsBeforeGiven}
 use Rattle.value_laws.specs.Runs.{Sums}
-use Rattle.value_laws.specs.Walk.{Pairs, Descends, Crosses, IsWalkSettled, IsDownMet, IsAcrossMet}
+use Rattle.value_laws.specs.Settled.{Table}
+use Rattle.value_laws.specs.Walk.{Pairs, Descends, Crosses, IsDownMet}
 use Rattle.value_walk.specs.Answering.{pops_in, enters_in}
 
 module _ (from to : PatternValue) where
+  module _ {S W Map : Type 0} (p : Pushdown S W Map) where
+    -- The run leads from a stack that the source's edges read to a state, to one that the target's read to a state; from these both patterns may come to read the two items next.
+    pub record Stands (k l : ℕ) (run : List ℕ) : Type 0 where
+      pub state : ℕ
+      pub end : ℕ
+      pub comes : ComesBefore from.items state k
+      pub comes_end : ComesBefore to.items end l
+      pub crosses : Crosses p from.control (edges_of from.items) to.control (edges_of to.items) state end run
+
   module _ {S W Map : Type 0} (p : Pushdown S W Map) (s : Operations W Map) where
-    -- the runs of a place: those of a pair at a control, of a pair at a state of the target, and of the answer
+    -- the runs of a place: those of a pair at a control, of a pair at a state of the target, of what stands before two items, and of the answer
     abbrev pub Goes : ℕ → Label → ℕ → List ℕ → Type 0
     Goes zero (Symbol i) c = Descends p from.control (edges_of from.items) i c
-    Goes (suc n) (Symbol i) a = Crosses p from.control (edges_of from.items) to.control (edges_of to.items) i a
+    Goes (suc zero) (Symbol i) a = Crosses p from.control (edges_of from.items) to.control (edges_of to.items) i a
+    Goes (suc (suc n)) (Symbol k) l = Stands p k l
     Goes n Empty c = Leads s p (has_member from) (has_member to)
 
     -- the weight of a place combines such runs
@@ -41,6 +53,9 @@ module _ {W Map : Type 0} (s : Operations W Map) (es : List (TableEntry W)) wher
   abbrev pub across_in : Pairs W
   across_in i a = weight_in s es (pair_place Across i a)
 
+  abbrev pub before_in : Pairs W
+  before_in k l = weight_in s es (pair_place Before k l)
+
   abbrev pub answer_in : W
   answer_in = weight_in s es answer_place
 
@@ -50,6 +65,9 @@ module _ {W Map : Type 0} (s : Operations W Map) (es : List (TableEntry W)) wher
 
   abbrev pub settled_across : Pairs W
   settled_across i a = settled_in s es (pair_place Across i a)
+
+  abbrev pub settled_before : Pairs W
+  settled_before k l = settled_in s es (pair_place Before k l)
 
 module _ {S W Map : Type 0} (s : Operations W Map) (to : PatternValue) where
   -- The pair across, where the control is the target's.
@@ -63,31 +81,31 @@ module _ {S W Map : Type 0} (s : Operations W Map) (to : PatternValue) where
     pub lowered : ArePairsLowered s (IsMeeting v i c) v new
     pub met : c ≡ to.control → Below s (weight_in s new.walk (pair_place Across i 0)) v.hand
 
+module _ {W Map : Type 0} (s : Operations W Map) (from to : PatternValue) (pops enters : Table W) (es : List (TableEntry W)) where
+  -- All pairs that count have given what they give.
+  pub record ArePairsSettled : Type 0 where
+    pub begins : Below s (down_in s es 0 from.control) s.one
+    pub downs : (i c : ℕ) → IsDownMet s from to pops enters i c (settled_down s es i c) (down_in s es) (across_in s es)
+    pub readings : AreReadingsSettled s from.items to.items (across_in s es) (settled_across s es) (before_in s es) (settled_before s es) (answer_in s es)
+
 module _ {S W Map : Type 0} (s : Operations W Map) (from to : PatternValue) where
   -- Each weight is made of runs, and each pair that does not wait has given what it gives.
   pub record IsWalking (v : TablesValue S W Map) : Type 0 where
     pub made : (x : Place) → IsMade from to v.system s x (weight_in s v.walk x)
-    pub settled : IsWalkSettled s from to (pops_in s v) (enters_in s v) (down_in s v.walk) (across_in s v.walk) (settled_down s v.walk) (settled_across s v.walk) (answer_in s v.walk)
+    pub settled : ArePairsSettled s from to (pops_in s v) (enters_in s v) v.walk
 
   -- what a pair at a control gives to others, with its weight in hand
   abbrev pub IsGivenDown : TablesValue S W Map → ℕ → ℕ → Place → W → Type 0
   IsGivenDown v i c x w = IsFall s v Then Base Down c (edges_of from.items) i x w ⊎ (IsFall s v Then Target Across c (edges_of from.items) i x w ⊎ IsMeeting s to v i c x w)
-
-  -- what a pair at a state of the target does
-  abbrev pub IsGivenAcross : TablesValue S W Map → ℕ → ℕ → Place → W → Type 0
-  IsGivenAcross v i a x w = IsReading s v Across (edges_of from.items) (edges_of to.items) i a x w ⊎ IsEnding s v from.items to.items i a x w
 
   -- All that a pair of the weight in hand gives was given, and nothing else.
   pub record IsDownGiven (i c : ℕ) (v new : TablesValue S W Map) : Type 0 where
     pub lowered : ArePairsLowered s (IsGivenDown v i c) v new
     pub met : IsDownMet s from to (pops_in s v) (enters_in s v) i c v.hand (down_in s new.walk) (across_in s new.walk)
 
-  pub record IsAcrossGiven (i a : ℕ) (v new : TablesValue S W Map) : Type 0 where
-    pub lowered : ArePairsLowered s (IsGivenAcross v i a) v new
-    pub met : IsAcrossMet s from to i a v.hand (across_in s new.walk) (answer_in s new.walk)
-
-  -- What stands at a place has given all that it gives, with its weight in hand: a pair of one stage, or of the other. What is no pair gives nothing.
+  -- What stands at a place has given all that it gives, with its weight in hand: a pair of one stage or another. What is no pair gives nothing.
   pub record IsPlaceGiven (place : Place) (v new : TablesValue S W Map) : Type 0 where
     pub down : (i c : ℕ) → place ≡ pair_place Down i c → IsDownGiven i c v new
-    pub across : (i a : ℕ) → place ≡ pair_place Across i a → IsAcrossGiven i a v new
+    pub across : (i a : ℕ) → place ≡ pair_place Across i a → IsPairGiven s v from.items to.items i a new
+    pub before : (k l : ℕ) → place ≡ pair_place Before k l → IsBeforeGiven s v from.items to.items Across k l new
     pub others : ((stage : Stage) (i x : ℕ) → place ≡ pair_place stage i x → ⊥) → new ≡ v

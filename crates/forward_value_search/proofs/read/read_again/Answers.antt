@@ -34,9 +34,8 @@ read_set-requires-clause-edges g c = λ h has.
     let k = c.args.row.to - 1 in
     let some = c.if-row-eq0.false in
     let e : suc k ≡ c.args.row.to = omega arith in
-    let has' : has_symbol h x.set ≡ true = ap (has_symbol h) (sym c.as_slice.ensures) ∙ has in
     let P : ℕ → Type 0 = λ n. IsIn (record { from = n; symbol = h; to = n }) (edges_of items) in
-    subst P e (edge_back items k h (stays_at items k x h c.item-item.ensures.item ∙ and_from x.star (has_symbol h x.set) c.if-not-item.false has'))
+    subst P e (edge_back items k h (stays_at items k x h c.item-item.ensures.item ∙ and_from x.star (has_symbol h x.set) c.if-not-item.false has))
 
 pub returns-clause-read : goal.returns-clause-read
 returns-clause-read g c = λ k h is stays.
@@ -45,4 +44,4 @@ returns-clause-read g c = λ k h is stays.
     let e : c.args.row.to - 1 ≡ k = omega (arith, is) in
     let there : slice_get items k ≡ Some x = ap (slice_get items) (sym e) ∙ c.item-item.ensures.item in
     let has : has_symbol h x.set ≡ true = (and_parts x.star (has_symbol h x.set) (sym (stays_at items k x h there) ∙ stays)).1 in
-    c.in_ok-read_set.ensures.read h (ap (has_symbol h) c.as_slice.ensures ∙ has)
+    c.in_ok-read_set.ensures.read h has

@@ -25,7 +25,7 @@ pub read_set-requires-clause-edges : goal.read_set-requires-clause-edges
 read_set-requires-clause-edges g c = λ h has.
     let x = c.item-item.result.now in
     let low : c.args.row.to ≤ c.items.j = omega arith in
-    edge_here c.args.first.now.items c.args.row.to c.items.j low x c.item-item.ensures.item c.items.invariant.3 h (ap (has_symbol h) (sym c.as_slice.ensures) ∙ has)
+    edge_here c.args.first.now.items c.args.row.to c.items.j low x c.item-item.ensures.item c.items.invariant.3 h has
 
 pub returns-then-not-item-clause-onward : goal.returns-then-not-item-clause-onward
 returns-then-not-item-clause-onward g c =
@@ -46,7 +46,7 @@ returns-then-not-item-clause-read g c =
     let Q = λ (h : ℕ) (w : _). HasRead g.S.Semiring.operations c.args.system.now c.args.first.now new c.args.row h (c.items.j + 1) w in
     leads_to_last c.args.first.now.items i c.items.j low x c.item-item.ensures.item inv.3 P
     (λ k h less leads. read_later valid laws c.args.first.now now new inv.0.ready c.in_ok-read_set.ensures.onward c.args.row h (suc (i + k)) hand c.requires.ready.hand (inv.2 k h less leads))
-    (λ h has. subst (Q h) inv.1 (c.in_ok-read_set.ensures.read h (ap (has_symbol h) c.as_slice.ensures ∙ has))) c.if-not-item.true
+    (λ h has. subst (Q h) inv.1 (c.in_ok-read_set.ensures.read h has)) c.if-not-item.true
 
 pub items-preserved : goal.items-preserved
 items-preserved g c =
@@ -65,7 +65,7 @@ items-preserved g c =
       c.in_ok-read_set.ensures.hand ∙ inv.1,
       leads_so_far c.args.first.now.items i c.items.j low x c.item-item.ensures.item inv.3 P
           (λ k h less leads. read_later valid laws c.args.first.now now new inv.0.ready c.in_ok-read_set.ensures.onward c.args.row h (suc (i + k)) hand c.requires.ready.hand (inv.2 k h less leads))
-          (λ h has. subst (Q h) inv.1 (c.in_ok-read_set.ensures.read h (ap (has_symbol h) c.as_slice.ensures ∙ has))),
+          (λ h has. subst (Q h) inv.1 (c.in_ok-read_set.ensures.read h has)),
       reaches_next c.args.first.now.items i c.items.j low x c.item-item.ensures.item inv.3 c.if-not-item.false,
     )
 

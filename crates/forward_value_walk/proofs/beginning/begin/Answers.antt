@@ -1,4 +1,4 @@
-use Rattle.std.proofs.Common.{◌≡◌, ℕ, refl, sym, ap, ◌∙◌, subst}
+use Rattle.std.proofs.Common.{ℕ, ap, ◌∙◌, subst}
 use Rattle.config_patterns.specs.Edges.{edges_of}
 use Rattle.weight_tables.specs.Tables.{TablesValue, with_hand}
 use Rattle.weight_tables.specs.declared.layer.Layer.TheVariants.{Base}

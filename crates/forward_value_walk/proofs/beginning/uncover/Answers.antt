@@ -1,9 +1,9 @@
-use Rattle.std.proofs.Common.{◌≡◌, ℕ, refl, sym, ap, ◌∙◌, subst}
-use Rattle.std.specs.Prelude.{None, Some, slice_get}
+use Rattle.std.proofs.Common.{◌≡◌, ℕ, sym, ap, ◌∙◌, subst}
+use Rattle.std.specs.Prelude.{None, Some}
 use Rattle.weighted_automata.specs.declared.place.Label.TheVariants.{Empty}
 use Rattle.weighted_automata.specs.declared.place.Place.{Place}
-use Rattle.weight_tables.specs.Entries.{index_at, lowered_in, weight_in}
-use Rattle.weight_tables.specs.Tables.{TablesValue, with_entries, with_hand}
+use Rattle.weight_tables.specs.Entries.{index_at, lowered_in}
+use Rattle.weight_tables.specs.Tables.{TablesValue, with_entries}
 use Rattle.weight_tables.specs.declared.layer.Layer.TheVariants.{Walk}
 use Rattle.weight_tables.proofs.CallerLemmas.{none_weight, weight_at_index}
 use Rattle.walk_pairs.specs.declared.pairs.Stage.TheVariants.{Down}

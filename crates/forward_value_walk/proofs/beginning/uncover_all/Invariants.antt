@@ -1,4 +1,4 @@
-use Rattle.std.proofs.Common.{◌≡◌, ℕ, ◌<◌}
+use Rattle.std.proofs.Common.{ℕ, ◌<◌}
 use Rattle.forward_value_walk.specs.private.Going.{IsGoneOn, IsUncovered}
 use Rattle.forward_value_walk.proofs.beginning.uncover_all.Given as goal
 

@@ -1,5 +1,5 @@
 use Rattle.std.proofs.Common.{◌≡◌, ℕ, [], ◌∷◌, length, sym, ap, ◌∙◌, subst}
-use Rattle.std.specs.Prelude.{Option, None, Some, IfNone, slice_get}
+use Rattle.std.specs.Prelude.{Option, None, Some, IfNone}
 use Rattle.key_rows.specs.Rows.{index_where}
 use Rattle.pushdown_rules.specs.Pushdown.{Pushdown}
 use Rattle.pushdown_rules.specs.Rows.{goes_onto}

@@ -1,4 +1,3 @@
-use Rattle.std.proofs.Common.{◌≡◌, sym, subst}
 use Rattle.walk_pairs.specs.declared.pairs.Stage.TheVariants.{Down}
 use Rattle.walk_pairs.specs.Pairs.{pair_place}
 use Rattle.forward_value_walk.proofs.GoingLemmas.{walkable_of, within_of, gone_walkable, gone_stands}
@@ -12,11 +11,11 @@ pub open_calls-requires : goal.open_calls-requires
 open_calls-requires g c =
     let a = c.args in
     let v = a.tables.now in
-    let v3 = c.end_at.new.tables in
+    let v3 = c.read_on.new.tables in
     let walkable = walkable_of g.S.Semiring.operations a.first.now a.wanted.now v c.valid.ensures.system c.valid.ensures.tables c.requires.finished c.requires.made in
     let stands = c.requires.entry in
-    let gone = before_calls g.S.Semiring.operations (λ x. g.S.Semiring.laws x) a.first.now a.wanted.now v walkable c.valid.ensures.tables.walk.distinct a.state a.source a.t stands c.hold.new.self c.read_ways.new.tables v3
-    (c.in_ok-hold.ensures.ok stands.0 stands.1) c.in_ok-read_ways.ensures c.in_ok-end_at.ensures in
+    let gone = before_calls g.S.Semiring.operations (λ x. g.S.Semiring.laws x) a.first.now a.wanted.now v walkable c.valid.ensures.tables.walk.distinct a.state a.source a.t stands c.hold.new.self v3
+    (c.in_ok-hold.ensures.ok stands.0 stands.1) c.in_ok-read_on.ensures in
     let later = gone_walkable g.S.Semiring.operations (λ x. g.S.Semiring.laws x) a.first.now a.wanted.now v v3 walkable gone in
     record {
       entry = gone_stands g.S.Semiring.operations (λ x. g.S.Semiring.laws x) a.first.now a.wanted.now v v3 walkable gone a.t (pair_place Down a.state a.source) stands;
@@ -30,5 +29,5 @@ returns g c =
     let v = a.tables.now in
     let walkable = walkable_of g.S.Semiring.operations a.first.now a.wanted.now v c.valid.ensures.system c.valid.ensures.tables c.requires.finished c.requires.made in
     let stands = c.requires.entry in
-    pair_given g.S.Semiring.operations (λ x. g.S.Semiring.laws x) a.first.now a.wanted.now v walkable c.valid.ensures.tables.walk.distinct a.state a.source a.t stands c.hold.new.self c.read_ways.new.tables c.end_at.new.tables
-    (c.in_ok-hold.ensures.ok stands.0 stands.1) c.in_ok-read_ways.ensures c.in_ok-end_at.ensures c.open_calls.new.tables c.in_ok-open_calls.ensures
+    pair_given g.S.Semiring.operations (λ x. g.S.Semiring.laws x) a.first.now a.wanted.now v walkable c.valid.ensures.tables.walk.distinct a.state a.source a.t stands c.hold.new.self c.read_on.new.tables
+    (c.in_ok-hold.ensures.ok stands.0 stands.1) c.in_ok-read_on.ensures c.open_calls.new.tables c.in_ok-open_calls.ensures

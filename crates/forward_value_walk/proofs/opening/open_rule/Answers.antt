@@ -1,9 +1,9 @@
-use Rattle.std.proofs.Common.{◌≡◌, ℕ, [], ◌∷◌, get_or, refl, sym, ap, ◌∙◌, subst, arith}
+use Rattle.std.proofs.Common.{◌≡◌, [], ◌∷◌, get_or, sym, ap, ◌∙◌, subst}
 use Rattle.std.specs.Prelude.{Some, slice_get}
 use Rattle.pushdown_rules.specs.Pushdown.{Pushdown}
-use Rattle.weight_tables.specs.Tables.{TablesValue, AreTables, with_hand}
+use Rattle.weight_tables.specs.Tables.{TablesValue, AreTables}
 use Rattle.forward_value_walk.specs.private.Opening.{AreHeadsGiven}
-use Rattle.forward_value_walk.proofs.OpeningLemmas.{entry_at, two_of, with_rule, rule_opened}
+use Rattle.forward_value_walk.proofs.OpeningLemmas.{entry_at, two_of, rule_opened}
 use Rattle.forward_value_walk.proofs.opening.open_rule.Goals as goal
 
 pub returns-in_ok-open_ways-in-len2 : goal.returns-in_ok-open_ways-in-len2

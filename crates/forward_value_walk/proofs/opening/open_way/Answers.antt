@@ -1,4 +1,4 @@
-use Rattle.std.proofs.Common.{◌≡◌, ℕ, refl, sym, ap, ◌∙◌}
+use Rattle.std.proofs.Common.{◌≡◌, refl, sym, ap, ◌∙◌}
 use Rattle.std.proofs.lemmas.Bool.{false≢true}
 use Rattle.std.proofs.lemmas.Option.{same_Some}
 use Rattle.config_patterns.specs.declared.item.Item.{Item}
@@ -12,8 +12,8 @@ use Rattle.walk_pairs.proofs.CallerLemmas.{none_pairs, pairs_wider}
 use Rattle.forward_value_walk.specs.private.Opening.{IsWay, worth_from}
 use Rattle.forward_value_walk.proofs.opening.open_way.Goals as goal
 
-pub returns-then-not-takes : goal.returns-then-not-takes
-returns-then-not-takes g c =
+pub returns-then-not-has : goal.returns-then-not-has
+returns-then-not-has g c =
     let a = c.args in
     let v = a.tables.now in
     let s = g.S.Semiring.operations v.system.semiring in
@@ -21,7 +21,7 @@ returns-then-not-takes g c =
       lowered = none_pairs s (IsWay s v a.wanted.now.items a.next a.below a.control a.symbol) v;
       met = λ has n.
           let item = same_Some has.0 c.item.result.now (sym has.1 ∙ c.item.ensures.item) in
-          absurd (false≢true (sym (sym c.takes.ensures ∙ c.if-not-takes.true) ∙ ap (λ (x : Item). has_symbol a.below x.set) (sym item) ∙ has.2));
+          absurd (false≢true (sym (sym c.has.ensures ∙ c.if-not-has.true) ∙ ap (λ (x : Item). has_symbol a.below x.set) (sym item) ∙ has.2));
     }
 
 pub returns : goal.returns
@@ -30,7 +30,7 @@ returns g c =
     let v = a.tables.now in
     let s = g.S.Semiring.operations v.system.semiring in
     let given = c.in_ok-fall_row.ensures in
-    let has : TakesAt a.wanted.now.items a.next a.below = (c.item.result.now, c.item.ensures.item, sym c.takes.ensures ∙ c.if-not-takes.false) in
+    let has : TakesAt a.wanted.now.items a.next a.below = (c.item.result.now, c.item.ensures.item, sym c.has.ensures ∙ c.if-not-has.false) in
     record {
       lowered = pairs_wider s (IsFallOn s v After Base Down a.control (λ h. h ≡ a.symbol) a.next) (IsWay s v a.wanted.now.items a.next a.below a.control a.symbol)
           (λ x w is. record { source = is.to; takes = has; place = is.place; weight = is.weight ∙ ap (λ h. worth_from s v a.control h is.to) is.has }) v c.fall_row.new.tables given.lowered;

@@ -1,11 +1,11 @@
-use Rattle.std.proofs.Common.{◌≡◌, ℕ, true, false, refl, sym, ap, ◌∙◌, subst}
+use Rattle.std.proofs.Common.{◌≡◌, ℕ, false, sym, ap, ◌∙◌, subst}
 use Rattle.std.specs.Prelude.{Option, None, Some, IfNone, slice_get}
 use Rattle.std.proofs.lemmas.Bool.{false≢true}
-use Rattle.weight_tables.specs.Entries.{TableEntry, NoneWaits}
+use Rattle.weight_tables.specs.Entries.{NoneWaits}
 use Rattle.weight_tables.specs.Tables.{TablesValue, AreTables}
 use Rattle.forward_value_search.specs.Search.{IsFinished}
 use Rattle.forward_value_walk.specs.private.Going.{IsWalking, IsPlaceGiven, AreMade}
-use Rattle.forward_value_walk.proofs.TurnLemmas.{taken_at, took, took_walkable, IsTurned, turned}
+use Rattle.forward_value_walk.proofs.TurnLemmas.{taken_at, took_walkable, turned}
 use Rattle.forward_value_walk.proofs.turns.turn.Goals as goal
 
 none_of : (o : Option ℕ) (P : Type 0) → o ≡ None → IfNone o P → P

@@ -1,11 +1,10 @@
-use Rattle.std.proofs.Common.{◌≡◌, ◌<◌, ℕ, refl, sym, ap, ◌∙◌, subst}
+use Rattle.std.proofs.Common.{◌≡◌, ◌<◌, sym, ap, ◌∙◌, subst}
 use Rattle.weight_tables.specs.Entries.{weight_in}
 use Rattle.weight_tables.specs.Tables.{TablesValue, with_entries, with_hand}
 use Rattle.weight_tables.specs.Turns.{turns_left}
 use Rattle.weight_tables.specs.declared.layer.Layer.TheVariants.{Walk}
 use Rattle.walk_pairs.specs.Pairs.{answer_place}
 use Rattle.walk_pairs.specs.Answering.{IsAnswered, IsWalkedOver}
-use Rattle.forward_value_search.specs.Search.{IsFinished}
 use Rattle.forward_value_walk.specs.private.Going.{IsWalking}
 use Rattle.forward_value_walk.proofs.TurnLemmas.{ended, finished_over}
 use Rattle.forward_value_walk.proofs.turns.walk.Goals as goal

@@ -1,4 +1,3 @@
-use Rattle.std.proofs.Common.{◌≡◌}
 use Rattle.weight_tables.specs.Turns.{turns_left}
 use Rattle.walk_pairs.specs.Answering.{IsWalkedOver}
 use Rattle.forward_value_walk.specs.private.Going.{IsWalking}

@@ -1,9 +1,6 @@
-use Rattle.std.proofs.Common.{◌≡◌, ◌<◌, ◌∙◌, true, sym, ap, subst}
-use Rattle.std.specs.Prelude.{All}
-use Rattle.config_patterns.specs.Membership.{PatternValue}
+use Rattle.std.proofs.Common.{◌≡◌, ◌∙◌, true, sym, ap, subst}
 use Rattle.pattern_openings.specs.JointOpenings.{joint_edges, edges_alone}
 use Rattle.prestar_laws.specs.Fitting.{fits_pre}
-use Rattle.std.proofs.lemmas.Result.{IfOk-weaker}
 use Rattle.prestar.proofs.FitLemmas.{joint_fits}
 use Rattle.prestar.proofs.joint.joint_pre_opening.Goals as goal
 

@@ -1,11 +1,11 @@
-use Rattle.std.proofs.Common.{◌≡◌, ℕ, true, false, refl, sym, ap, ◌∙◌, subst, List}
+use Rattle.std.proofs.Common.{◌≡◌, ℕ, false, sym, ap, ◌∙◌, subst}
 use Rattle.std.specs.Prelude.{Option, None, Some, IfNone, slice_get}
 use Rattle.std.proofs.lemmas.Bool.{false≢true}
 use Rattle.weighted_automata.specs.declared.place.Place.{Place}
-use Rattle.weight_tables.specs.Entries.{TableEntry, NoneWaits}
-use Rattle.weight_tables.specs.Tables.{TablesValue, AreTables, with_entries, with_hand}
+use Rattle.weight_tables.specs.Entries.{NoneWaits}
+use Rattle.weight_tables.specs.Tables.{TablesValue, AreTables, with_hand}
 use Rattle.value_walk.specs.private.Walking.{IsWalking, IsPlaceGiven}
-use Rattle.value_walk.proofs.TurnLemmas.{taken_at, at_hand, IsTurned, turned}
+use Rattle.value_walk.proofs.TurnLemmas.{taken_at, at_hand, turned}
 use Rattle.value_walk.proofs.turns.turn.Goals as goal
 
 none_of : (o : Option ℕ) (P : Type 0) → o ≡ None → IfNone o P → P

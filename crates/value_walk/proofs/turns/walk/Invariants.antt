@@ -1,4 +1,3 @@
-use Rattle.std.proofs.Common.{◌≡◌}
 use Rattle.weight_tables.specs.Turns.{turns_left}
 use Rattle.walk_pairs.specs.Answering.{IsWalkedOver}
 use Rattle.value_walk.specs.private.Walking.{IsWalking}

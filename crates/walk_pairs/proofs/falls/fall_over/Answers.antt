@@ -18,7 +18,7 @@ returns-in_ok-fall-in-Symbol g c =
     let law = g.S.Semiring.laws v.system.semiring in
     let valid = c.valid.ensures.tables in
     let Has : ℕ → Type 0 = TakesAt a.pattern.now.items a.next in
-    let has : Has c.in-Symbol.symbol = (c.item-item.result.now, c.item-item.ensures.item, sym c.takes.ensures ∙ c.if-not-takes.false) in
+    let has : Has c.in-Symbol.symbol = (c.item-item.result.now, c.item-item.ensures.item, sym c.has.ensures ∙ c.if-not-has.false) in
     record {
       lowered = λ e there.
           let label : e.place.label ≡ Symbol c.in-Symbol.symbol = sym (ap (λ (x : Place). x.label) (c.place.ensures e there)) ∙ c.in-Symbol.is in

@@ -1,73 +1,45 @@
-use Rattle.std.proofs.Common.{◌≡◌, inl, inr, ℕ, ◌<◌, ◌≤◌, ◌+◌, refl, sym, ap, ◌∙◌, subst, arith}
-use Rattle.std.proofs.lemmas.Bool.{cases_lt}
-use Rattle.semiring_laws.specs.Semiring.{Below}
-use Rattle.config_patterns.specs.Edges.{edges_of}
-use Rattle.weight_tables.specs.Entries.{weight_in}
-use Rattle.weight_tables.specs.Tables.{TablesValue, with_entries}
-use Rattle.weight_tables.specs.declared.layer.Layer.TheVariants.{Walk}
-use Rattle.walk_pairs.specs.Giving.{IsReadingOn}
+use Rattle.std.proofs.Common.{ℕ, true, subst, ◌∙◌, sym}
+use Rattle.std.proofs.lemmas.Bool.{false≢true}
+use Rattle.weighted_automata.specs.declared.place.Place.{Place}
+use Rattle.walk_pairs.specs.declared.pairs.Stage.TheVariants.{Before}
 use Rattle.walk_pairs.specs.Pairs.{pair_place}
-use Rattle.walk_pairs.specs.Ways.{TakesAt}
-use Rattle.walk_pairs.specs.private.Steps.{IsBoth}
-use Rattle.walk_pairs.proofs.PairLemmas.{none_pairs, pairs_then, pairs_wider, pairs_fit, below_later}
-use Rattle.walk_pairs.proofs.ReadLemmas.{on_fit}
-use Rattle.walk_pairs.proofs.GivenLemmas.{both_between}
+use Rattle.walk_pairs.specs.private.Steps.{IsLoweredWhere}
+use Rattle.walk_pairs.proofs.ReadLemmas.{pair_given, no_pair_given, second_first, third_first, fourth_first}
 use Rattle.walk_pairs.proofs.readings.read_on.Goals as goal
 
-pub loop-b-init : goal.loop-b-init
-loop-b-init g c =
+pub returns-then-not-are_within : goal.returns-then-not-are_within
+returns-then-not-are_within g c =
     let a = c.args in
     let v = a.tables.now in
-    let s = g.S.Semiring.operations v.system.semiring in
-    (none_pairs s (IsReadingOn s v a.stage a.one.now.items (edges_of a.other.now.items) a.next a.state) v, λ j low high. absurd (omega (arith, low, high)))
-
-pub read_both-requires-clause-above_other : goal.read_both-requires-clause-above_other
-read_both-requires-clause-above_other g c = let above = c.ways_from-ways.ensures.above in let low = c.loop-b.auto.b in omega (arith, above, low)
-
-pub read_both-requires-clause-within_other : goal.read_both-requires-clause-within_other
-read_both-requires-clause-within_other g c = let within = c.ways_from-ways.ensures.within in let high = c.loop-b-test.true in omega (arith, within, high)
-
-pub loop-b-preserved : goal.loop-b-preserved
-loop-b-preserved g c =
-    let a = c.args in
-    let v = a.tables.now in
-    let s = g.S.Semiring.operations v.system.semiring in
-    let law = g.S.Semiring.laws v.system.semiring in
-    let valid = c.valid.ensures.tables in
-    let v1 = c.loop-b.tables in
-    let v2 = c.read_both.new.tables in
-    let i = c.loop-b.b in
-    let one = a.one.now.items in
-    let other = a.other.now.items in
-    let was = c.loop-b.invariant.0 in
-    let given = both_between g.S.Semiring.operations v v1 v2 was.others a.stage one other a.next i c.in_ok-read_both.ensures in
-    let step = pairs_wider s (IsBoth s (with_entries Walk v1.walk v) a.stage one other a.next i) (IsReadingOn s v a.stage one (edges_of other) a.next a.state)
-    (λ p w is. record {
-      symbol = is.symbol;
-      next_other = i;
-      takes = is.takes;
-      edge_other = (c.ways_from-ways.ensures.edges is.symbol i).1 (c.loop-b.auto.b, c.loop-b-test.true, is.takes_other);
-      place = is.place;
-      weight = is.weight;
-    })
-    (with_entries Walk v1.walk v) v2 given.lowered in (
-      pairs_then s (IsReadingOn s v a.stage one (edges_of other) a.next a.state) v v1 v2 was step,
-      λ j low high h has has_other. elim (cases_lt j i) [
-        | inl before ↦ below_later law (IsReadingOn s v a.stage one (edges_of other) a.next a.state) (on_fit v valid a.stage one (edges_of other) a.next a.state) (with_entries Walk v1.walk v)
-            (pairs_fit law (IsReadingOn s v a.stage one (edges_of other) a.next a.state) (on_fit v valid a.stage one (edges_of other) a.next a.state) v valid.walk.fits v1 was) v2 step
-            (pair_place a.stage a.next j) v.hand valid.hand (c.loop-b.invariant.1 j low before h has has_other)
-        | inr behind ↦
-            let same : i ≡ j = omega (arith, high, behind) in
-            let Q : ℕ → Type 0 = λ n. TakesAt other n h → Below s (weight_in s v2.walk (pair_place a.stage a.next n)) v.hand in
-            subst Q same (λ here. given.met h has here) has_other
-      ],
-    )
+    no_pair_given (g.S.Semiring.laws v.system.semiring) v v v v v c.valid.ensures.tables a.one.now.items a.other.now.items a.state a.state_other
+    (λ low low'. false≢true (sym c.if-not-are_within.true ∙ c.are_within.ensures.no low low'))
 
 pub returns : goal.returns
-returns g c = record {
-  lowered = c.loop-b.invariant.0;
-  met = λ h b takes edge.
-      let way = (c.ways_from-ways.ensures.edges h b).0 edge in
-      let low = way.1 in
-      c.loop-b.invariant.1 b way.0 (omega (arith, low, c.loop-b-test.false)) h takes way.2;
-}
+returns g c =
+    let a = c.args in
+    let v = a.tables.now in
+    let operations = g.S.Semiring.operations in
+    let s = operations v.system.semiring in
+    let v1 = c.lower_where.new.tables in
+    let v2 = c.lower_where-2.new.tables in
+    let v3 = c.lower_where-3.new.tables in
+    let v4 = c.lower_where-4.new.tables in
+    let k : ℕ = c.saturating_sub-item.result in
+    let l : ℕ = c.saturating_sub-item_other.result in
+    let x1 : Place = pair_place Before a.state a.state_other in
+    let x2 : Place = pair_place Before k a.state_other in
+    let x3 : Place = pair_place Before a.state l in
+    let x4 : Place = pair_place Before k l in
+    let b = c.stays_at-again.result in
+    let b' = c.stays_at-again_other.result in
+    let both = c.stay_both-both.result in
+    let one = subst (λ x. IsLoweredWhere s true x v v1) c.before-2.ensures c.in_ok-lower_where.ensures in
+    let two = subst (λ x. IsLoweredWhere (operations v1.system.semiring) b x v1 v2) c.before-3.ensures c.in_ok-lower_where-2.ensures in
+    let three = subst (λ x. IsLoweredWhere (operations v2.system.semiring) b' x v2 v3) c.before-4.ensures c.in_ok-lower_where-3.ensures in
+    let four = subst (λ x. IsLoweredWhere (operations v3.system.semiring) both x v3 v4) c.before-5.ensures c.in_ok-lower_where-4.ensures in
+    let within = c.are_within.ensures.yes c.if-not-are_within.false in
+    pair_given (g.S.Semiring.laws v.system.semiring) v v1 v2 v3 v4 c.valid.ensures.tables a.one.now.items a.other.now.items a.state a.state_other within.0 within.1 b b' both c.stays_at-again.ensures c.stays_at-again_other.ensures
+    c.stay_both-both.ensures.yes c.stay_both-both.ensures.no k l c.saturating_sub-item.ensures c.saturating_sub-item_other.ensures one
+    (second_first operations v v1 v2 v3 v4 true b b' both x1 x2 x3 x4 one two three four)
+    (third_first operations v v1 v2 v3 v4 true b b' both x1 x2 x3 x4 one two three four)
+    (fourth_first operations v v1 v2 v3 v4 true b b' both x1 x2 x3 x4 one two three four)

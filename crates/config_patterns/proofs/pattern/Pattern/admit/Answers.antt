@@ -1,21 +1,24 @@
-use Rattle.std.proofs.Common.{◌∙◌, sym, refl, arith}
-use Rattle.config_patterns.proofs.ItemLemmas.{few_finals, counted, is_accepted, not_refused, too_many}
+use Rattle.std.proofs.Common.{◌∙◌, arith}
+use Rattle.config_patterns.proofs.ItemLemmas.{few_finals, counted, is_accepted, not_refused, too_many, too_many_items}
 use Rattle.config_patterns.proofs.pattern.Pattern.admit.Goals as goal
+
+pub returns-then-len-ge-MAX_ITEMS-clause-refusal : goal.returns-then-len-ge-MAX_ITEMS-clause-refusal
+returns-then-len-ge-MAX_ITEMS-clause-refusal c = λ set of. too_many_items _ _ c.self.view_is set c.args.star of.low (omega arith)
 
 pub edges_with-requires : goal.edges_with-requires
 edges_with-requires c = few_finals _ _ _ c.self.invariant.0 c.self.invariant.1
 
 pub returns-in-Some-clause-count : goal.returns-in-Some-clause-count
-returns-in-Some-clause-count c = c.in-Some.ensures.0 ∙ counted _ _ c.self.view_is _ _ c.self.invariant.1 c.args.set.now c.args.star
+returns-in-Some-clause-count c = λ set of.
+    c.in-Some.ensures.0 ∙ counted _ _ c.self.view_is _ _ c.self.invariant.1 c.args.count set c.args.star of.size
 
 pub returns-in-Some-clause-accepted : goal.returns-in-Some-clause-accepted
-returns-in-Some-clause-accepted c =
-    is_accepted _ _ c.self.view_is _ _ c.self.invariant.1 c.args.set.now c.args.star (c.if-has_from.ensures.none refl) (omega arith) (omega (arith, c.in-Some.ensures.0, c.in-Some.ensures.1))
+returns-in-Some-clause-accepted c = λ set of.
+    is_accepted _ _ c.self.view_is _ _ c.self.invariant.1 c.args.count set c.args.star of (omega arith) (omega (arith, c.in-Some.ensures.0, c.in-Some.ensures.1))
 
 pub returns-in-Some-clause-refusal : goal.returns-in-Some-clause-refusal
-returns-in-Some-clause-refusal c =
-    not_refused _ _ c.self.view_is c.args.set.now c.args.star (sym c.if-has_from.ensures.test) (returns-in-Some-clause-accepted c)
+returns-in-Some-clause-refusal c = λ set of. not_refused _ set c.args.star (returns-in-Some-clause-accepted c set of)
 
 pub returns-in-None-clause-refusal : goal.returns-in-None-clause-refusal
-returns-in-None-clause-refusal c =
-    too_many _ _ c.self.view_is _ _ c.self.invariant.1 c.args.set.now c.args.star (sym c.if-has_from.ensures.test) (omega arith) c.in-None.ensures
+returns-in-None-clause-refusal c = λ set of.
+    too_many _ _ c.self.view_is _ _ c.self.invariant.1 c.args.count set c.args.star of (omega arith) c.in-None.ensures

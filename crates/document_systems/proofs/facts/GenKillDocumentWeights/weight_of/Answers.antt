@@ -12,9 +12,9 @@ returns-in_ok-killed-in-Facts-clause-value g c =
     let n = g.row.N in
     let generated = c.deref.ensures.value ∙ c.in_ok-generated-in-Facts.ensures ∙ ap (facts_behind true) c.as_slice.ensures in
     let killed = c.deref-in-Facts.ensures.value ∙ c.in_ok-killed-in-Facts.ensures ∙ ap (facts_behind false) c.as_slice-in-Facts.ensures in
-    IfOk-weaker c.make_shared.result _ _
-    (λ w is. is ∙ ap₂ (λ x y. weight_where n (is_listed x) (is_listed y)) generated killed ∙ sym (ap (genkill_weight n) c.in-Facts.is))
-    c.make_shared.ensures.value
+    c.make.ensures.value
+    ∙ ap₂ (λ x y. weight_where n (is_listed x) (is_listed y)) generated killed
+    ∙ sym (ap (genkill_weight n) c.in-Facts.is)
 
 pub returns-in-One-clause-fits : goal.returns-in-One-clause-fits
 returns-in-One-clause-fits g c =
