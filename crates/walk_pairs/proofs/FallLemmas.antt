@@ -1,17 +1,17 @@
 -- What entries of a layer give.
-use Rattle.std.proofs.Common.{◌≡◌, ◌⊎◌, inl, inr, ℕ, suc, ◌<◌, ◌≤◌, ◌+◌, true, false, List, [], ◌∷◌, refl, sym, ap, ap₂, ◌∙◌, subst, arith}
-use Rattle.std.specs.Prelude.{Option, Some, None, slice_get, ◌&&◌, nat_eq}
+use Rattle.std.proofs.Common.{◌≡◌, ℕ, ◌+◌, true, false, List, refl, sym, ap, ap₂, ◌∙◌, subst}
+use Rattle.std.specs.Prelude.{Some, None, slice_get, nat_eq}
 use Rattle.std.proofs.lemmas.Bool.{and_parts, and_from, eq-eqb, eqb-true, false≢true}
 use Rattle.std.proofs.lemmas.Option.{same_Some}
 use Rattle.key_rows.specs.Rows.{index_from}
 use Rattle.pushdown_rules.proofs.CallerLemmas.{index_found, index_from_start}
 use Rattle.semiring_laws.specs.Semiring.{Operations, IsSemiring, Fits, Below}
-use Rattle.semiring_laws.proofs.CallerLemmas.{below_itself, below_zero}
+use Rattle.semiring_laws.proofs.CallerLemmas.{below_zero}
 use Rattle.weighted_automata.specs.declared.place.Label.{Label}
 use Rattle.weighted_automata.specs.declared.place.Label.TheVariants.{Symbol, Empty}
 use Rattle.weighted_automata.specs.declared.place.Place.{Place}
 use Rattle.weighted_automata.specs.Places.{same_label, same_place}
-use Rattle.weight_tables.specs.Entries.{TableEntry, IsTable, index_at, is_from, is_out_of, lowered_in, weight_in}
+use Rattle.weight_tables.specs.Entries.{TableEntry, index_at, is_from, is_out_of, lowered_in, weight_in}
 use Rattle.weight_tables.specs.Tables.{TablesValue, AreTables, entries_of, with_entries}
 use Rattle.weight_tables.specs.declared.layer.Layer.{Layer}
 use Rattle.weight_tables.specs.declared.layer.Layer.TheVariants.{Walk}
@@ -22,10 +22,9 @@ use Rattle.walk_pairs.specs.declared.pairs.Stage.{Stage}
 use Rattle.walk_pairs.specs.Pairs.{joined, pair_place, place_over}
 use Rattle.walk_pairs.specs.Lowerings.{ArePairsLowered}
 use Rattle.config_patterns.specs.declared.edge.Edge.{Edge}
-use Rattle.walk_pairs.specs.Giving.{IsKept, IsFallOn, AreFallsOnGiven, IsFall, worth_over}
-use Rattle.walk_pairs.specs.private.Steps.{IsEntryGiven}
+use Rattle.walk_pairs.specs.Giving.{IsKept, IsFallOn, IsFall, worth_over}
 use Rattle.walk_pairs.proofs.LoweringLemmas.{one_below}
-use Rattle.walk_pairs.proofs.PairLemmas.{same_layer, layer_table, one_pair, pairs_then, pairs_wider, pairs_fit, below_later}
+use Rattle.walk_pairs.proofs.PairLemmas.{same_layer, layer_table, one_pair, pairs_fit, below_later}
 
 label_is : (l : Label) (g : ℕ) → same_label l (Symbol g) ≡ true → l ≡ Symbol g
 label_is (Symbol a) g is = ap Symbol (eqb-true a g is)

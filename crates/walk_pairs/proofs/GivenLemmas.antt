@@ -1,5 +1,5 @@
 -- What was given while pairs were lowered, said of the tables as they were first.
-use Rattle.std.proofs.Common.{◌≡◌, ℕ, List, sym, ap, ◌∙◌, subst}
+use Rattle.std.proofs.Common.{◌≡◌, ℕ, List, ap, ◌∙◌, subst}
 use Rattle.std.specs.Prelude.{Some, slice_get}
 use Rattle.semiring_laws.specs.Semiring.{Operations, Below}
 use Rattle.config_patterns.specs.declared.item.Item.{Item}
@@ -14,8 +14,8 @@ use Rattle.walk_pairs.specs.declared.pairs.Order.{Order}
 use Rattle.walk_pairs.specs.declared.pairs.Stage.{Stage}
 use Rattle.walk_pairs.specs.Pairs.{joined, pair_place, place_over}
 use Rattle.walk_pairs.specs.Lowerings.{ArePairsLowered}
-use Rattle.walk_pairs.specs.Giving.{IsKept, IsFallOn, AreFallsOnGiven, IsFall, AreFallsGiven, worth_over, AreReadingsOnGiven, IsReadingOn}
-use Rattle.walk_pairs.specs.private.Steps.{IsEntryGiven, IsBoth, IsBothGiven}
+use Rattle.walk_pairs.specs.Giving.{IsKept, IsFallOn, AreFallsOnGiven, worth_over, AreReadingsOnGiven}
+use Rattle.walk_pairs.specs.private.Steps.{IsEntryGiven, IsBothGiven}
 use Rattle.walk_pairs.proofs.PairLemmas.{same_layer, pairs_wider}
 
 module _ {S W Map : Type 0} (operations : S → Operations W Map) (v : TablesValue S W Map) where

@@ -1,8 +1,7 @@
 -- What finitely many lowerings keep.
-use Rattle.std.proofs.Common.{◌≡◌, ◌⊎◌, inl, inr, ℕ, zero, suc, ◌<◌, ◌≤◌, ◌+◌, ◌^◌, Bool, true, false, List, [], ◌∷◌, ◌++◌, length, refl, sym, ap, ◌∙◌, subst, arith}
-use Rattle.std.specs.Prelude.{Some, slice_get, if◌then◌else◌}
+use Rattle.std.proofs.Common.{◌≡◌, ◌⊎◌, inl, inr, ◌<◌, ◌≤◌, ◌^◌, true, false, List, [], ◌∷◌, ◌++◌, length, refl, sym, ap, ◌∙◌, subst, arith}
+use Rattle.std.specs.Prelude.{if◌then◌else◌}
 use Rattle.std.specs.List.{AllByRecursion}
-use Rattle.std.proofs.lemmas.Bool.{cases_Bool}
 use Rattle.semiring_laws.specs.Semiring.{Operations, IsSemiring, Fits, Below}
 use Rattle.semiring_laws.proofs.CallerLemmas.{below_itself, below_trans, combine_below_left, combine_below_right}
 use Rattle.weighted_automata.specs.declared.place.Place.{Place}
@@ -10,7 +9,7 @@ use Rattle.weighted_automata.specs.Places.{same_place}
 use Rattle.weighted_automata.proofs.CallerLemmas.{cases_place}
 use Rattle.weight_tables.specs.Entries.{TableEntry, lowered_entry, lowered_in, weight_in, settled_in}
 use Rattle.weight_tables.specs.Turns.{turns_left}
-use Rattle.weight_tables.proofs.CallerLemmas.{lowered_weight_here, lowered_weight_other, lowered_settled_here, lowered_settled_other, lowered_turns, place_fits, settled_or_none}
+use Rattle.weight_tables.proofs.CallerLemmas.{lowered_weight_here, lowered_weight_other, lowered_settled_here, lowered_settled_other, lowered_turns, place_fits}
 use Rattle.walk_pairs.specs.Lowerings.{Lowering, lowered_by, AreLowered}
 
 module _ {W Map : Type 0} (s : Operations W Map) where

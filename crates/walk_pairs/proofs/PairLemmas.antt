@@ -1,6 +1,5 @@
 -- Pairs that are lowered while the rest stays.
 use Rattle.std.proofs.Common.{◌≡◌, List, refl, sym, ap, ◌∙◌, subst}
-use Rattle.std.specs.List.{AllByRecursion}
 use Rattle.semiring_laws.specs.Semiring.{Operations, IsSemiring, Fits, Below}
 use Rattle.semiring_laws.proofs.CallerLemmas.{below_trans}
 use Rattle.weighted_automata.specs.declared.place.Place.{Place}
@@ -9,7 +8,7 @@ use Rattle.weight_tables.specs.Tables.{TablesValue, AreTables, entries_of, with_
 use Rattle.weight_tables.specs.declared.layer.Layer.{Layer}
 use Rattle.weight_tables.specs.declared.layer.Layer.TheVariants.{Base, Target, Walk}
 use Rattle.weight_tables.proofs.CallerLemmas.{place_fits}
-use Rattle.walk_pairs.specs.Lowerings.{AreLowered, ArePairsLowered}
+use Rattle.walk_pairs.specs.Lowerings.{ArePairsLowered}
 use Rattle.walk_pairs.specs.Giving.{IsKept}
 use Rattle.walk_pairs.proofs.LoweringLemmas.{AllFit, none_lowered, one_lowered, lowered_then, lowered_wider, lowered_all_fit, lowered_falls}
 

@@ -1,20 +1,16 @@
 -- What reading on in both patterns gives.
-use Rattle.std.proofs.Common.{◌≡◌, ℕ, List, refl, sym, ap, ◌∙◌, subst}
+use Rattle.std.proofs.Common.{◌≡◌, ℕ, List, sym, ap, subst}
 use Rattle.semiring_laws.specs.Semiring.{Operations, IsSemiring, Fits, Below}
 use Rattle.config_patterns.specs.declared.item.Item.{Item}
 use Rattle.config_patterns.specs.declared.edge.Edge.{Edge}
 use Rattle.weighted_automata.specs.declared.place.Place.{Place}
-use Rattle.weight_tables.specs.Entries.{TableEntry, lowered_in, weight_in}
+use Rattle.weight_tables.specs.Entries.{lowered_in, weight_in}
 use Rattle.weight_tables.specs.Tables.{TablesValue, AreTables, with_entries}
 use Rattle.weight_tables.specs.declared.layer.Layer.TheVariants.{Walk}
 use Rattle.walk_pairs.specs.declared.pairs.Stage.{Stage}
-use Rattle.walk_pairs.specs.Pairs.{pair_place, answer_place}
-use Rattle.walk_pairs.specs.Lowerings.{ArePairsLowered}
-use Rattle.walk_pairs.specs.Giving.{IsReadingOn, IsReading, IsEnding}
-use Rattle.walk_pairs.specs.Ways.{TakesAt}
+use Rattle.walk_pairs.specs.Giving.{IsReadingOn, IsReading}
 use Rattle.walk_pairs.specs.private.Steps.{IsBoth}
 use Rattle.walk_pairs.proofs.LoweringLemmas.{one_below}
-use Rattle.walk_pairs.proofs.PairLemmas.{one_pair}
 
 module _ {S W Map : Type 0} {s : Operations W Map} (v : TablesValue S W Map) (valid : AreTables s v) (stage : Stage) where
   pub both_fit : (one other : List Item) (next b : ℕ) (x : Place) (w : W) → IsBoth s v stage one other next b x w → Fits s w

@@ -1,16 +1,14 @@
 -- Where edges lead.
 use Rattle.std.proofs.Common.{◌≡◌, ◌⊎◌, inl, inr, ℕ, zero, suc, ◌<◌, ◌≤◌, ◌+◌, ◌-◌, Bool, true, false, List, [], ◌∷◌, length, drop, refl, sym, ap, ◌∙◌, subst, arith}
-use Rattle.std.specs.Prelude.{◌↔◌, IsTrue, IsFalse, Some, None, slice_get, ◌&&◌, if◌then◌else◌}
+use Rattle.std.specs.Prelude.{◌↔◌, IsTrue, Some, slice_get, ◌&&◌, if◌then◌else◌}
 use Rattle.std.proofs.lemmas.Bool.{and_parts, and_from, false≢true, cases_Bool, cases_lt}
 use Rattle.std.proofs.lemmas.Option.{same_Some, slice_get_within}
 use Rattle.wpds_base.specs.Lists.{IsIn}
 use Rattle.config_patterns.specs.declared.item.Item.{Item}
-use Rattle.config_patterns.specs.declared.edge.Edge.{Edge}
 use Rattle.config_patterns.specs.Membership.{has_symbol}
 use Rattle.config_patterns.specs.Edges.{edges_of, leads_to, stays_on}
 use Rattle.config_patterns.specs.Paths.{IsEdge}
 use Rattle.config_patterns.proofs.CallerLemmas.{edges_are}
-use Rattle.walk_pairs.specs.declared.ways.Ways.{Ways}
 use Rattle.walk_pairs.specs.Ways.{TakesAt, StaysAt, IsLastWay, AreWays}
 
 -- what stands at a place of the rest stands further on

@@ -4,9 +4,9 @@ use Rattle.wpds_base.specs.Lists.{IsIn}
 use Rattle.semiring_laws.specs.Semiring.{Operations, Below}
 use Rattle.config_patterns.specs.declared.item.Item.{Item}
 use Rattle.config_patterns.specs.declared.edge.Edge.{Edge}
-use Rattle.config_patterns.specs.Edges.{edges_of, is_final_of}
+use Rattle.config_patterns.specs.Edges.{is_final_of}
 use Rattle.weighted_automata.specs.declared.place.Place.{Place}
-use Rattle.weight_tables.specs.Entries.{TableEntry, weight_in}
+use Rattle.weight_tables.specs.Entries.{weight_in}
 use Rattle.weight_tables.specs.Tables.{TablesValue, entries_of}
 use Rattle.weight_tables.specs.declared.layer.Layer.{Layer}
 use Rattle.weight_tables.specs.declared.layer.Layer.TheVariants.{Base, Target, Walk}

@@ -1,5 +1,5 @@
 -- Where the edges of a pattern lead from a state.
-use Rattle.std.specs.Prelude.{◌≡◌, ◌⊎◌, ◌↔◌, ℕ, suc, ◌+◌, ◌-◌, ◌≤◌, ◌<◌, IsTrue, IsFalse, List, length, Some, slice_get}
+use Rattle.std.specs.Prelude.{◌≡◌, ◌⊎◌, ◌↔◌, ℕ, ◌+◌, ◌-◌, ◌≤◌, ◌<◌, IsTrue, IsFalse, List, length, Some, slice_get}
 use Rattle.wpds_base.specs.Lists.{IsIn}
 use Rattle.config_patterns.specs.declared.item.Item.{Item}
 use Rattle.config_patterns.specs.Membership.{has_symbol}

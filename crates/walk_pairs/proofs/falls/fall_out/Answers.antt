@@ -1,12 +1,11 @@
-use Rattle.std.proofs.Common.{◌≡◌, ℕ, ◌<◌, ◌+◌, List, length, refl, sym, ap, ◌∙◌, subst}
+use Rattle.std.proofs.Common.{◌≡◌, ℕ, ◌<◌, ◌+◌, List, length, sym, ap, ◌∙◌, subst}
 use Rattle.std.specs.Prelude.{Option, Some, slice_get}
 use Rattle.std.proofs.lemmas.Bool.{eqb-true}
-use Rattle.std.proofs.lemmas.Option.{same_Some}
 use Rattle.key_rows.specs.Rows.{index_from}
 use Rattle.weight_tables.specs.Entries.{TableEntry, is_out_of}
-use Rattle.weight_tables.specs.Tables.{TablesValue, entries_of, with_entries}
+use Rattle.weight_tables.specs.Tables.{entries_of, with_entries}
 use Rattle.weight_tables.specs.declared.layer.Layer.TheVariants.{Walk}
-use Rattle.weight_tables.proofs.CallerLemmas.{IsRowWalk, to_go, walk_starts, walk_at, walk_within, walk_goes_on, walk_ends, less_to_go}
+use Rattle.weight_tables.proofs.CallerLemmas.{to_go, walk_starts, walk_at, walk_within, walk_goes_on, walk_ends, less_to_go}
 use Rattle.walk_pairs.specs.Giving.{IsFallOn}
 use Rattle.walk_pairs.specs.Lowerings.{ArePairsLowered}
 use Rattle.walk_pairs.specs.Ways.{TakesAt}

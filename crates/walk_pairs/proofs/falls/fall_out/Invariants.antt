@@ -1,4 +1,4 @@
-use Rattle.std.proofs.Common.{◌≡◌, length}
+use Rattle.std.proofs.Common.{length}
 use Rattle.weight_tables.specs.Entries.{is_out_of}
 use Rattle.weight_tables.specs.Tables.{entries_of}
 use Rattle.weight_tables.proofs.CallerLemmas.{IsRowWalk, to_go}

@@ -3,11 +3,10 @@ use Rattle.std.specs.Prelude.{Option, Some, slice_get}
 use Rattle.key_rows.specs.Rows.{index_from}
 use Rattle.weighted_automata.specs.declared.place.Label.TheVariants.{Symbol}
 use Rattle.weight_tables.specs.Entries.{TableEntry, is_from}
-use Rattle.weight_tables.specs.Tables.{TablesValue, entries_of, with_entries}
-use Rattle.weight_tables.proofs.CallerLemmas.{IsRowWalk, to_go, walk_starts, walk_at, walk_within, walk_goes_on, walk_ends, less_to_go}
+use Rattle.weight_tables.specs.Tables.{entries_of}
+use Rattle.weight_tables.proofs.CallerLemmas.{to_go, walk_starts, walk_at, walk_within, walk_goes_on, walk_ends, less_to_go}
 use Rattle.walk_pairs.specs.Giving.{IsFallOn}
-use Rattle.walk_pairs.specs.Lowerings.{ArePairsLowered}
-use Rattle.walk_pairs.proofs.PairLemmas.{same_layer, at_old, none_pairs, pairs_then}
+use Rattle.walk_pairs.proofs.PairLemmas.{same_layer, none_pairs, pairs_then}
 use Rattle.walk_pairs.proofs.FallLemmas.{IsEntryMet, from_row, row_goes_on, row_skips, all_met, all_fit, fall_made, entry_later, entry_step, entry_met}
 use Rattle.walk_pairs.proofs.falls.fall_row.Goals as goal
 

@@ -1,4 +1,4 @@
-use Rattle.std.proofs.Common.{◌≡◌, inl, inr, ℕ, ◌<◌, ◌≤◌, ◌+◌, get_or, refl, sym, ap, ◌∙◌, subst, arith, List}
+use Rattle.std.proofs.Common.{◌≡◌, inl, inr, ℕ, get_or, refl, sym, ap, ◌∙◌, subst, arith, List}
 use Rattle.std.specs.Prelude.{IsTrue}
 use Rattle.std.proofs.lemmas.Bool.{cases_lt}
 use Rattle.std.proofs.lemmas.Option.{same_Some, get_or_from_slice_get}
@@ -6,7 +6,7 @@ use Rattle.semiring_laws.specs.Semiring.{Below}
 use Rattle.config_patterns.specs.declared.item.Item.{Item}
 use Rattle.config_patterns.specs.Membership.{has_symbol}
 use Rattle.weight_tables.specs.Entries.{weight_in}
-use Rattle.weight_tables.specs.Tables.{TablesValue, with_entries}
+use Rattle.weight_tables.specs.Tables.{with_entries}
 use Rattle.weight_tables.specs.declared.layer.Layer.TheVariants.{Walk}
 use Rattle.walk_pairs.specs.Giving.{IsFallOn, worth_over}
 use Rattle.walk_pairs.specs.Pairs.{pair_place}

@@ -1,4 +1,4 @@
-use Rattle.std.proofs.Common.{◌≡◌, ℕ, ◌<◌, get_or}
+use Rattle.std.proofs.Common.{ℕ, ◌<◌, get_or}
 use Rattle.semiring_laws.specs.Semiring.{Below}
 use Rattle.weight_tables.specs.Entries.{weight_in}
 use Rattle.walk_pairs.specs.Giving.{IsFallOn, worth_over}

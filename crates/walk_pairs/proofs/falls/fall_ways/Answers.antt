@@ -1,9 +1,9 @@
-use Rattle.std.proofs.Common.{◌≡◌, inl, inr, ℕ, ◌<◌, ◌≤◌, ◌+◌, refl, sym, ap, ◌∙◌, subst, arith}
+use Rattle.std.proofs.Common.{◌≡◌, inl, inr, ℕ, subst, arith}
 use Rattle.std.proofs.lemmas.Bool.{cases_lt}
 use Rattle.semiring_laws.specs.Semiring.{Below}
 use Rattle.config_patterns.specs.Edges.{edges_of}
 use Rattle.weight_tables.specs.Entries.{weight_in}
-use Rattle.weight_tables.specs.Tables.{TablesValue, with_entries}
+use Rattle.weight_tables.specs.Tables.{with_entries}
 use Rattle.weight_tables.specs.declared.layer.Layer.TheVariants.{Walk}
 use Rattle.walk_pairs.specs.Giving.{IsFallOn, IsFall, worth_over}
 use Rattle.walk_pairs.specs.Pairs.{pair_place}

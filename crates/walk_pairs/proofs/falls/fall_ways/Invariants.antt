@@ -1,4 +1,4 @@
-use Rattle.std.proofs.Common.{◌≡◌, ℕ, ◌<◌, ◌≤◌}
+use Rattle.std.proofs.Common.{ℕ, ◌<◌, ◌≤◌}
 use Rattle.semiring_laws.specs.Semiring.{Below}
 use Rattle.config_patterns.specs.Edges.{edges_of}
 use Rattle.weight_tables.specs.Entries.{weight_in}

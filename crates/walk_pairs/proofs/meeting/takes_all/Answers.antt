@@ -1,4 +1,4 @@
-use Rattle.std.proofs.Common.{◌≡◌, ℕ, length, sym, ◌∙◌}
+use Rattle.std.proofs.Common.{◌≡◌, length, sym, ◌∙◌}
 use Rattle.std.proofs.lemmas.Bool.{eqb-true}
 use Rattle.walk_pairs.proofs.SetLemmas.{all_symbols}
 use Rattle.walk_pairs.proofs.meeting.takes_all.Goals as goal

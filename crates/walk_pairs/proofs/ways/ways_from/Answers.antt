@@ -1,4 +1,4 @@
-use Rattle.std.proofs.Common.{◌≡◌, ℕ, ◌+◌, Bool, true, false, sym, ap, refl, ◌∙◌, arith}
+use Rattle.std.proofs.Common.{◌≡◌, ◌+◌, Bool, sym, ap, ◌∙◌, arith}
 use Rattle.std.specs.Prelude.{if◌then◌else◌}
 use Rattle.walk_pairs.proofs.WayLemmas.{ways_are, no_ways}
 use Rattle.walk_pairs.proofs.ways.ways_from.Goals.{then-stays_at, else-stays_at}
