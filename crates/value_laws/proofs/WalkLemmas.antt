@@ -148,11 +148,17 @@ module _ {S W Map : Type 0} {operations : S → Operations W Map} {p : Pushdown 
   pub begin_sums : Sound (Down 0 from.control) s.one
   begin_sums = sums_one laws value (fv valid laws) (Down 0 from.control) [] (record { word = []; reads = refl; goes = refl })
 
-  module _ (i g j : ℕ) (edge : IsIn (record { from = i; symbol = g; to = j }) source) where
-    pub fall_sums : (c q : ℕ) (v w : W) → Sound (Down i c) v → Sound (Pops p c g q) w → Sound (Down j q) (s.extend v w)
-    fall_sums c q v w one two =
-        sums_pairs laws value (fv valid laws) (Down i c) (Pops p c g q) (Down j q) ◌++◌ s.extend (λ b fb. linear_right laws b fb) (λ a fa. linear_left laws a fa)
-        (λ a b down goes. (
+  -- runs of a kind, each of which uses up a stack that is read to a state with an edge over the symbol
+  module _ (Is : List ℕ → Type 0) (g j : ℕ) where
+    abbrev HasEdge : ℕ → Type 0
+    HasEdge c = (run : List ℕ) → Is run → (i : ℕ) × IsIn (record { from = i; symbol = g; to = j }) source × Down i c run
+
+    pub fall_runs : (c q : ℕ) → HasEdge c → (v w : W) → Sound Is v → Sound (Pops p c g q) w → Sound (Down j q) (s.extend v w)
+    fall_runs c q has v w one two =
+        sums_pairs laws value (fv valid laws) Is (Pops p c g q) (Down j q) ◌++◌ s.extend (λ b fb. linear_right laws b fb) (λ a fa. linear_left laws a fa)
+        (λ a b is goes.
+        let (i, edge, down) = has a is in
+        (
           record {
             word = down.word ++ g ∷ [];
             reads = reads_then source 0 down.word i g j down.reads edge;
@@ -162,10 +168,12 @@ module _ {S W Map : Type 0} {operations : S → Operations W Map} {p : Pushdown 
           joined_value valid laws a b (at_stack from.control down.word) (at_stack c []) down.goes refl,
         )) v w one two
 
-    pub enter_sums : (c a : ℕ) (v w : W) → Sound (Down i c) v → Sound (Enters p to.control target c g a) w → Sound (Across j a) (s.extend v w)
-    enter_sums c e v w one two =
-        sums_pairs laws value (fv valid laws) (Down i c) (Enters p to.control target c g e) (Across j e) ◌++◌ s.extend (λ b fb. linear_right laws b fb) (λ a fa. linear_left laws a fa)
-        (λ a b down enter. (
+    pub enter_runs : (c e : ℕ) → HasEdge c → (v w : W) → Sound Is v → Sound (Enters p to.control target c g e) w → Sound (Across j e) (s.extend v w)
+    enter_runs c e has v w one two =
+        sums_pairs laws value (fv valid laws) Is (Enters p to.control target c g e) (Across j e) ◌++◌ s.extend (λ b fb. linear_right laws b fb) (λ a fa. linear_left laws a fa)
+        (λ a b is enter.
+        let (i, edge, down) = has a is in
+        (
           record {
             word = down.word ++ g ∷ [];
             left = enter.word;
@@ -176,6 +184,13 @@ module _ {S W Map : Type 0} {operations : S → Operations W Map} {p : Pushdown 
           },
           joined_value valid laws a b (at_stack from.control down.word) (at_stack c []) down.goes refl,
         )) v w one two
+
+  module _ (i g j : ℕ) (edge : IsIn (record { from = i; symbol = g; to = j }) source) where
+    pub fall_sums : (c q : ℕ) (v w : W) → Sound (Down i c) v → Sound (Pops p c g q) w → Sound (Down j q) (s.extend v w)
+    fall_sums c q v w one two = fall_runs (Down i c) g j c q (λ run down. (i, edge, down)) v w one two
+
+    pub enter_sums : (c a : ℕ) (v w : W) → Sound (Down i c) v → Sound (Enters p to.control target c g a) w → Sound (Across j a) (s.extend v w)
+    enter_sums c e v w one two = enter_runs (Down i c) g j c e (λ run down. (i, edge, down)) v w one two
 
     -- a run that crosses does so over a symbol more
     pub crosses_on : (a b : ℕ) → IsIn (record { from = a; symbol = g; to = b }) target → (run : List ℕ) → Across i a run → Across j b run

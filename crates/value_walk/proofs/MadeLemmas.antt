@@ -9,15 +9,15 @@ use Rattle.config_patterns.specs.Edges.{edges_of}
 use Rattle.config_patterns.specs.Membership.{PatternValue, has_member}
 use Rattle.weighted_automata.specs.declared.place.Place.{Place}
 use Rattle.weight_tables.specs.Tables.{TablesValue}
-use Rattle.walk_pairs.specs.declared.pairs.Stage.TheVariants.{Down, Across, Before}
+use Rattle.walk_pairs.specs.declared.pairs.Stage.TheVariants.{Down, Across, Before, Above}
 use Rattle.walk_pairs.specs.Pairs.{pair_place, answer_place}
 use Rattle.value_laws.specs.Runs.{Sums}
 use Rattle.walk_pairs.specs.Reading.{IsStand, IsStep, ComesBefore}
 use Rattle.walk_pairs.proofs.CallerLemmas.{stands_comes, skip_comes, comes_edge, comes_final}
 use Rattle.value_laws.specs.Walk.{Descends, Crosses}
-use Rattle.value_laws.proofs.CallerLemmas.{sums_none, sums_combine, sums_within, begin_sums, fall_sums, enter_sums, crosses_on, meet_sums, crosses_lead}
+use Rattle.value_laws.proofs.CallerLemmas.{sums_none, sums_combine, sums_within, begin_sums, fall_runs, enter_runs, crosses_on, meet_sums, crosses_lead}
 use Rattle.value_walk.specs.Answering.{ArePopSums, AreEnterSums, pops_in, enters_in}
-use Rattle.value_walk.specs.private.Walking.{Stands, Goes, IsMade, IsGivenDown}
+use Rattle.value_walk.specs.private.Walking.{Stands, Hangs, Goes, IsMade, IsGivenDown, IsGivenAbove}
 
 module _ {S W Map : Type 0} {operations : S → Operations W Map} {p : Pushdown S W Map} (system : IsSystem operations p) (laws : IsSemiring (operations p.semiring)) (from to : PatternValue) where
   abbrev s : Operations W Map
@@ -42,21 +42,34 @@ module _ {S W Map : Type 0} {operations : S → Operations W Map} (v : TablesVal
   abbrev ours : Operations W Map
   ours = operations v.system.semiring
 
-  pub down_made : ArePopSums ours v → AreEnterSums ours v to → (i c : ℕ) → IsMade from to v.system ours (pair_place Down i c) v.hand
-      → (x : Place) (w : W) → IsGivenDown ours from to v i c x w → IsMade from to v.system ours x w
-  down_made pops enters i c made x w (inl is) =
-      at_place system laws from to x (pair_place Down is.next is.to) (ours.extend v.hand (pops_in ours v c is.symbol is.to)) w is.place is.weight
-      (fall_sums system laws from to i is.symbol is.next is.edge c is.to v.hand (pops_in ours v c is.symbol is.to) made (pops c is.symbol is.to).sums)
-  down_made pops enters i c made x w (inr (inl is)) =
-      at_place system laws from to x (pair_place Across is.next is.to) (ours.extend v.hand (enters_in ours v c is.symbol is.to)) w is.place is.weight
-      (enter_sums system laws from to i is.symbol is.next is.edge c is.to v.hand (enters_in ours v c is.symbol is.to) made (enters c is.symbol is.to).sums)
-  down_made pops enters i c made x w (inr (inr is)) =
-      let P : ℕ → Type 0 = λ q. Sums ours (value_of ours v.system) (Descends v.system from.control (edges_of from.items) i q) v.hand in
-      at_place system laws from to x (pair_place Across i 0) v.hand w is.place is.weight (meet_sums system laws from to i v.hand (subst P is.control made))
-
   -- what runs of one kind are made of, where all of it is of another kind
   within : (Is Or : List ℕ → Type 0) → ((run : List ℕ) → Is run → Or run) → (w : W) → Sums ours (value_of ours v.system) Is w → Sums ours (value_of ours v.system) Or w
   within Is Or wider w sums = sums_within laws (value_of ours v.system) (value_fits system laws) Is Or wider w sums
+
+  abbrev Fall : ℕ → ℕ → List ℕ → Type 0
+  Fall = Descends v.system from.control (edges_of from.items)
+
+  pub down_made : (i c : ℕ) → IsMade from to v.system ours (pair_place Down i c) v.hand → (x : Place) (w : W) → IsGivenDown ours from to v i c x w → IsMade from to v.system ours x w
+  down_made i c made x w (inl is) =
+      at_place system laws from to x (pair_place Above is.item c) v.hand w is.place is.weight
+      (within (Fall i c) (Hangs from to v.system is.item c) (λ run descends. record { state = i; comes = stands_comes from.items i is.item is.stands; descends = descends }) v.hand made)
+  down_made i c made x w (inr is) =
+      let P : ℕ → Type 0 = λ q. Sums ours (value_of ours v.system) (Fall i q) v.hand in
+      at_place system laws from to x (pair_place Across i 0) v.hand w is.place is.weight (meet_sums system laws from to i v.hand (subst P is.control made))
+
+  pub above_made : ArePopSums ours v → AreEnterSums ours v to → (k c : ℕ) → IsMade from to v.system ours (pair_place Above k c) v.hand
+      → (x : Place) (w : W) → IsGivenAbove ours from to v k c x w → IsMade from to v.system ours x w
+  above_made pops enters k c made x w (inl is) =
+      at_place system laws from to x (pair_place Above (suc k) c) v.hand w is.place is.weight
+      (within (Hangs from to v.system k c) (Hangs from to v.system (suc k) c) (λ run h. record { state = h.state; comes = skip_comes from.items h.state k h.comes is.skipped; descends = h.descends }) v.hand made)
+  above_made pops enters k c made x w (inr (inl is)) =
+      at_place system laws from to x (pair_place Down (suc k) is.to) (ours.extend v.hand (pops_in ours v c is.symbol is.to)) w is.place is.weight
+      (fall_runs system laws from to (Hangs from to v.system k c) is.symbol (suc k) c is.to (λ run h. (h.state, comes_edge from.items h.state k is.symbol h.comes is.has, h.descends)) v.hand (pops_in ours v c is.symbol is.to) made
+      (pops c is.symbol is.to).sums)
+  above_made pops enters k c made x w (inr (inr is)) =
+      at_place system laws from to x (pair_place Across (suc k) is.to) (ours.extend v.hand (enters_in ours v c is.symbol is.to)) w is.place is.weight
+      (enter_runs system laws from to (Hangs from to v.system k c) is.symbol (suc k) c is.to (λ run h. (h.state, comes_edge from.items h.state k is.symbol h.comes is.has, h.descends)) v.hand (enters_in ours v c is.symbol is.to) made
+      (enters c is.symbol is.to).sums)
 
   abbrev Cross : ℕ → ℕ → List ℕ → Type 0
   Cross = Crosses v.system from.control (edges_of from.items) to.control (edges_of to.items)

@@ -14,7 +14,7 @@ use Rattle.weight_tables.specs.Turns.{turns_left}
 use Rattle.weight_tables.specs.declared.layer.Layer.TheVariants.{Walk}
 use Rattle.weight_tables.proofs.CallerLemmas.{place_fits, taken_weight, index_there, weight_at_index, taken_turns}
 use Rattle.walk_pairs.specs.declared.pairs.Stage.{Stage}
-use Rattle.walk_pairs.specs.declared.pairs.Stage.TheVariants.{Down, Across, Before}
+use Rattle.walk_pairs.specs.declared.pairs.Stage.TheVariants.{Down, Across, Before, Above}
 use Rattle.walk_pairs.specs.Pairs.{number_of, pair_place, answer_place, place_over}
 use Rattle.walk_pairs.specs.Lowerings.{AreLowered, ArePairsLowered}
 use Rattle.walk_pairs.specs.Reading.{IsStand, IsStep}
@@ -23,15 +23,16 @@ use Rattle.value_laws.specs.Settled.{AreWeights}
 use Rattle.value_laws.proofs.CallerLemmas.{answer_below, sum_answers}
 use Rattle.walk_pairs.specs.Answering.{IsAnswered, IsWalkedOver}
 use Rattle.value_walk.specs.Answering.{pops_in, enters_in, ArePopSums, AreEnterSums}
-use Rattle.value_walk.specs.private.Walking.{IsMade, IsWalking, IsGivenDown, IsPlaceGiven, down_in, across_in, answer_in}
-use Rattle.value_walk.proofs.GivenLemmas.{down_fits, stand_fits, step_fits}
-use Rattle.value_walk.proofs.MadeLemmas.{made_none, made_joins, made_first, at_place, down_made, stand_made, step_made}
+use Rattle.value_walk.specs.private.Walking.{IsMade, IsWalking, IsGivenDown, IsGivenAbove, IsPlaceGiven, down_in, across_in, answer_in}
+use Rattle.value_walk.proofs.GivenLemmas.{down_fits, above_fits, stand_fits, step_fits}
+use Rattle.value_walk.proofs.MadeLemmas.{made_none, made_joins, made_first, at_place, down_made, above_made, stand_made, step_made}
 use Rattle.value_walk.proofs.SettleLemmas.{AreSettled, done_settled, first_settled, turn_settled}
 
-number_small : (stage : Stage) → number_of stage < 3
+number_small : (stage : Stage) → number_of stage < 4
 number_small Down = omega arith
 number_small Across = omega arith
 number_small Before = omega arith
+number_small Above = omega arith
 
 abbrev IsNoPair : Place → Type 0
 IsNoPair x = (stage : Stage) (i y : ℕ) → x ≡ pair_place stage i y → ⊥
@@ -42,7 +43,8 @@ which_pair : (f : ℕ) (l : Label) (t : ℕ) → let x : Place = record { from =
 which_pair zero (Symbol i) t = inl (Down, i, t, refl)
 which_pair (suc zero) (Symbol i) t = inl (Across, i, t, refl)
 which_pair (suc (suc zero)) (Symbol i) t = inl (Before, i, t, refl)
-which_pair (suc (suc (suc n))) (Symbol i) t = inr (λ stage j y e. let same : suc (suc (suc n)) ≡ number_of stage = ap (λ (p : Place). p.from) e in let small = number_small stage in omega (arith, same, small))
+which_pair (suc (suc (suc zero))) (Symbol i) t = inl (Above, i, t, refl)
+which_pair (suc (suc (suc (suc n)))) (Symbol i) t = inr (λ stage j y e. let same : suc (suc (suc (suc n))) ≡ number_of stage = ap (λ (p : Place). p.from) e in let small = number_small stage in omega (arith, same, small))
 which_pair f Empty t = inr (λ stage j y e. let same : Empty ≡ Symbol j = ap (λ (p : Place). p.label) e in cc)
 
 -- an entry that was taken stands where it stood
@@ -98,7 +100,7 @@ module _ {S W Map : Type 0} (operations : S → Operations W Map) (v : TablesVal
       -- what was taken has given all that it gives, and the rest was settled
       settled_by : (Is : Place → W → Type 0) → ((x : Place) (w : W) → Is x w → Fits s w) → ArePairsLowered s Is at_hand new → IsPlaceGiven s from to e.place at_hand new → Settled new.walk
       settled_by Is fit lowered given =
-          turn_settled laws from to (pops_in s v) (enters_in s v) pops_fit enters_fit v.walk valid.walk t e there valid'.hand valid'.walk.fits Is fit new.walk lowered.pairs (λ i c is. (given.down i c is).met)
+          turn_settled laws from to (pops_in s v) (enters_in s v) pops_fit enters_fit v.walk valid.walk t e there valid'.hand valid'.walk.fits Is fit new.walk lowered.pairs (λ i c is. (given.down i c is).met) (λ k c is. (given.above k c is).met)
           (λ i a is. (given.across i a is).met) (λ k l is. (given.before k l is).met) walking.settled
 
       made_here : (x : Place) → e.place ≡ x → IsMade from to v.system s x e.weight
@@ -110,11 +112,15 @@ module _ {S W Map : Type 0} (operations : S → Operations W Map) (v : TablesVal
       of_stage Down i c is given =
           let all = given.down i c is in
           let fit = down_fits operations at_hand laws valid' from to i c in
-          conclude (IsGivenDown s from to at_hand i c) fit (down_made at_hand system laws from to pops enters i c (made_here (pair_place Down i c) is)) all.lowered (settled_by (IsGivenDown s from to at_hand i c) fit all.lowered given)
+          conclude (IsGivenDown s from to at_hand i c) fit (down_made at_hand system laws from to i c (made_here (pair_place Down i c) is)) all.lowered (settled_by (IsGivenDown s from to at_hand i c) fit all.lowered given)
       of_stage Across i a is given =
           let all = given.across i a is in
           let fit = stand_fits operations at_hand laws valid' from to i a in
           conclude (IsStand e.weight from.items to.items i a) fit (stand_made at_hand system laws from to i a (made_here (pair_place Across i a) is)) all.lowered (settled_by (IsStand e.weight from.items to.items i a) fit all.lowered given)
+      of_stage Above k c is given =
+          let all = given.above k c is in
+          let fit = above_fits operations at_hand laws valid' from to k c in
+          conclude (IsGivenAbove s from to at_hand k c) fit (above_made at_hand system laws from to pops enters k c (made_here (pair_place Above k c) is)) all.lowered (settled_by (IsGivenAbove s from to at_hand k c) fit all.lowered given)
       of_stage Before k l is given =
           let all = given.before k l is in
           let fit = step_fits operations at_hand laws valid' from to k l in

@@ -1,9 +1,14 @@
-ghost use Rattle.std.specs.Prelude.{OnOk};
-ghost use Rattle.value_walk.specs.private.Walking.{IsMeetingGiven, IsDownGiven, IsPlaceGiven};
+ghost use Rattle.std.specs.Prelude.{suc, OnOk};
+ghost use Rattle.walk_pairs.specs.Giving.{IsKept, AreFallsOnGiven};
+ghost use Rattle.walk_pairs.specs.Ways.{TakesAt};
+ghost use Rattle.walk_pairs.specs.declared.pairs.Order.TheVariants.{Then};
+ghost use Rattle.value_walk.specs.private.Walking.{IsMeetingGiven, IsDownGiven, IsAboveGiven, IsPlaceGiven};
 
 use config_patterns::Pattern;
 use semiring_laws::Semiring;
-use walk_pairs::{Order, Stage, fall_ways, pair_at, pair_place, read_items, read_on};
+use walk_pairs::{
+    Order, Stage, fall_item, pair_at, pair_place, read_items, read_on, read_state, skip_item,
+};
 use weight_tables::{Layer, Tables, Weigher};
 use weighted_automata::Place;
 use wpds_base::OutOfMemory;
@@ -38,24 +43,44 @@ fn give_down<'s, S: Semiring, M: Weigher<S>>(
 {
     tables.valid();
     meet(tables, to, state, control)?;
-    fall_ways(
-        tables,
-        Order::Then,
-        Layer::Base,
-        Stage::Down,
-        control,
-        from,
-        state,
-    )?;
-    fall_ways(
-        tables,
-        Order::Then,
-        Layer::Target,
-        Stage::Across,
-        control,
-        from,
-        state,
-    )?;
+    read_state(tables, from, state, control)?;
+    Ok(())
+}
+
+// Along what leads from a control over a symbol of an item, to a control and into the target.
+fn fall_from<'s, S: Semiring, M: Weigher<S>>(
+    tables: &mut Tables<'s, S, M>,
+    layer: Layer,
+    stage: Stage,
+    from: &Pattern,
+    item: u32,
+    control: u32,
+) -> Result<(), OutOfMemory>
+    requires { IsKept layer }
+    ensures { let s = S.operations tables.old.system.semiring in OnOk result
+        (AreFallsOnGiven s tables.old Then layer stage control
+        (TakesAt from.now.items (suc item)) (suc item) tables.new) }
+{
+    let then = Order::Then;
+    fall_item(tables, then, layer, stage, control, from, item)
+}
+
+// Gives all that an item that is read next above a control gives, whose weight is in hand.
+fn give_above<'s, S: Semiring, M: Weigher<S>>(
+    tables: &mut Tables<'s, S, M>,
+    from: &Pattern,
+    to: &Pattern,
+    item: u32,
+    control: u32,
+) -> Result<(), OutOfMemory>
+    ensures { let s = S.operations tables.old.system.semiring in
+        OnOk result (IsAboveGiven s from.now to.now item control tables.old tables.new) }
+{
+    tables.valid();
+    to.control();
+    skip_item(tables, from, item, control)?;
+    fall_from(tables, Layer::Base, Stage::Down, from, item, control)?;
+    fall_from(tables, Layer::Target, Stage::Across, from, item, control)?;
     Ok(())
 }
 
@@ -79,6 +104,10 @@ pub(crate) fn give<'s, S: Semiring, M: Weigher<S>>(
         }
         Stage::Across => {
             read_on(tables, from, pair.state, to, pair.to)?;
+            Ok(())
+        }
+        Stage::Above => {
+            give_above(tables, from, to, pair.state, pair.to)?;
             Ok(())
         }
         Stage::Before => {

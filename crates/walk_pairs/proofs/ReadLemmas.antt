@@ -1,8 +1,8 @@
 -- Two patterns that read one stack: what is lowered, and that settled pairs go along all edges of both.
-use Rattle.std.proofs.Common.{◌≡◌, ◌⊎◌, inl, inr, ℕ, zero, suc, ◌<◌, ◌≤◌, ◌+◌, ◌-◌, Bool, true, List, [], ◌∷◌, length, drop, refl, sym, ap, ◌∙◌, subst, arith}
+use Rattle.std.proofs.Common.{◌≡◌, ◌⊎◌, inl, inr, ℕ, zero, suc, ◌<◌, ◌≤◌, ◌+◌, ◌-◌, Bool, true, false, List, [], ◌∷◌, length, drop, refl, sym, ap, ◌∙◌, subst, arith}
 use Rattle.std.specs.Prelude.{◌↔◌, IsTrue, Some, slice_get, nat_le}
 use Rattle.std.specs.List.{list_all}
-use Rattle.std.proofs.lemmas.Bool.{and_parts, and_from, cases_lt, leb-true, le-leb}
+use Rattle.std.proofs.lemmas.Bool.{false≢true, and_parts, and_from, cases_lt, leb-true, le-leb}
 use Rattle.std.proofs.lemmas.Option.{same_Some, slice_get_within}
 use Rattle.wpds_base.specs.Lists.{IsIn}
 use Rattle.semiring_laws.specs.Semiring.{Operations, IsSemiring, Fits, Below}
@@ -17,10 +17,10 @@ use Rattle.weight_tables.specs.Entries.{lowered_in, weight_in}
 use Rattle.weight_tables.specs.Tables.{TablesValue, AreTables, with_entries}
 use Rattle.weight_tables.specs.declared.layer.Layer.TheVariants.{Walk}
 use Rattle.walk_pairs.specs.declared.pairs.Stage.{Stage}
-use Rattle.walk_pairs.specs.declared.pairs.Stage.TheVariants.{Before}
+use Rattle.walk_pairs.specs.declared.pairs.Stage.TheVariants.{Before, Above}
 use Rattle.walk_pairs.specs.Lowerings.{ArePairsLowered}
 use Rattle.walk_pairs.specs.Pairs.{pair_place, answer_place}
-use Rattle.walk_pairs.specs.Reading.{IsSkipped, StandsBefore, ComesBefore, IsPairRead, IsBeforeRead, AreReadingsSettled, IsStand, IsStep, IsPairGiven, IsBeforeGiven}
+use Rattle.walk_pairs.specs.Reading.{IsSkipped, StandsBefore, ComesBefore, IsStateRead, IsItemSkipped, IsStateStand, IsItemSkip, IsStateGiven, IsSkipGiven, IsPairRead, IsBeforeRead, AreReadingsSettled, IsStand, IsStep, IsPairGiven, IsBeforeGiven}
 use Rattle.walk_pairs.specs.Ways.{StaysAt, TakesAt}
 use Rattle.walk_pairs.specs.private.Steps.{IsLoweredWhere}
 use Rattle.walk_pairs.proofs.LoweringLemmas.{one_below}
@@ -446,3 +446,87 @@ module _ {S W Map : Type 0} (operations : S → Operations W Map) (v v1 v2 v3 v4
 
   pub fourth_first : IsLoweredWhere (operations v.system.semiring) b4 x4 v3 v4
   fourth_first = at_first b4 x4 v3 v4 same3 four
+
+-- ---- one pattern alone
+-- where nothing is to be lowered, nothing is
+pub nothing_lowered : {S W Map : Type 0} (s : Operations W Map) (x : Place) (v : TablesValue S W Map) → IsLoweredWhere s false x v v
+nothing_lowered s x v = record { lowered = none_pairs s (λ y w. (false ≡ true) × (y ≡ x) × (w ≡ v.hand)) v; met = λ e. absurd (false≢true e) }
+
+module _ {W Map : Type 0} {s : Operations W Map} (laws : IsSemiring s) (one : List Item) where
+  module _ (above above' : ℕ → ℕ → W) (fb : (k c : ℕ) → Fits s (above k c)) (fb' : (k c : ℕ) → Fits s (above' k c)) (fall : (k c : ℕ) → Below s (above' k c) (above k c)) (w w' : W) (fw : Fits s w) (counts : (w' ≡ w) ⊎ (w' ≡ s.zero)) where
+    pub state_kept : (i c : ℕ) → IsStateRead s one i c w above → IsStateRead s one i c w' above'
+    state_kept i c was = record { stands = λ low k stands. below_kept laws one [] (above k c) (above' k c) w w' (fb k c) (fb' k c) fw (fall k c) counts (was.stands low k stands) }
+
+    pub skip_kept : (k c : ℕ) → IsItemSkipped s one k c w above → IsItemSkipped s one k c w' above'
+    skip_kept k c was skipped = below_kept laws one [] (above (suc k) c) (above' (suc k) c) w w' (fb (suc k) c) (fb' (suc k) c) fw (fall (suc k) c) counts (was skipped)
+
+  -- settled, a state goes along all of its edges
+  module _ (state above : ℕ → ℕ → W) (fs : (i c : ℕ) → Fits s (state i c)) (fb : (k c : ℕ) → Fits s (above k c)) (reads : (i c : ℕ) → IsStateRead s one i c (state i c) above)
+      (skips : (k c : ℕ) → IsItemSkipped s one k c (above k c) above) where
+    up : (n k c : ℕ) → ((i : ℕ) → k ≤ i → i < n + k → IsSkipped one i) → Below s (above (n + k) c) (above k c)
+    up zero k c starred = let e : 0 + k ≡ k = omega arith in let P : ℕ → Type 0 = λ q. Below s (above q c) (above k c) in subst P (sym e) (below_itself laws (above k c) (fb k c))
+    up (suc n) k c starred =
+        let e : suc n + k ≡ suc (n + k) = omega arith in
+        let P : ℕ → Type 0 = λ q. Below s (above q c) (above k c) in
+        subst P (sym e) (below_trans laws (above (suc (n + k)) c) (above (n + k) c) (above k c) (fb (suc (n + k)) c) (fb (n + k) c) (fb k c)
+        (skips (n + k) c (starred (n + k) (omega arith) (omega arith))) (up n k c (λ i low high. starred i low (omega (arith, high)))))
+
+    comes_above : (i k c : ℕ) → i ≤ length one → ComesBefore one i k → Below s (above k c) (state i c)
+    comes_above i k c low comes =
+        let m : ℕ = comes.begins in
+        let n : ℕ = k - m in
+        let e : n + m ≡ k = let over = comes.above in omega (arith, over) in
+        let P : ℕ → Type 0 = λ q. Below s (above q c) (above m c) in
+        below_trans laws (above k c) (above m c) (state i c) (fb k c) (fb m c) (fs i c) (subst P e (up n m c (λ j from high. comes.skips j from (omega (arith, high, e))))) ((reads i c).stands low m comes.stands)
+
+    pub edge_above : (g i j c : ℕ) → IsIn (record { from = i; symbol = g; to = j }) (edges_of one) → (k : ℕ) × (j ≡ suc k) × TakesAt one (suc k) g × Below s (above k c) (state i c)
+    edge_above g i j c edge =
+        let (k, to, comes, takes) = edge_comes one i g j edge in
+        let high = slice_get_within one (suc k - 1) takes.0 takes.1 in
+        let low : i ≤ length one = comes_within one i k comes (omega (arith, high)) in
+        (k, to, takes, comes_above i k c low comes)
+
+module _ {S W Map : Type 0} {s : Operations W Map} (laws : IsSemiring s) (v v1 v2 : TablesValue S W Map) (valid : AreTables s v) (one : List Item) where
+  module _ (i c : ℕ) (low : i ≤ length one) (b : Bool) (stays : IsTrue b ↔ StaysAt one i) (k : ℕ) (k-is : k ≡ i - 1) (first : IsLoweredWhere s true (pair_place Above i c) v v1) (second : IsLoweredWhere s b (pair_place Above k c) v1 v2) where
+    abbrev x1 : Place
+    x1 = pair_place Above i c
+
+    abbrev x2 : Place
+    x2 = pair_place Above k c
+
+    none' : IsLoweredWhere s false x2 v2 v2
+    none' = nothing_lowered s x2 v2
+
+    at_item : (n : ℕ) → StandsBefore one i n → Below s (weight_in s v2.walk (pair_place Above n c)) v.hand
+    at_item n stands = elim (before_is one i n stands) [
+      | inl e ↦ let P : ℕ → Type 0 = λ q. Below s (weight_in s v2.walk (pair_place Above q c)) v.hand in subst P (sym e) (met1 laws v v1 v2 v2 v2 valid true b false false x1 x2 x2 x2 first second none' none' refl)
+      | inr (e, is) ↦ let P : ℕ → Type 0 = λ q. Below s (weight_in s v2.walk (pair_place Above q c)) v.hand in
+          subst P (k-is ∙ sym e) (met2 laws v v1 v2 v2 v2 valid true b false false x1 x2 x2 x2 first second none' none' (stays.1 is))
+    ]
+
+    pub state_given : IsStateGiven s v one i c v2
+    state_given = record {
+      lowered = pairs_wider s (IsOneOf laws v v1 v2 v2 v2 valid true b false false x1 x2 x2 x2 first second none' none') (IsStateStand v.hand one i c)
+          (λ x w is. elim is.1 [
+            | inl (_, place) ↦ record { within = low; item = i; stands = inl refl; place = place; weight = is.0 }
+            | inr (inl (on, place)) ↦ record { within = low; item = k; stands = subst (StandsBefore one i) (sym k-is) (stays_before one i (stays.0 on)); place = place; weight = is.0 }
+            | inr (inr (inl (on, _))) ↦ absurd (false≢true on)
+            | inr (inr (inr (on, _))) ↦ absurd (false≢true on)
+          ]) v v2 (four_lowered laws v v1 v2 v2 v2 valid true b false false x1 x2 x2 x2 first second none' none');
+      met = record { stands = λ _. at_item };
+    }
+
+  pub no_state_given : (i c : ℕ) → (i ≤ length one → ⊥) → IsStateGiven s v one i c v
+  no_state_given i c none = record { lowered = none_pairs s (IsStateStand v.hand one i c) v; met = record { stands = λ low _ _. absurd (none low) } }
+
+  pub skip_given : (k c : ℕ) (b : Bool) → (IsTrue b ↔ IsSkipped one k) → IsLoweredWhere s b (pair_place Above (suc k) c) v v1 → IsSkipGiven s v one k c v1
+  skip_given k c b skips first = record {
+    lowered = pairs_wider s (λ x w. (b ≡ true) × (x ≡ pair_place Above (suc k) c) × (w ≡ v.hand)) (IsItemSkip v.hand one k c) (λ x w is. record { skipped = skips.0 is.0; place = is.1; weight = is.2 }) v v1 first.lowered;
+    met = λ skipped. first.met (skips.1 skipped);
+  }
+
+  pub no_skip_given : (k c : ℕ) → (k ≤ length one → ⊥) → IsSkipGiven s v one k c v
+  no_skip_given k c none = record {
+    lowered = none_pairs s (IsItemSkip v.hand one k c) v;
+    met = λ skipped. absurd (none (let low = slice_get_within one k skipped.0 skipped.1 in omega (arith, low)));
+  }

@@ -1,4 +1,4 @@
--- The pairs of a walk: a state of a pattern, with a control or a state of another pattern; and an item of each, which both read next. The pairs of each stage have their places in the layer of the walk, and so has the answer.
+-- The pairs of a walk: a state of a pattern, with a control or a state of another pattern; and an item of it that is read next, with what a state has, or with an item of the other pattern. The pairs of each stage have their places in the layer of the walk, and so has the answer.
 use Rattle.std.specs.Prelude.{ℕ}
 use Rattle.weighted_automata.specs.declared.place.Place.{Place}
 use Rattle.weighted_automata.specs.declared.place.Label.TheVariants.{Symbol, Empty}
@@ -6,12 +6,13 @@ use Rattle.semiring_laws.specs.Semiring.{Operations}
 use Rattle.walk_pairs.specs.declared.pairs.Order.{Order}
 use Rattle.walk_pairs.specs.declared.pairs.Order.TheVariants.{Then, After}
 use Rattle.walk_pairs.specs.declared.pairs.Stage.{Stage}
-use Rattle.walk_pairs.specs.declared.pairs.Stage.TheVariants.{Down, Across, Before}
+use Rattle.walk_pairs.specs.declared.pairs.Stage.TheVariants.{Down, Across, Before, Above}
 
 abbrev pub number_of : Stage → ℕ
 number_of Down = 0
 number_of Across = 1
 number_of Before = 2
+number_of Above = 3
 
 abbrev pub pair_place : Stage → ℕ → ℕ → Place
 pair_place stage state to = record { from = number_of stage; label = Symbol state; to = to }

@@ -1,4 +1,4 @@
-ghost use Rattle.std.specs.Prelude.{◌≡◌, ◌≤◌, ◌<◌, OnOk, Some, length, slice_get};
+ghost use Rattle.std.specs.Prelude.{◌≡◌, ◌≤◌, ◌<◌, suc, OnOk, Some, length, slice_get};
 ghost use Rattle.config_patterns.specs.Edges.{edges_of};
 ghost use Rattle.weight_tables.specs.Entries.{TableEntry, lowered_in};
 ghost use Rattle.weight_tables.specs.Tables.{entries_of, with_entries};
@@ -175,6 +175,30 @@ fn fall_on<'s, S: Semiring, M: Weigher<S>>(
     } else {
         fall_rows(tables, order, layer, stage, from, pattern, next)
     }
+}
+
+/// Goes along each entry of a layer from one over a symbol that an item takes, which is counted from 0: the pair of its state and of
+/// where the entry leads is lowered by the weight in hand and the entry's. A number that is no item gives nothing.
+pub fn fall_item<'s, S: Semiring, M: Weigher<S>>(
+    tables: &mut Tables<'s, S, M>,
+    order: Order,
+    layer: Layer,
+    stage: Stage,
+    from: u32,
+    pattern: &Pattern,
+    k: u32,
+) -> Result<(), OutOfMemory>
+    requires { IsKept layer }
+    ensures { let s = S.operations tables.old.system.semiring in OnOk result
+        (AreFallsOnGiven s tables.old order layer stage from
+        (TakesAt pattern.now.items (suc k)) (suc k) tables.new) }
+{
+    tables.valid();
+    if k >= pattern.items() {
+        return Ok(());
+    }
+    fall_on(tables, order, layer, stage, from, pattern, k + 1)?;
+    Ok(())
 }
 
 /// Goes along each edge of a pattern from a state, and along each entry of a layer from one over the edge's symbol: the pair of

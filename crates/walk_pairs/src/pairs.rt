@@ -13,6 +13,8 @@ pub enum Stage {
     Across,
     /// An item of the other pattern, as its first part is one of this: both read these next.
     Before,
+    /// What `Down` has, where the first part is an item of the pattern, which reads it next.
+    Above,
 }
 
 /// In which order the weight in hand and an entry's are joined.
@@ -32,6 +34,7 @@ pub fn pair_place(stage: Stage, state: u32, to: u32) -> Place
         Stage::Down => 0,
         Stage::Across => 1,
         Stage::Before => 2,
+        Stage::Above => 3,
     };
     Place {
         from,
@@ -72,6 +75,7 @@ pub fn pair_at(place: Place) -> Option<Pair>
         0 => Stage::Down,
         1 => Stage::Across,
         2 => Stage::Before,
+        3 => Stage::Above,
         _ => return None,
     };
     Some(Pair {

@@ -1,9 +1,9 @@
 ghost use Rattle.std.specs.Prelude.{◌≡◌, ◌↔◌, ◌<◌, ◌≤◌, ℕ, suc, length, IsTrue, OnOk};
 ghost use Rattle.wpds_base.specs.Limits.{most_items};
-ghost use Rattle.walk_pairs.specs.Reading.{IsSkipped, IsPairGiven, IsBeforeGiven};
+ghost use Rattle.walk_pairs.specs.Reading.{IsSkipped, IsStateGiven, IsSkipGiven, IsPairGiven, IsBeforeGiven};
 ghost use Rattle.walk_pairs.specs.Pairs.{pair_place as pair_value};
 ghost use Rattle.walk_pairs.specs.Ways.{StaysAt, TakesAt};
-ghost use Rattle.walk_pairs.specs.declared.pairs.Stage.TheVariants.{Before};
+ghost use Rattle.walk_pairs.specs.declared.pairs.Stage.TheVariants.{Above, Before};
 ghost use Rattle.walk_pairs.specs.private.Steps.{IsLoweredWhere};
 
 use crate::meeting::is_shared;
@@ -28,6 +28,63 @@ fn lower_where<'s, S: Semiring, M: Weigher<S>>(
     if is_to {
         tables.lower(Layer::Walk, place)?;
     }
+    Ok(())
+}
+
+// The place of an item that is read next, with what a state has.
+fn above(k: u32, to: u32) -> Place
+    ensures { result ≡ pair_value Above k to }
+{
+    pair_place(Stage::Above, k, to)
+}
+
+// Whether a number is none behind all items.
+fn is_within(one: &Pattern, k: u32) -> bool
+    ensures yes { IsTrue result → k ≤ length one.now.items }
+    ensures no { k ≤ length one.now.items → IsTrue result }
+    ensures few { IsTrue result → k ≤ most_items }
+{
+    k <= one.items()
+}
+
+/// Has a state, with what it has, go on before the items that the pattern may read next: these are lowered by the weight in hand.
+/// A number that is no state gives nothing.
+pub fn read_state<'s, S: Semiring, M: Weigher<S>>(
+    tables: &mut Tables<'s, S, M>,
+    one: &Pattern,
+    state: u32,
+    to: u32,
+) -> Result<(), OutOfMemory>
+    ensures { let s = S.operations tables.old.system.semiring in
+        OnOk result (IsStateGiven s tables.old one.now.items state to tables.new) }
+{
+    tables.valid();
+    if !is_within(one, state) {
+        return Ok(());
+    }
+    let again = stays_at(one, state);
+    let item = state.saturating_sub(1);
+    lower_where(tables, true, above(state, to))?;
+    lower_where(tables, again, above(item, to))?;
+    Ok(())
+}
+
+/// Goes on past an item with a star: what stands before the next is lowered by the weight in hand.
+pub fn skip_item<'s, S: Semiring, M: Weigher<S>>(
+    tables: &mut Tables<'s, S, M>,
+    one: &Pattern,
+    k: u32,
+    to: u32,
+) -> Result<(), OutOfMemory>
+    ensures { let s = S.operations tables.old.system.semiring in
+        OnOk result (IsSkipGiven s tables.old one.now.items k to tables.new) }
+{
+    tables.valid();
+    if !is_within(one, k) {
+        return Ok(());
+    }
+    let skips = is_skipped(one, k);
+    lower_where(tables, skips, above(k + 1, to))?;
     Ok(())
 }
 

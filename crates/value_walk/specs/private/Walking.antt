@@ -14,14 +14,15 @@ use Rattle.weight_tables.specs.Tables.{TablesValue}
 use Rattle.weight_tables.specs.declared.layer.Layer.TheVariants.{Base, Target}
 use Rattle.walk_pairs.specs.declared.pairs.Order.TheVariants.{Then}
 use Rattle.walk_pairs.specs.declared.pairs.Stage.{Stage}
-use Rattle.walk_pairs.specs.declared.pairs.Stage.TheVariants.{Down, Across, Before}
+use Rattle.walk_pairs.specs.declared.pairs.Stage.TheVariants.{Down, Across, Before, Above}
 use Rattle.walk_pairs.specs.Pairs.{pair_place, answer_place}
 use Rattle.walk_pairs.specs.Lowerings.{ArePairsLowered}
-use Rattle.walk_pairs.specs.Giving.{IsFall}
-use Rattle.walk_pairs.specs.Reading.{ComesBefore, AreReadingsSettled, IsPairGiven, IsBeforeGiven}
+use Rattle.walk_pairs.specs.Giving.{IsFallOn}
+use Rattle.walk_pairs.specs.Reading.{ComesBefore, IsStateRead, IsItemSkipped, AreReadingsSettled, IsStateStand, IsItemSkip, IsPairGiven, IsBeforeGiven}
+use Rattle.walk_pairs.specs.Ways.{TakesAt}
 use Rattle.value_laws.specs.Runs.{Sums}
 use Rattle.value_laws.specs.Settled.{Table}
-use Rattle.value_laws.specs.Walk.{Pairs, Descends, Crosses, IsDownMet}
+use Rattle.value_laws.specs.Walk.{Pairs, Descends, Crosses}
 use Rattle.value_walk.specs.Answering.{pops_in, enters_in}
 
 module _ (from to : PatternValue) where
@@ -34,12 +35,19 @@ module _ (from to : PatternValue) where
       pub comes_end : ComesBefore to.items end l
       pub crosses : Crosses p from.control (edges_of from.items) to.control (edges_of to.items) state end run
 
+    -- The run uses up a stack that the source's edges read to a state, from which the pattern may come to read the item next.
+    pub record Hangs (k c : ℕ) (run : List ℕ) : Type 0 where
+      pub state : ℕ
+      pub comes : ComesBefore from.items state k
+      pub descends : Descends p from.control (edges_of from.items) state c run
+
   module _ {S W Map : Type 0} (p : Pushdown S W Map) (s : Operations W Map) where
-    -- the runs of a place: those of a pair at a control, of a pair at a state of the target, of what stands before two items, and of the answer
+    -- the runs of a place: those of a pair at a control, of a pair at a state of the target, of what stands before two items or one above a control, and of the answer
     abbrev pub Goes : ℕ → Label → ℕ → List ℕ → Type 0
     Goes zero (Symbol i) c = Descends p from.control (edges_of from.items) i c
     Goes (suc zero) (Symbol i) a = Crosses p from.control (edges_of from.items) to.control (edges_of to.items) i a
-    Goes (suc (suc n)) (Symbol k) l = Stands p k l
+    Goes (suc (suc zero)) (Symbol k) l = Stands p k l
+    Goes (suc (suc (suc n))) (Symbol k) c = Hangs p k c
     Goes n Empty c = Leads s p (has_member from) (has_member to)
 
     -- the weight of a place combines such runs
@@ -56,6 +64,9 @@ module _ {W Map : Type 0} (s : Operations W Map) (es : List (TableEntry W)) wher
   abbrev pub before_in : Pairs W
   before_in k l = weight_in s es (pair_place Before k l)
 
+  abbrev pub above_in : Pairs W
+  above_in k c = weight_in s es (pair_place Above k c)
+
   abbrev pub answer_in : W
   answer_in = weight_in s es answer_place
 
@@ -68,6 +79,21 @@ module _ {W Map : Type 0} (s : Operations W Map) (es : List (TableEntry W)) wher
 
   abbrev pub settled_before : Pairs W
   settled_before k l = settled_in s es (pair_place Before k l)
+
+  abbrev pub settled_above : Pairs W
+  settled_above k c = settled_in s es (pair_place Above k c)
+
+module _ {W Map : Type 0} (s : Operations W Map) (from to : PatternValue) (pops enters : Table W) where
+  -- What a pair at a control gives of this weight is there.
+  pub record IsDownRead (i c : ℕ) (w : W) (across above : Pairs W) : Type 0 where
+    pub reads : IsStateRead s from.items i c w above
+    pub meets : c ≡ to.control → Below s (across i 0) w
+
+  -- What an item that is read next above a control gives of it is there.
+  pub record IsAboveRead (k c : ℕ) (w : W) (down across above : Pairs W) : Type 0 where
+    pub skips : IsItemSkipped s from.items k c w above
+    pub falls : (g : ℕ) → TakesAt from.items (suc k) g → (q : ℕ) → Below s (down (suc k) q) (s.extend w (pops c g q))
+    pub goes_in : (g : ℕ) → TakesAt from.items (suc k) g → (a : ℕ) → Below s (across (suc k) a) (s.extend w (enters c g a))
 
 module _ {S W Map : Type 0} (s : Operations W Map) (to : PatternValue) where
   -- The pair across, where the control is the target's.
@@ -85,7 +111,8 @@ module _ {W Map : Type 0} (s : Operations W Map) (from to : PatternValue) (pops 
   -- All pairs that count have given what they give.
   pub record ArePairsSettled : Type 0 where
     pub begins : Below s (down_in s es 0 from.control) s.one
-    pub downs : (i c : ℕ) → IsDownMet s from to pops enters i c (settled_down s es i c) (down_in s es) (across_in s es)
+    pub downs : (i c : ℕ) → IsDownRead s from to pops enters i c (settled_down s es i c) (across_in s es) (above_in s es)
+    pub aboves : (k c : ℕ) → IsAboveRead s from to pops enters k c (settled_above s es k c) (down_in s es) (across_in s es) (above_in s es)
     pub readings : AreReadingsSettled s from.items to.items (across_in s es) (settled_across s es) (before_in s es) (settled_before s es) (answer_in s es)
 
 module _ {S W Map : Type 0} (s : Operations W Map) (from to : PatternValue) where
@@ -96,16 +123,27 @@ module _ {S W Map : Type 0} (s : Operations W Map) (from to : PatternValue) wher
 
   -- what a pair at a control gives to others, with its weight in hand
   abbrev pub IsGivenDown : TablesValue S W Map → ℕ → ℕ → Place → W → Type 0
-  IsGivenDown v i c x w = IsFall s v Then Base Down c (edges_of from.items) i x w ⊎ (IsFall s v Then Target Across c (edges_of from.items) i x w ⊎ IsMeeting s to v i c x w)
+  IsGivenDown v i c x w = IsStateStand v.hand from.items i c x w ⊎ IsMeeting s to v i c x w
+
+  -- and what an item that is read next above a control does
+  abbrev pub IsGivenAbove : TablesValue S W Map → ℕ → ℕ → Place → W → Type 0
+  IsGivenAbove v k c x w =
+      let Takes : ℕ → Type 0 = TakesAt from.items (suc k) in
+      IsItemSkip v.hand from.items k c x w ⊎ (IsFallOn s v Then Base Down c Takes (suc k) x w ⊎ IsFallOn s v Then Target Across c Takes (suc k) x w)
 
   -- All that a pair of the weight in hand gives was given, and nothing else.
   pub record IsDownGiven (i c : ℕ) (v new : TablesValue S W Map) : Type 0 where
     pub lowered : ArePairsLowered s (IsGivenDown v i c) v new
-    pub met : IsDownMet s from to (pops_in s v) (enters_in s v) i c v.hand (down_in s new.walk) (across_in s new.walk)
+    pub met : IsDownRead s from to (pops_in s v) (enters_in s v) i c v.hand (across_in s new.walk) (above_in s new.walk)
+
+  pub record IsAboveGiven (k c : ℕ) (v new : TablesValue S W Map) : Type 0 where
+    pub lowered : ArePairsLowered s (IsGivenAbove v k c) v new
+    pub met : IsAboveRead s from to (pops_in s v) (enters_in s v) k c v.hand (down_in s new.walk) (across_in s new.walk) (above_in s new.walk)
 
   -- What stands at a place has given all that it gives, with its weight in hand: a pair of one stage or another. What is no pair gives nothing.
   pub record IsPlaceGiven (place : Place) (v new : TablesValue S W Map) : Type 0 where
     pub down : (i c : ℕ) → place ≡ pair_place Down i c → IsDownGiven i c v new
     pub across : (i a : ℕ) → place ≡ pair_place Across i a → IsPairGiven s v from.items to.items i a new
+    pub above : (k c : ℕ) → place ≡ pair_place Above k c → IsAboveGiven k c v new
     pub before : (k l : ℕ) → place ≡ pair_place Before k l → IsBeforeGiven s v from.items to.items Across k l new
     pub others : ((stage : Stage) (i x : ℕ) → place ≡ pair_place stage i x → ⊥) → new ≡ v

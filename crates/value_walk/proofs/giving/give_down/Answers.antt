@@ -5,5 +5,4 @@ pub returns : goal.returns
 returns g c =
     let a = c.args in
     let v = a.tables.now in
-    down_given g.S.Semiring.operations v (g.S.Semiring.laws v.system.semiring) c.valid.ensures.tables a.from.now a.to.now a.state a.control c.meet.new.tables c.fall_ways.new.tables c.fall_ways-2.new.tables
-    c.in_ok-meet.ensures c.in_ok-fall_ways.ensures c.in_ok-fall_ways-2.ensures
+    down_given g.S.Semiring.operations v (g.S.Semiring.laws v.system.semiring) c.valid.ensures.tables a.from.now a.to.now a.state a.control c.meet.new.tables c.read_state.new.tables c.in_ok-meet.ensures c.in_ok-read_state.ensures
