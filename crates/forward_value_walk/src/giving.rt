@@ -86,6 +86,6 @@ pub(crate) fn give<'s, S: Semiring, M: Weigher<S>>(
             give_items(tables, first, wanted, pair.state, pair.to, t)?;
             Ok(())
         }
-        Stage::Across => Ok(()),
+        Stage::Across | Stage::Above => Ok(()),
     }
 }

@@ -1,9 +1,9 @@
-use Rattle.std.proofs.Common.{◌≡◌, ℕ, sym, ap, ◌∙◌, subst, arith}
+use Rattle.std.proofs.Common.{◌≡◌, ◌⊎◌, inl, inr, ℕ, sym, ap, ◌∙◌, subst, arith}
 use Rattle.std.specs.Prelude.{Option, None, IfNone}
 use Rattle.walk_pairs.specs.declared.pairs.Stage.{Stage}
 use Rattle.walk_pairs.specs.declared.pairs.Pair.{Pair}
-use Rattle.walk_pairs.specs.declared.pairs.Stage.TheVariants.{Down, Across, Before}
-use Rattle.walk_pairs.specs.Pairs.{pair_place}
+use Rattle.walk_pairs.specs.declared.pairs.Stage.TheVariants.{Down, Across, Before, Above}
+use Rattle.walk_pairs.specs.Pairs.{number_of, pair_place}
 use Rattle.walk_pairs.proofs.CallerLemmas.{pair_parts, stages_apart}
 use Rattle.forward_value_walk.specs.Walking.{IsPairMet, IsBeforeMet}
 use Rattle.forward_value_walk.proofs.GoingLemmas.{none_gone}
@@ -12,6 +12,14 @@ use Rattle.forward_value_walk.proofs.giving.give.Goals as goal
 
 none_of : (o : Option Pair) (P : Type 0) → o ≡ None → IfNone o P → P
 none_of o P none holds = let Q : Option Pair → Type 0 = λ x. IfNone x P in subst Q none holds
+
+no_down : (stage : Stage) → (stage ≡ Across) ⊎ (stage ≡ Above) → number_of stage ≡ number_of Down → ⊥
+no_down stage (inl across) is = let apart : number_of Across ≡ number_of Down = sym (ap number_of across) ∙ is in omega (arith, apart)
+no_down stage (inr above) is = let apart : number_of Above ≡ number_of Down = sym (ap number_of above) ∙ is in omega (arith, apart)
+
+no_before : (stage : Stage) → (stage ≡ Across) ⊎ (stage ≡ Above) → number_of stage ≡ number_of Before → ⊥
+no_before stage (inl across) is = let apart : number_of Across ≡ number_of Before = sym (ap number_of across) ∙ is in omega (arith, apart)
+no_before stage (inr above) is = let apart : number_of Above ≡ number_of Before = sym (ap number_of above) ∙ is in omega (arith, apart)
 
 pub returns-in_default : goal.returns-in_default
 returns-in_default g c = λ e there.
@@ -72,5 +80,9 @@ pub returns-in-Across : goal.returns-in-Across
 returns-in-Across g c = λ e there.
     let a = c.args in
     let p = c.in-Some.pair in
-    let here : e.place ≡ pair_place Across p.state p.to = sym (c.place.ensures e there) ∙ c.in-Some.ensures.pair ∙ ap (λ st. pair_place st p.state p.to) c.in-Across.is in
-    record { gone = none_gone g.S.Semiring.operations (λ x. g.S.Semiring.laws x) a.first.now a.wanted.now a.tables.now; met = λ i m is. absurd (stages_apart Across Down p.state p.to i m (λ e. omega (arith, e)) (sym here ∙ is)); met_before = λ k l is. absurd (stages_apart Across Before p.state p.to k l (λ e. omega (arith, e)) (sym here ∙ is)) }
+    let here : e.place ≡ pair_place p.stage p.state p.to = sym (c.place.ensures e there) ∙ c.in-Some.ensures.pair in
+    record {
+      gone = none_gone g.S.Semiring.operations (λ x. g.S.Semiring.laws x) a.first.now a.wanted.now a.tables.now;
+      met = λ i m is. absurd (stages_apart p.stage Down p.state p.to i m (no_down p.stage c.in-Across.is) (sym here ∙ is));
+      met_before = λ k l is. absurd (stages_apart p.stage Before p.state p.to k l (no_before p.stage c.in-Across.is) (sym here ∙ is));
+    }
