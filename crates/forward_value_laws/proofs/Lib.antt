@@ -2,5 +2,7 @@ mod MeetingLemmas
 mod DeepLemmas
 mod SoundLemmas
 mod WalkLemmas
+mod StopLemmas
+mod TailLemmas
 mod SettleLemmas
 pub mod CallerLemmas

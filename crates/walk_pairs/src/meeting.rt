@@ -6,7 +6,7 @@ ghost use Rattle.walk_pairs.specs.Ways.{TakesAt};
 use config_patterns::{Item, Pattern, SymbolSet};
 
 /// Whether an item takes each of so many symbols. It takes no time.
-pub(crate) fn takes_all(item: &Item, symbols: u32) -> bool
+pub fn takes_all(item: &Item, symbols: u32) -> bool
     requires { IsItem symbols item.now }
     ensures { result ≡ true → (g : ℕ) → g < symbols → IsTrue (has_symbol g item.now.set) }
 {

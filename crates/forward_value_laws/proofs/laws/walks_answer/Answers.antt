@@ -1,4 +1,4 @@
-use Rattle.forward_value_laws.proofs.WalkLemmas.{walk_answers}
+use Rattle.forward_value_laws.proofs.StopLemmas.{walk_answers}
 use Rattle.forward_value_laws.proofs.laws.walks_answer.Goals as goal
 
 pub returns : goal.returns

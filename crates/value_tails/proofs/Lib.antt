@@ -1,0 +1,6 @@
+mod LinkLemmas
+mod LoopLemmas
+mod TailLemmas
+mod ReadLemmas
+mod BeginLemmas
+mod GiveLemmas

@@ -1,0 +1,2 @@
+pub mod Tailing
+pub mod private
