@@ -157,8 +157,7 @@ module _ {S W Map : Type 0} {operations : S → Operations W Map} {p : Pushdown 
     fall_runs c q has v w one two =
         sums_pairs laws value (fv valid laws) Is (Pops p c g q) (Down j q) ◌++◌ s.extend (λ b fb. linear_right laws b fb) (λ a fa. linear_left laws a fa)
         (λ a b is goes.
-        let (i, edge, down) = has a is in
-        (
+        let (i, edge, down) = has a is in (
           record {
             word = down.word ++ g ∷ [];
             reads = reads_then source 0 down.word i g j down.reads edge;
@@ -172,8 +171,7 @@ module _ {S W Map : Type 0} {operations : S → Operations W Map} {p : Pushdown 
     enter_runs c e has v w one two =
         sums_pairs laws value (fv valid laws) Is (Enters p to.control target c g e) (Across j e) ◌++◌ s.extend (λ b fb. linear_right laws b fb) (λ a fa. linear_left laws a fa)
         (λ a b is enter.
-        let (i, edge, down) = has a is in
-        (
+        let (i, edge, down) = has a is in (
           record {
             word = down.word ++ g ∷ [];
             left = enter.word;
