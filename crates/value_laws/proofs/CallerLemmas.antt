@@ -8,4 +8,3 @@ pub use Rattle.value_laws.proofs.StepLemmas.{one_place, further_then, lowered_fi
 pub use Rattle.value_laws.proofs.StepLemmas.{pops_kept, pops_met_kept, enters_kept, enters_met_kept, pops_done, enters_done}
 pub use Rattle.value_laws.proofs.StepLemmas.{decide, first_kept, returned_kept, nothing_first, nothing_second}
 pub use Rattle.value_laws.proofs.RuleLemmas.{begins, Begins, fits_first, fits_inside}
-pub use Rattle.value_laws.proofs.WalkStepLemmas.{walk_kept, down_done, across_done}

@@ -6,7 +6,7 @@ ghost use Rattle.pushdown_rules.specs.Pushdown.{Pushdown, IsSystem};
 ghost use Rattle.pushdown_rules.specs.Values.{value_of};
 ghost use Rattle.config_patterns.specs.declared.edge.Edge.{Edge as EdgeValue};
 ghost use Rattle.value_laws.specs.Runs.{Pops, Enters, Sums, IsSum};
-ghost use Rattle.value_laws.specs.Walk.{Pairs, Descends, Crosses, IsWalkSettled, ArePairsFurther, IsDownMet, IsAcrossMet, without_pair};
+ghost use Rattle.value_laws.specs.Walk.{Pairs, Descends, Crosses, IsWalkSettled};
 ghost use Rattle.semiring_laws.specs.Semiring.{Fits, Below};
 ghost use Rattle.pushdown_rules.specs.Answers.{Leads, Answers};
 ghost use Rattle.config_patterns.specs.Membership.{PatternValue, has_member};
@@ -174,33 +174,4 @@ pub fn walk_steps_make_sums<S: Semiring>()
         IsTrue (is_final_of from.items i) → IsTrue (is_final_of to.items a) →
         Sums s (value_of s p) (Crosses p from.control source to.control target i a) w →
         Sums s (value_of s p) (Leads s p (has_member from) (has_member to)) w }
-{}
-
-/// A walk keeps what was settled, in any order; a pair that was taken, once all that it gives is there, is settled.
-pub fn walks_stay_settled<S: Semiring>()
-    ensures kept { (x : S) → let s = S.operations x in
-        (from to : PatternValue) (pops enters : Table S.W) (d a sd sa d' a' sd' sa' : Pairs S.W)
-        (v v' : S.W) → AreWeights s pops → AreWeights s enters →
-        ((i c : ℕ) → Fits s (d i c)) → ((i c : ℕ) → Fits s (a i c)) →
-        ((i c : ℕ) → Fits s (sd i c)) → ((i c : ℕ) → Fits s (sa i c)) →
-        ((i c : ℕ) → Fits s (d' i c)) → ((i c : ℕ) → Fits s (a' i c)) → Fits s v → Fits s v' →
-        ArePairsFurther s d sd d' sd' → ArePairsFurther s a sa a' sa' → Below s v' v →
-        IsWalkSettled s from to pops enters d a sd sa v →
-        IsWalkSettled s from to pops enters d' a' sd' sa' v' }
-    ensures down { (x : S) → let s = S.operations x in
-        (from to : PatternValue) (pops enters : Table S.W) (d a sd sa : Pairs S.W) (v : S.W)
-        (i c : ℕ) (w : S.W) → AreWeights s pops → AreWeights s enters →
-        ((i c : ℕ) → Fits s (d i c)) → ((i c : ℕ) → Fits s (a i c)) → Fits s v → Fits s w →
-        (sd i c ≡ w) ⊎ (sd i c ≡ s.zero) →
-        IsWalkSettled s from to pops enters d a (without_pair s.zero i c sd) sa v →
-        IsDownMet s from to pops enters i c w d a →
-        IsWalkSettled s from to pops enters d a sd sa v }
-    ensures across { (x : S) → let s = S.operations x in
-        (from to : PatternValue) (pops enters : Table S.W) (d a sd sa : Pairs S.W) (v : S.W)
-        (i c : ℕ) (w : S.W) → AreWeights s pops → AreWeights s enters →
-        ((i c : ℕ) → Fits s (d i c)) → ((i c : ℕ) → Fits s (a i c)) → Fits s v → Fits s w →
-        (sa i c ≡ w) ⊎ (sa i c ≡ s.zero) →
-        IsWalkSettled s from to pops enters d a sd (without_pair s.zero i c sa) v →
-        IsAcrossMet s from to i c w a v →
-        IsWalkSettled s from to pops enters d a sd sa v }
 {}
