@@ -1,5 +1,6 @@
 -- A walk begins: what rows give waits, and nothing else is there.
-use Rattle.std.proofs.Common.{◌≡◌, inl, inr, ℕ, suc, ◌≤◌, [], length, sym, ap, ◌∙◌, subst}
+use Rattle.std.proofs.Common.{◌≡◌, inl, inr, ℕ, suc, ◌≤◌, true, false, [], length, refl, sym, ap, ◌∙◌, subst}
+use Rattle.std.specs.Prelude.{Bool, if◌then◌else◌}
 use Rattle.semiring_laws.specs.Semiring.{Operations, IsSemiring, Fits, Below}
 use Rattle.semiring_laws.proofs.CallerLemmas.{below_trans, below_zero}
 use Rattle.pushdown_rules.specs.Pushdown.{IsSystem}
@@ -19,6 +20,7 @@ use Rattle.walk_pairs.specs.Giving.{IsFall, AreFallsGiven}
 use Rattle.walk_pairs.specs.Answering.{IsWalkedOver}
 use Rattle.walk_pairs.proofs.CallerLemmas.{one_lowered, one_below}
 use Rattle.forward_value_search.specs.Places.{arrow}
+use Rattle.value_tails.specs.Tailing.{tail_place, tail_in}
 use Rattle.forward_value_search.specs.Search.{IsFinished}
 use Rattle.forward_value_walk.specs.Walking.{IsMade, IsSettled}
 use Rattle.forward_value_walk.specs.private.Going.{IsRuns, IsGoneOn, IsUncovered, IsWalking}
@@ -119,7 +121,7 @@ module _ {S W Map : Type 0} (operations : S → Operations W Map) (laws : (x : S
             subst P (sym one.place) (subst W' (sym weight) (top_made v system our valid.base.fits first wanted finished.sound one.symbol one.next one.to one.edge)),
           )) tops_empty.lowered
 
-      module _ (gone : Gone v2 v3) (uncovered : (i : ℕ) → i ≤ length first.items → IsUncovered (of v2) wanted v2 i v3.walk) where
+      module _ (stops : ℕ → Bool) (gone : Gone v2 v3) (uncovered : (i : ℕ) → i ≤ length first.items → IsUncovered (of v2) wanted v2 i v3.walk) where
         all : Gone empty v3
         all = gone_then operations laws first wanted empty v2 v3 tops_gone gone
 
@@ -136,6 +138,10 @@ module _ {S W Map : Type 0} (operations : S → Operations W Map) (laws : (x : S
         below_none : (y : Place) (w : W) → w ≡ ours.zero → Below ours (weight_in ours v3.walk y) w
         below_none y w none = let P : W → Type 0 = Below ours (weight_in ours v3.walk y) in subst P (sym none) (below_zero our (weight_in ours v3.walk y) (fits_now y))
 
+        none_goes : (b : Bool) (w : W) → w ≡ ours.zero → (if b then ours.zero else w) ≡ ours.zero
+        none_goes true w none = refl
+        none_goes false w none = none
+
         falls_since : (y : Place) → Below ours (weight_in ours v3.walk y) (weight_in ours v2.walk y)
         falls_since y =
             let P : TablesValue S W Map → Type 0 = λ z. Below (of z) (weight_in (of z) v3.walk y) (weight_in (of z) z.walk y) in
@@ -144,7 +150,7 @@ module _ {S W Map : Type 0} (operations : S → Operations W Map) (laws : (x : S
         uncovered_first : (i : ℕ) → i ≤ length first.items → IsUncovered ours wanted v i v3.walk
         uncovered_first i low = let P : TablesValue S W Map → Type 0 = λ z. IsUncovered (of z) wanted z i v3.walk in subst P tops_gone.others (uncovered i low)
 
-        settled : IsSettled ours v.system first wanted v.base v3.walk
+        settled : IsSettled ours v.system first wanted v.base v3.walk stops v.target
         settled = record {
           tops = λ g j edge n.
               let y : Place = pair_place Down j n in
@@ -153,13 +159,17 @@ module _ {S W Map : Type 0} (operations : S → Operations W Map) (laws : (x : S
               (place_fits ours y v2.walk our.fits-zero (gone_fit operations laws first wanted empty v2 empty_walkable tops_gone)) (row_fits g n) (falls_since y)
               (subst P (our.extend-one_left (row g n) (row_fits g n)) (tops_empty.met g j edge n));
           uncovered = λ i low. uncovered_first i low;
-          opens = λ k r there g h right i j edge m entered n.
+          opens = λ k r there g h right i j going edge m entered n.
               let head : W = weight_in ours v.base (arrow r.control (Symbol r.symbol) n) in
               below_none (pair_place Down j n) (ours.extend head (ours.extend r.weight (settled_in ours v3.walk (pair_place Down i m))))
               (ap (λ u. ours.extend head (ours.extend r.weight u)) (none_counts (pair_place Down i m)) ∙ ap (ours.extend head) (our.extend-zero_right r.weight (weight_fits system our k r there))
               ∙ our.extend-zero_right head (place_fits ours (arrow r.control (Symbol r.symbol) n) v.base our.fits-zero valid.base.fits));
           readings = record {
-            pairs = λ i a. record { stands = λ _ _ k l _ _. below_none (pair_place Before k l) (settled_in ours v3.walk (pair_place Down i a)) (none_counts (pair_place Down i a)) };
+            pairs = λ i a. record {
+              stands = λ _ _ k l _ _.
+                  let w : W = settled_in ours v3.walk (pair_place Down i a) in
+                  below_none (pair_place Before k l) (if stops i then ours.zero else w) (none_goes (stops i) w (none_counts (pair_place Down i a)));
+            };
             befores = λ k l.
                 let none = none_counts (pair_place Before k l) in
                 let w : W = settled_in ours v3.walk (pair_place Before k l) in
@@ -170,11 +180,15 @@ module _ {S W Map : Type 0} (operations : S → Operations W Map) (laws : (x : S
                   ends = λ _ _. below_none answer_place w none;
                 };
           };
+          rests = λ j stop n.
+              let tail : W = tail_in ours v.target n in
+              below_none answer_place (ours.extend tail (settled_in ours v3.walk (pair_place Down j n)))
+              (ap (ours.extend tail) (none_counts (pair_place Down j n)) ∙ our.extend-zero_right tail (place_fits ours (tail_place n) v.target our.fits-zero valid.target.fits));
         }
 
-        pub begun_walking : IsWalking ours first wanted v3
+        pub begun_walking : IsWalking ours first wanted stops v3
         begun_walking =
-            let P : TablesValue S W Map → Type 0 = IsWalking ours first wanted in
+            let P : TablesValue S W Map → Type 0 = IsWalking ours first wanted stops in
             let now = gone_walkable operations laws first wanted empty v3 empty_walkable all in
             let Q : TablesValue S W Map → Type 0 = λ u. (x : Place) → IsMade (of u) u.system first wanted x (weight_in (of u) v3.walk x) in
             subst P (sym all.others) (record { made = subst Q all.others now.made; settled = settled })

@@ -1,11 +1,11 @@
 -- Pairs that have all given what they give are what the laws ask for.
 use Rattle.std.proofs.Common.{◌≡◌, inl, inr, ℕ, Bool, List, [], ◌∷◌, length, drop, sym, ap, ◌∙◌, subst}
-use Rattle.std.specs.Prelude.{IsTrue, Option, None, Some, slice_get, nat_le, if◌then◌else◌}
+use Rattle.std.specs.Prelude.{IsTrue, IsFalse, Option, None, Some, slice_get, nat_le, if◌then◌else◌}
 use Rattle.std.specs.List.{AllByRecursion, list_all}
 use Rattle.std.proofs.lemmas.Bool.{and_parts, cases_Bool, leb-true}
 use Rattle.wpds_base.specs.Lists.{IsIn}
 use Rattle.semiring_laws.specs.Semiring.{Operations, IsSemiring, Fits, Below}
-use Rattle.semiring_laws.proofs.CallerLemmas.{below_itself}
+use Rattle.semiring_laws.proofs.CallerLemmas.{below_itself, below_zero}
 use Rattle.pushdown_rules.specs.declared.rule.Rule.{Rule}
 use Rattle.pushdown_rules.specs.Configuration.{Configuration, at_stack}
 use Rattle.pushdown_rules.specs.Pushdown.{Pushdown, IsSystem}
@@ -21,14 +21,18 @@ use Rattle.walk_pairs.specs.declared.pairs.Stage.TheVariants.{Down, Before}
 use Rattle.walk_pairs.specs.Pairs.{pair_place, answer_place}
 use Rattle.walk_pairs.specs.Reading.{IsPairRead, IsBeforeRead, AreReadingsSettled}
 use Rattle.walk_pairs.proofs.CallerLemmas.{edge_from, edge_to, readings_read, readings_end}
-use Rattle.forward_value_laws.specs.Model.{Source, item, callee, IsWalked, head_of}
+use Rattle.forward_value_laws.specs.Model.{Source, item, callee, head_of}
+use Rattle.forward_value_laws.specs.Tails.{IsWalkedTo}
+use Rattle.value_tails.specs.Tailing.{tail_in}
 use Rattle.forward_value_search.specs.Places.{arrow, place_by}
 use Rattle.forward_value_search.proofs.CallerLemmas.{item_number, callee_number}
-use Rattle.forward_value_walk.specs.Walking.{number, found_in, pair_in, before_in, answer_in, pairs_of, IsSettled}
+use Rattle.forward_value_walk.specs.Walking.{number, found_in, pair_in, before_in, answer_in, pairs_of, tails_of, IsSettled}
+use Rattle.forward_value_walk.proofs.SettleLemmas.{going_fits}
 
 module _ {S W Map : Type 0} {operations : S → Operations W Map} {p : Pushdown S W Map} (system : IsSystem operations p) (laws : IsSemiring (operations p.semiring)) (first wanted : PatternValue)
     (base walk : List (TableEntry W)) (base_fits : AllByRecursion (λ e. Fits (operations p.semiring) e.weight) base) (walk_fits : AllByRecursion (λ e. Fits (operations p.semiring) e.weight) walk)
-    (none : NoneWaits walk) (settled : IsSettled (operations p.semiring) p first wanted base walk) where
+    (none : NoneWaits walk) (stops : ℕ → Bool) (tails : List (TableEntry W)) (tails_fit : AllByRecursion (λ e. Fits (operations p.semiring) e.weight) tails)
+    (settled : IsSettled (operations p.semiring) p first wanted base walk stops tails) where
   abbrev s : Operations W Map
   s = operations p.semiring
 
@@ -83,9 +87,9 @@ module _ {S W Map : Type 0} {operations : S → Operations W Map} {p : Pushdown 
         subst P (sym high) zero_below
   ]
 
-  opens : (k : ℕ) (r : Rule S W Map) → slice_get p.rules k ≡ Some r → (g h : ℕ) → r.right ≡ g ∷ h ∷ [] → (i j : ℕ) → IsIn (record { from = i; symbol = h; to = j }) (edges_of wanted.items) → (from : Source)
+  opens : (k : ℕ) (r : Rule S W Map) → slice_get p.rules k ≡ Some r → (g h : ℕ) → r.right ≡ g ∷ h ∷ [] → (i j : ℕ) → IsFalse (stops i) → IsIn (record { from = i; symbol = h; to = j }) (edges_of wanted.items) → (from : Source)
       → Below s (pairs j from) (s.extend (s.extend (Found (head_of r) from) r.weight) (pairs i (callee r.to g)))
-  opens k r there g h right i j edge from =
+  opens k r there g h right i j going edge from =
       let fr = weight_fits system laws k r there in
       let has = callee_number (length first.items) p k r there g (h ∷ []) right in
       let inner : pairs i (callee r.to g) ≡ pair_in s p first wanted base walk i has.0 = pair_is i (callee r.to g) has.0 has.1 in
@@ -101,39 +105,68 @@ module _ {S W Map : Type 0} {operations : S → Operations W Map} {p : Pushdown 
             let B : W → Type 0 = Below s (pair_in s p first wanted base walk j n) in
             let C : W → Type 0 = λ u. Below s (pair_in s p first wanted base walk j n) (s.extend head (s.extend r.weight u)) in
             subst B (sym (laws.extend_assoc head r.weight (pair_in s p first wanted base walk i has.0) (fits_base (arrow r.control (Symbol r.symbol) n)) fr fi))
-            (subst C (settles i has.0) (settled.opens k r there g h right i j edge has.0 has.1 n))
+            (subst C (settles i has.0) (settled.opens k r there g h right i j going edge has.0 has.1 n))
       ])
 
   -- pairs of items: what both patterns read, and where both end
-  closed : AreReadingsSettled s wanted.items first.items (pair_in s p first wanted base walk) (pair_in s p first wanted base walk) (before_in s p first wanted base walk) (before_in s p first wanted base walk) (answer_in s p first wanted base walk)
+  abbrev Pair : ℕ → ℕ → W
+  Pair = pair_in s p first wanted base walk
+
+  abbrev At : ℕ → ℕ → W
+  At = before_in s p first wanted base walk
+
+  abbrev Answer : W
+  Answer = answer_in s p first wanted base walk
+
+  abbrev On : ℕ → ℕ → W
+  On i a = if stops i then s.zero else Pair i a
+
+  closed : AreReadingsSettled s wanted.items first.items Pair On At At Answer
   closed =
-      let P : (i a : ℕ) → W → Type 0 = λ i a w. IsPairRead s wanted.items first.items i a w (before_in s p first wanted base walk) in
-      let B : (k l : ℕ) → W → Type 0 = λ k l w. IsBeforeRead s wanted.items first.items k l w (pair_in s p first wanted base walk) (before_in s p first wanted base walk) (answer_in s p first wanted base walk) in
+      let P : (i a : ℕ) → W → Type 0 = λ i a w. IsPairRead s wanted.items first.items i a (if stops i then s.zero else w) At in
+      let B : (k l : ℕ) → W → Type 0 = λ k l w. IsBeforeRead s wanted.items first.items k l w Pair At Answer in
       record {
         pairs = λ i a. subst (P i a) (settles i a) (settled.readings.pairs i a);
         befores = λ k l. subst (B k l) (all_settled s (pair_place Before k l) walk none) (settled.readings.befores k l);
       }
 
-  reads : (h i j a b : ℕ) → IsIn (record { from = i; symbol = h; to = j }) (edges_of wanted.items) → IsIn (record { from = a; symbol = h; to = b }) (edges_of first.items)
+  fits_pair : (i a : ℕ) → Fits s (Pair i a)
+  fits_pair i a = fits_walk (pair_place Down i a)
+
+  fits_on : (i a : ℕ) → Fits s (On i a)
+  fits_on i a = going_fits system laws first wanted base base_fits (stops i) (Pair i a) (fits_pair i a)
+
+  reads : (h i j a b : ℕ) → IsFalse (stops i) → IsIn (record { from = i; symbol = h; to = j }) (edges_of wanted.items) → IsIn (record { from = a; symbol = h; to = b }) (edges_of first.items)
       → Below s (pairs j (item b)) (pairs i (item a))
-  reads h i j a b edge edge' =
+  reads h i j a b going edge edge' =
       let left = pair_is j (item b) b (item_number (length first.items) p b (edge_to first.items a h b edge')) in
       let right = pair_is i (item a) a (item_number (length first.items) p a (edge_from first.items a h b edge')) in
       let P : W → Type 0 = λ u. Below s u (pairs i (item a)) in
       let Q : W → Type 0 = Below s (pair_in s p first wanted base walk j b) in
+      let G : Bool → Type 0 = λ c. Below s (Pair j b) (if c then s.zero else Pair i a) in
       subst P (sym left)
       (subst Q (sym right)
-      (readings_read laws wanted.items first.items (pair_in s p first wanted base walk) (before_in s p first wanted base walk) (answer_in s p first wanted base walk) (λ x y. fits_walk (pair_place Down x y)) (λ x y. fits_walk (pair_place Before x y))
-      (fits_walk answer_place) closed h i j a b edge edge'))
+      (subst G going (readings_read laws wanted.items first.items Pair On At Answer fits_pair fits_on (λ x y. fits_walk (pair_place Before x y)) (fits_walk answer_place) closed h i j a b edge edge')))
 
-  ends : (j a : ℕ) → IsTrue (is_final_of wanted.items j) → IsTrue (is_final_of first.items a) → Below s (weight_in s walk answer_place) (pairs j (item a))
-  ends j a final final' =
+  ends : (j a : ℕ) → IsFalse (stops j) → IsTrue (is_final_of wanted.items j) → IsTrue (is_final_of first.items a) → Below s (weight_in s walk answer_place) (pairs j (item a))
+  ends j a going final final' =
       let low = and_parts (nat_le a (length first.items)) (list_all is_starred (drop a first.items)) final' in
       let right = pair_is j (item a) a (item_number (length first.items) p a (leb-true a (length first.items) low.0)) in
       let Q : W → Type 0 = Below s (weight_in s walk answer_place) in
+      let G : Bool → Type 0 = λ c. Below s Answer (if c then s.zero else Pair j a) in
       subst Q (sym right)
-      (readings_end laws wanted.items first.items (pair_in s p first wanted base walk) (before_in s p first wanted base walk) (answer_in s p first wanted base walk) (λ x y. fits_walk (pair_place Down x y)) (λ x y. fits_walk (pair_place Before x y))
-      (fits_walk answer_place) closed j a final final')
+      (subst G going (readings_end laws wanted.items first.items Pair On At Answer fits_pair fits_on (λ x y. fits_walk (pair_place Before x y)) (fits_walk answer_place) closed j a final final'))
 
-  pub pairs_walked : IsWalked s p first.items Found wanted.control wanted.items pairs (weight_in s walk answer_place)
-  pairs_walked = record { fits = pair_fits; fits_answer = fits_walk answer_place; tops = tops; uncovered = uncovered; opens = opens; reads = reads; ends = ends }
+  abbrev Tail : Source → W
+  Tail = tails_of s p first wanted base walk tails
+
+  rests : (j : ℕ) → IsTrue (stops j) → (from : Source) → Below s (weight_in s walk answer_place) (s.extend (Tail from) (pairs j from))
+  rests j stop from =
+      let A : W → Type 0 = Below s (weight_in s walk answer_place) in
+      elim (number s p first wanted from) as (λ (o : Option ℕ). let t : W = elim o [ None ↦ s.zero | Some n ↦ tail_in s tails n ] in Below s (weight_in s walk answer_place) (s.extend t (pair_at j o))) [
+        | None ↦ subst A (sym (laws.extend-zero_left s.zero laws.fits-zero)) (below_zero laws (weight_in s walk answer_place) (fits_walk answer_place))
+        | Some n ↦ let P : W → Type 0 = λ u. Below s (weight_in s walk answer_place) (s.extend (tail_in s tails n) u) in subst P (settles j n) (settled.rests j stop n)
+      ]
+
+  pub pairs_walked : IsWalkedTo s p first.items Found wanted.control wanted.items stops Tail pairs (weight_in s walk answer_place)
+  pairs_walked = record { fits = pair_fits; fits_answer = fits_walk answer_place; tops = tops; uncovered = uncovered; opens = opens; reads = reads; ends = ends; tails = rests }

@@ -1,22 +1,27 @@
 -- What a pair gives, one part after another.
 use Rattle.std.proofs.Common.{◌≡◌, ◌⊎◌, inl, inr, ℕ, refl, sym, ap, ◌∙◌, subst}
+use Rattle.std.specs.Prelude.{Bool, IsTrue, IsFalse, None, Some, slice_get, if◌then◌else◌}
+use Rattle.std.proofs.lemmas.Bool.{false≢true}
 use Rattle.semiring_laws.specs.Semiring.{Operations, IsSemiring, Fits, Below}
-use Rattle.semiring_laws.proofs.CallerLemmas.{below_itself}
+use Rattle.semiring_laws.proofs.CallerLemmas.{below_itself, below_zero}
 use Rattle.config_patterns.specs.Membership.{PatternValue}
 use Rattle.weighted_automata.specs.declared.place.Place.{Place}
-use Rattle.weight_tables.specs.Entries.{TableEntry, HasDistinctPlaces, weight_in, settled_in}
+use Rattle.weight_tables.specs.Entries.{TableEntry, HasDistinctPlaces, index_at, lowered_in, weight_in, settled_in}
 use Rattle.weight_tables.specs.Tables.{TablesValue, with_entries, with_hand}
 use Rattle.weight_tables.specs.declared.layer.Layer.TheVariants.{Walk}
-use Rattle.weight_tables.proofs.CallerLemmas.{place_fits, settled_or_none, index_there, weight_at_index}
+use Rattle.weight_tables.proofs.CallerLemmas.{place_fits, settled_or_none, index_there, weight_at_index, none_weight}
 use Rattle.walk_pairs.specs.declared.pairs.Stage.TheVariants.{Down, Before}
 use Rattle.walk_pairs.specs.Pairs.{pair_place, answer_place}
-use Rattle.walk_pairs.specs.Reading.{IsStand, IsStep, IsPairGiven as IsPairRead, IsBeforeGiven}
-use Rattle.walk_pairs.proofs.CallerLemmas.{pair_kept, before_kept}
+use Rattle.walk_pairs.specs.Reading.{IsStand, IsStep, IsPairRead, IsPairGiven as IsReadOn, IsBeforeGiven}
+use Rattle.walk_pairs.proofs.CallerLemmas.{AllFit, one_pair, one_below, pair_kept, before_kept}
 use Rattle.forward_value_search.specs.Search.{StandsAt}
+use Rattle.value_tails.specs.Tailing.{tail_place, tail_in}
 use Rattle.forward_value_walk.specs.Walking.{IsMade}
-use Rattle.forward_value_walk.specs.private.Going.{IsGoneOn, AreCallsGiven, IsPairGiven, AreItemsGiven}
+use Rattle.forward_value_walk.specs.private.Going.{IsGoneOn, AreCallsGiven, IsPairGiven, AreItemsGiven, IsStopped}
 use Rattle.forward_value_walk.proofs.MadeLemmas.{stand_made, step_made}
-use Rattle.forward_value_walk.proofs.GoingLemmas.{IsWalkable, hand_gone, gone_then, pairs_gone, gone_fit, gone_falls, gone_counts, gone_walkable}
+use Rattle.forward_value_walk.proofs.SettleLemmas.{tailed_kept}
+use Rattle.forward_value_walk.proofs.RestLemmas.{rest_made}
+use Rattle.forward_value_walk.proofs.GoingLemmas.{IsWalkable, settled_fits, none_gone, hand_gone, gone_then, pairs_gone, gone_fit, gone_falls, gone_counts, gone_walkable}
 
 module _ {S W Map : Type 0} (operations : S → Operations W Map) (laws : (x : S) → IsSemiring (operations x)) (first wanted : PatternValue) (v : TablesValue S W Map) (walkable : IsWalkable operations first wanted v)
     (distinct : HasDistinctPlaces v.walk) where
@@ -74,9 +79,9 @@ module _ {S W Map : Type 0} (operations : S → Operations W Map) (laws : (x : S
     abbrev hand : W
     hand = stands.0.weight
 
-    module _ (v1 v2 : TablesValue S W Map) (is : v1 ≡ held pair t stands) (reads : IsPairRead (operations v1.system.semiring) v1 wanted.items first.items state source v2) where
-      reads_held : IsPairRead s (held pair t stands) wanted.items first.items state source v2
-      reads_held = let P : TablesValue S W Map → Type 0 = λ u. IsPairRead (operations u.system.semiring) u wanted.items first.items state source v2 in subst P is reads
+    module _ (v1 v2 : TablesValue S W Map) (is : v1 ≡ held pair t stands) (reads : IsReadOn (operations v1.system.semiring) v1 wanted.items first.items state source v2) where
+      reads_held : IsReadOn s (held pair t stands) wanted.items first.items state source v2
+      reads_held = let P : TablesValue S W Map → Type 0 = λ u. IsReadOn (operations u.system.semiring) u wanted.items first.items state source v2 in subst P is reads
 
       to_read : Gone (held pair t stands) v2
       to_read = pairs_gone operations laws first wanted (held pair t stands) v2 (IsStand hand wanted.items first.items state source)
@@ -85,23 +90,89 @@ module _ {S W Map : Type 0} (operations : S → Operations W Map) (laws : (x : S
       pub before_calls : Gone v v2
       before_calls = gone_then operations laws first wanted v (held pair t stands) v2 (to_held pair t stands) to_read
 
-      module _ (v3 : TablesValue S W Map) (calls : AreCallsGiven (operations v2.system.semiring) first wanted state source v2 v3) where
+      module _ (stops : ℕ → Bool) (going : IsFalse (stops state)) (v3 : TablesValue S W Map) (calls : AreCallsGiven (operations v2.system.semiring) first wanted state source v2 v3) where
         calls_first : AreCallsGiven s first wanted state source (with_hand v2.hand (with_entries Walk v2.walk v)) v3
         calls_first = let P : TablesValue S W Map → Type 0 = λ u. AreCallsGiven (operations u.system.semiring) first wanted state source u v3 in subst P before_calls.others calls
 
         all : Gone v v3
         all = gone_then operations laws first wanted v v2 v3 before_calls calls.gone
 
-        pub pair_given : IsPairGiven s first wanted state source v v3
-        pair_given = record {
-          gone = all;
-          met = record {
-            opens = λ k r there g h right j edge entered n. calls_first.met k r there g h right entered g h right j edge n;
-            reads = pair_kept law wanted.items first.items (λ x y. weight_in s v2.walk (pair_place Before x y)) (λ x y. weight_in s v3.walk (pair_place Before x y)) (λ x y. fits_in v2 before_calls (pair_place Before x y))
-                (λ x y. fits_in v3 all (pair_place Before x y)) (λ x y. falls_since v2 v3 before_calls calls.gone (pair_place Before x y)) hand (settled_in s v3.walk pair) (fits_entry pair t stands) (counts pair t stands v3 all) state source
-                reads_held.met;
-          };
-        }
+        read_at_last : IsPairRead s wanted.items first.items state source (settled_in s v3.walk pair) (λ x y. weight_in s v3.walk (pair_place Before x y))
+        read_at_last = pair_kept law wanted.items first.items (λ x y. weight_in s v2.walk (pair_place Before x y)) (λ x y. weight_in s v3.walk (pair_place Before x y)) (λ x y. fits_in v2 before_calls (pair_place Before x y))
+            (λ x y. fits_in v3 all (pair_place Before x y)) (λ x y. falls_since v2 v3 before_calls calls.gone (pair_place Before x y)) hand (settled_in s v3.walk pair) (fits_entry pair t stands) (counts pair t stands v3 all) state source
+            reads_held.met
+
+        pub pair_given : IsPairGiven s first wanted stops state source v v3
+        pair_given =
+            let P : Bool → Type 0 = λ b. IsPairRead s wanted.items first.items state source (if b then s.zero else settled_in s v3.walk pair) (λ x y. weight_in s v3.walk (pair_place Before x y)) in
+            record {
+              gone = all;
+              met = record {
+                opens = λ k r there g h right j _ edge entered n. calls_first.met k r there g h right entered g h right j edge n;
+                reads = subst P (sym going) read_at_last;
+                rests = λ stop. absurd (false≢true (sym going ∙ stop));
+              };
+            }
+
+    -- where the walk stops, with the tail of the pair's source
+    module _ (stops : ℕ → Bool) (stop : IsTrue (stops state)) (stopped : IsStopped s first wanted stops v) (tails_fits : AllFit s v.target) where
+      given_by : (new : TablesValue S W Map) → Gone v new → Below s (weight_in s new.walk answer_place) (s.extend (tail_in s v.target source) (settled_in s new.walk pair)) → IsPairGiven s first wanted stops state source v new
+      given_by new gone below =
+          let before : ℕ → ℕ → W = λ x y. weight_in s new.walk (pair_place Before x y) in
+          let P : Bool → Type 0 = λ b. IsPairRead s wanted.items first.items state source (if b then s.zero else settled_in s new.walk pair) before in
+          record {
+            gone = gone;
+            met = record {
+              opens = λ k r there g h right j on edge entered n. absurd (false≢true (sym on ∙ stop));
+              reads = subst P (sym stop) (record { stands = λ _ _ k l _ _. below_zero law (before k l) (fits_in new gone (pair_place Before k l)) });
+              rests = λ _. below;
+            };
+          }
+
+      -- without a tail nothing is given
+      pub no_rest : index_at (tail_place source) v.target ≡ None → IsPairGiven s first wanted stops state source v v
+      no_rest none =
+          let B : W → Type 0 = Below s (weight_in s v.walk answer_place) in
+          let fx = settled_fits law pair v.walk walkable.walk in
+          given_by v (none_gone operations laws first wanted v)
+          (subst B (sym (ap (λ u. s.extend u (settled_in s v.walk pair)) (none_weight s (tail_place source) v.target none) ∙ law.extend-zero_left (settled_in s v.walk pair) fx))
+          (below_zero law (weight_in s v.walk answer_place) (place_fits s answer_place v.walk law.fits-zero walkable.walk)))
+
+      module _ (n : ℕ) (d : TableEntry W) (found : index_at (tail_place source) v.target ≡ Some n) (at : slice_get v.target n ≡ Some d) (new : TablesValue S W Map)
+          (made : new ≡ with_entries Walk (lowered_in s answer_place (s.extend d.weight hand) v.walk) (held pair t stands)) where
+        tail_is : tail_in s v.target source ≡ d.weight
+        tail_is = (weight_at_index s (tail_place source) v.target n d found at).0
+
+        fits_d : Fits s d.weight
+        fits_d = subst (Fits s) tail_is (place_fits s (tail_place source) v.target law.fits-zero tails_fits)
+
+        fits_rest : Fits s (s.extend d.weight hand)
+        fits_rest = law.fits-extend d.weight hand fits_d (fits_entry pair t stands)
+
+        rest_is : IsMade s v.system first wanted answer_place (s.extend d.weight hand)
+        rest_is =
+            let P : W → Type 0 = λ u. IsMade s v.system first wanted answer_place (s.extend u hand) in
+            subst P tail_is (rest_made v walkable.system law first wanted walkable.base tails_fits (stopped state stop).0 state source (stopped state stop).1 hand (fits_entry pair t stands) (made_entry pair t stands))
+
+        rest_gone : Gone v new
+        rest_gone = gone_then operations laws first wanted v (held pair t stands) new (to_held pair t stands)
+            (pairs_gone operations laws first wanted (held pair t stands) new (λ x w. (x ≡ answer_place) × (w ≡ s.extend d.weight hand))
+            (λ x w one.
+            let P : Place → Type 0 = λ y. IsMade s v.system first wanted y w in
+            let Q : W → Type 0 = IsMade s v.system first wanted answer_place in
+            (subst (Fits s) (sym one.1) fits_rest, subst P (sym one.0) (subst Q (sym one.1) rest_is)))
+            (one_pair s (λ x w. (x ≡ answer_place) × (w ≡ s.extend d.weight hand)) answer_place (s.extend d.weight hand) (refl, refl) (held pair t stands) new made))
+
+        pub rest_given : IsPairGiven s first wanted stops state source v new
+        rest_given =
+            let walk_is = ap (λ (u : TablesValue S W Map). u.walk) made in
+            let fa = fits_in new rest_gone answer_place in
+            let below = one_below law answer_place (s.extend d.weight hand) fits_rest v.walk new.walk walkable.walk walk_is in
+            let P : W → Type 0 = λ u. Below s (weight_in s new.walk answer_place) (s.extend u (settled_in s new.walk pair)) in
+            given_by new rest_gone
+            (subst P (sym tail_is)
+            (tailed_kept walkable.system law first wanted v.base walkable.base (weight_in s new.walk answer_place) (weight_in s new.walk answer_place) d.weight hand (settled_in s new.walk pair) fa fa fits_d (fits_entry pair t stands)
+            (below_itself law (weight_in s new.walk answer_place) fa) (counts pair t stands new rest_gone) below))
 
   -- what stands before two items
   module _ (k l t : ℕ) (stands : StandsAt t (pair_place Before k l) v.walk) (v1 v2 : TablesValue S W Map) where

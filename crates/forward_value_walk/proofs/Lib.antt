@@ -6,4 +6,6 @@ mod GoingLemmas
 mod LoopLemmas
 mod GivenLemmas
 mod BeginLemmas
+mod StopLemmas
+mod RestLemmas
 mod TurnLemmas

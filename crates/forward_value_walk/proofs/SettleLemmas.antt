@@ -1,5 +1,6 @@
 -- A turn of the walk keeps what was settled.
-use Rattle.std.proofs.Common.{◌≡◌, ◌⊎◌, inl, inr, ℕ, List, sym, ap, ◌∙◌, subst}
+use Rattle.std.proofs.Common.{◌≡◌, ◌⊎◌, inl, inr, ℕ, true, false, List, refl, sym, ap, ◌∙◌, subst}
+use Rattle.std.specs.Prelude.{Bool, if◌then◌else◌}
 use Rattle.semiring_laws.specs.Semiring.{Operations, IsSemiring, Fits, Below}
 use Rattle.semiring_laws.proofs.CallerLemmas.{below_trans, below_zero}
 use Rattle.pushdown_rules.specs.Pushdown.{Pushdown, IsSystem}
@@ -13,7 +14,8 @@ use Rattle.walk_pairs.specs.declared.pairs.Stage.TheVariants.{Down, Before}
 use Rattle.walk_pairs.specs.Pairs.{pair_place, answer_place}
 use Rattle.walk_pairs.proofs.CallerLemmas.{AllFit, pair_kept, before_kept}
 use Rattle.forward_value_search.specs.Places.{arrow}
-use Rattle.forward_value_walk.specs.Walking.{pair_in, before_in, answer_in, settled_pair, settled_before, IsSettled, IsPairMet, IsBeforeMet}
+use Rattle.value_tails.specs.Tailing.{tail_place, tail_in}
+use Rattle.forward_value_walk.specs.Walking.{pair_in, before_in, answer_in, settled_pair, settled_before, going_pair, IsSettled, IsPairMet, IsBeforeMet}
 
 module _ {S W Map : Type 0} {operations : S → Operations W Map} {p : Pushdown S W Map} (system : IsSystem operations p) (laws : IsSemiring (operations p.semiring)) (first wanted : PatternValue)
     (base : List (TableEntry W)) (base_fits : AllFit (operations p.semiring) base) where
@@ -37,7 +39,25 @@ module _ {S W Map : Type 0} {operations : S → Operations W Map} {p : Pushdown 
       let P : W → Type 0 = Below s w' in
       subst P (sym (ap (λ v. s.extend a (s.extend b v)) none ∙ ap (s.extend a) (laws.extend-zero_right b fb) ∙ laws.extend-zero_right a fa)) (below_zero laws w' fw')
 
-  module _ (old new : List (TableEntry W)) (old_fit : AllFit s old) (new_fit : AllFit s new) (falls : (x : Place) → Below s (weight_in s new x) (weight_in s old x)) where
+  -- the same of what a tail makes of it
+  pub tailed_kept : (w w' a x x' : W) → Fits s w → Fits s w' → Fits s a → Fits s x → Below s w' w → Kept x' x → Below s w (s.extend a x) → Below s w' (s.extend a x')
+  tailed_kept w w' a x x' fw fw' fa fx falls (inl same) below =
+      let P : W → Type 0 = λ v. Below s w' (s.extend a v) in
+      subst P (sym same) (below_trans laws w' w (s.extend a x) fw' fw (laws.fits-extend a x fa fx) falls below)
+  tailed_kept w w' a x x' fw fw' fa fx falls (inr none) below =
+      let P : W → Type 0 = Below s w' in
+      subst P (sym (ap (s.extend a) none ∙ laws.extend-zero_right a fa)) (below_zero laws w' fw')
+
+  -- what is read on of a pair, where nothing is once the walk stops
+  going_kept : (b : Bool) (x' x : W) → Kept x' x → Kept (if b then s.zero else x') (if b then s.zero else x)
+  going_kept true x' x kept = inl refl
+  going_kept false x' x kept = kept
+
+  pub going_fits : (b : Bool) (x : W) → Fits s x → Fits s (if b then s.zero else x)
+  going_fits true x fx = laws.fits-zero
+  going_fits false x fx = fx
+
+  module _ (stops : ℕ → Bool) (tails : List (TableEntry W)) (tails_fit : AllFit s tails) (old new : List (TableEntry W)) (old_fit : AllFit s old) (new_fit : AllFit s new) (falls : (x : Place) → Below s (weight_in s new x) (weight_in s old x)) where
     fo : (x : Place) → Fits s (weight_in s old x)
     fo x = place_fits s x old laws.fits-zero old_fit
 
@@ -56,26 +76,30 @@ module _ {S W Map : Type 0} {operations : S → Operations W Map} {p : Pushdown 
     abbrev At : List (TableEntry W) → ℕ → ℕ → W
     At es = before_in s p first wanted base es
 
+    abbrev Going : List (TableEntry W) → ℕ → ℕ → W
+    Going es = going_pair s p first wanted base es stops tails
+
     -- Each pair counts as it did, or for nothing, or has given what it gives: the walk is settled.
-    pub settled_on : ((i m : ℕ) → Kept (settled_pair s p first wanted base new i m) (settled_pair s p first wanted base old i m) ⊎ IsPairMet s p first wanted base new i m)
+    pub settled_on : ((i m : ℕ) → Kept (settled_pair s p first wanted base new i m) (settled_pair s p first wanted base old i m) ⊎ IsPairMet s p first wanted base new stops tails i m)
         → ((k l : ℕ) → Kept (settled_before s p first wanted base new k l) (settled_before s p first wanted base old k l) ⊎ IsBeforeMet s p first wanted base new k l)
-        → IsSettled s p first wanted base old → IsSettled s p first wanted base new
+        → IsSettled s p first wanted base old stops tails → IsSettled s p first wanted base new stops tails
     settled_on each each_before settled = record {
       tops = λ g j edge n. below_trans laws (weight_in s new (pair_place Down j n)) (weight_in s old (pair_place Down j n)) (weight_in s base (arrow wanted.control (Symbol g) n))
           (fn (pair_place Down j n)) (fo (pair_place Down j n)) (fb (arrow wanted.control (Symbol g) n)) (falls (pair_place Down j n)) (settled.tops g j edge n);
       uncovered = λ i low. below_trans laws (weight_in s new (pair_place Down 0 i)) (weight_in s old (pair_place Down 0 i)) (weight_in s base (arrow wanted.control Empty i))
           (fn (pair_place Down 0 i)) (fo (pair_place Down 0 i)) (fb (arrow wanted.control Empty i)) (falls (pair_place Down 0 i)) (settled.uncovered i low);
-      opens = λ k r there g h right i j edge m is n. elim (each i m) [
-        | inr met ↦ met.opens k r there g h right j edge is n
+      opens = λ k r there g h right i j going edge m is n. elim (each i m) [
+        | inr met ↦ met.opens k r there g h right j going edge is n
         | inl kept ↦ opened_kept (weight_in s old (pair_place Down j n)) (weight_in s new (pair_place Down j n)) (weight_in s base (arrow r.control (Symbol r.symbol) n)) r.weight
             (settled_pair s p first wanted base old i m) (settled_pair s p first wanted base new i m) (fo (pair_place Down j n)) (fn (pair_place Down j n)) (fb (arrow r.control (Symbol r.symbol) n))
-            (weight_fits system laws k r there) (fso (pair_place Down i m)) (falls (pair_place Down j n)) kept (settled.opens k r there g h right i j edge m is n)
+            (weight_fits system laws k r there) (fso (pair_place Down i m)) (falls (pair_place Down j n)) kept (settled.opens k r there g h right i j going edge m is n)
       ];
       readings = record {
         pairs = λ i a. elim (each i a) [
           | inr met ↦ met.reads
-          | inl kept ↦ pair_kept laws wanted.items first.items (At old) (At new) (λ x y. fo (pair_place Before x y)) (λ x y. fn (pair_place Before x y)) (λ x y. falls (pair_place Before x y))
-              (settled_pair s p first wanted base old i a) (settled_pair s p first wanted base new i a) (fso (pair_place Down i a)) kept i a (settled.readings.pairs i a)
+          | inl kept ↦ pair_kept laws wanted.items first.items (At old) (At new) (λ x y. fo (pair_place Before x y)) (λ x y. fn (pair_place Before x y)) (λ x y. falls (pair_place Before x y)) (Going old i a) (Going new i a)
+              (going_fits (stops i) (settled_pair s p first wanted base old i a) (fso (pair_place Down i a)))
+              (going_kept (stops i) (settled_pair s p first wanted base new i a) (settled_pair s p first wanted base old i a) kept) i a (settled.readings.pairs i a)
         ];
         befores = λ k l. elim (each_before k l) [
           | inr met ↦ met
@@ -84,4 +108,9 @@ module _ {S W Map : Type 0} {operations : S → Operations W Map} {p : Pushdown 
               (λ x y. falls (pair_place Down x y)) (answer_in s p first wanted base old) (answer_in s p first wanted base new) (fo answer_place) (fn answer_place) (falls answer_place) k l (settled.readings.befores k l)
         ];
       };
+      rests = λ j stop n. elim (each j n) [
+        | inr met ↦ met.rests stop
+        | inl kept ↦ tailed_kept (weight_in s old answer_place) (weight_in s new answer_place) (tail_in s tails n) (settled_pair s p first wanted base old j n) (settled_pair s p first wanted base new j n)
+            (fo answer_place) (fn answer_place) (place_fits s (tail_place n) tails laws.fits-zero tails_fit) (fso (pair_place Down j n)) (falls answer_place) kept (settled.rests j stop n)
+      ];
     }

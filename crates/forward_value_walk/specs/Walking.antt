@@ -1,5 +1,5 @@
 -- The walk over pairs of a state of the second pattern and the number of a source.
-use Rattle.std.specs.Prelude.{◌≡◌, ℕ, zero, suc, ◌≤◌, List, [], ◌∷◌, length, Option, None, Some, slice_get}
+use Rattle.std.specs.Prelude.{◌≡◌, ℕ, zero, suc, ◌≤◌, Bool, false, if◌then◌else◌, nat_eq, IsTrue, IsFalse, List, [], ◌∷◌, length, Option, None, Some, slice_get}
 use Rattle.wpds_base.specs.Lists.{IsIn}
 use Rattle.semiring_laws.specs.Semiring.{Operations, Below}
 use Rattle.pushdown_rules.specs.declared.rule.Rule.{Rule}
@@ -18,7 +18,13 @@ use Rattle.walk_pairs.specs.Pairs.{pair_place, answer_place}
 use Rattle.walk_pairs.specs.Reading.{ComesBefore, IsPairRead, IsBeforeRead, AreReadingsSettled}
 use Rattle.value_laws.specs.Runs.{Sums}
 use Rattle.forward_value_laws.specs.Model.{Source, item, callee, Walks}
+use Rattle.value_tails.specs.Tailing.{tail_in}
 use Rattle.forward_value_search.specs.Places.{arrow, number_of, row_weights}
+
+-- the one state where the walk stops, if it stops at one
+abbrev pub is_stop : Option ℕ → ℕ → Bool
+is_stop None j = false
+is_stop (Some n) j = nat_eq n j
 
 module _ {S W Map : Type 0} (s : Operations W Map) (p : Pushdown S W Map) (first wanted : PatternValue) where
   -- the number of a source, where it has one
@@ -69,22 +75,34 @@ module _ {S W Map : Type 0} (s : Operations W Map) (p : Pushdown S W Map) (first
     abbrev pub pairs_of : ℕ → Source → W
     pairs_of j from = elim (number from) [ None ↦ s.zero | Some n ↦ pair_in j n ]
 
-    -- Each pair that does not wait has given what it gives.
-    pub record IsSettled : Type 0 where
-      pub tops : (g j : ℕ) → IsIn (record { from = 0; symbol = g; to = j }) (edges_of wanted.items) → (n : ℕ) → Below s (pair_in j n) (weight_in s base (arrow wanted.control (Symbol g) n))
-      pub uncovered : (i : ℕ) → i ≤ length first.items → Below s (pair_in 0 i) (weight_in s base (arrow wanted.control Empty i))
-      pub opens : (k : ℕ) (r : Rule S W Map) → slice_get p.rules k ≡ Some r → (g h : ℕ) → r.right ≡ g ∷ h ∷ [] → (i j : ℕ)
-          → IsIn (record { from = i; symbol = h; to = j }) (edges_of wanted.items) → (m : ℕ) → number (callee r.to g) ≡ Some m → (n : ℕ)
-          → Below s (pair_in j n) (s.extend (weight_in s base (arrow r.control (Symbol r.symbol) n)) (s.extend r.weight (settled_pair i m)))
-      pub readings : AreReadingsSettled s wanted.items first.items pair_in settled_pair before_in settled_before answer_in
+    -- the tail of a source, as laws speak of it
+    abbrev pub tails_of : List (TableEntry W) → Source → W
+    tails_of tails from = elim (number from) [ None ↦ s.zero | Some n ↦ tail_in s tails n ]
 
-    -- All that a pair gives with what counts of it is there.
-    pub record IsPairMet (i m : ℕ) : Type 0 where
-      pub opens : (k : ℕ) (r : Rule S W Map) → slice_get p.rules k ≡ Some r → (g h : ℕ) → r.right ≡ g ∷ h ∷ [] → (j : ℕ)
-          → IsIn (record { from = i; symbol = h; to = j }) (edges_of wanted.items) → number (callee r.to g) ≡ Some m → (n : ℕ)
-          → Below s (pair_in j n) (s.extend (weight_in s base (arrow r.control (Symbol r.symbol) n)) (s.extend r.weight (settled_pair i m)))
-      pub reads : IsPairRead s wanted.items first.items i m (settled_pair i m) before_in
-
-    -- So is what stands before two items.
+    -- What stands before two items has given what it gives.
     abbrev pub IsBeforeMet : ℕ → ℕ → Type 0
     IsBeforeMet k l = IsBeforeRead s wanted.items first.items k l (settled_before k l) pair_in before_in answer_in
+
+    -- At some states the walk goes no further: what lies below is told by tails.
+    module _ (stops : ℕ → Bool) (tails : List (TableEntry W)) where
+      -- what of a pair is read on
+      abbrev pub going_pair : ℕ → ℕ → W
+      going_pair i m = if stops i then s.zero else settled_pair i m
+
+      -- Each pair that does not wait has given what it gives.
+      pub record IsSettled : Type 0 where
+        pub tops : (g j : ℕ) → IsIn (record { from = 0; symbol = g; to = j }) (edges_of wanted.items) → (n : ℕ) → Below s (pair_in j n) (weight_in s base (arrow wanted.control (Symbol g) n))
+        pub uncovered : (i : ℕ) → i ≤ length first.items → Below s (pair_in 0 i) (weight_in s base (arrow wanted.control Empty i))
+        pub opens : (k : ℕ) (r : Rule S W Map) → slice_get p.rules k ≡ Some r → (g h : ℕ) → r.right ≡ g ∷ h ∷ [] → (i j : ℕ) → IsFalse (stops i)
+            → IsIn (record { from = i; symbol = h; to = j }) (edges_of wanted.items) → (m : ℕ) → number (callee r.to g) ≡ Some m → (n : ℕ)
+            → Below s (pair_in j n) (s.extend (weight_in s base (arrow r.control (Symbol r.symbol) n)) (s.extend r.weight (settled_pair i m)))
+        pub readings : AreReadingsSettled s wanted.items first.items pair_in going_pair before_in settled_before answer_in
+        pub rests : (j : ℕ) → IsTrue (stops j) → (n : ℕ) → Below s answer_in (s.extend (tail_in s tails n) (settled_pair j n))
+
+      -- All that a pair gives with what counts of it is there.
+      pub record IsPairMet (i m : ℕ) : Type 0 where
+        pub opens : (k : ℕ) (r : Rule S W Map) → slice_get p.rules k ≡ Some r → (g h : ℕ) → r.right ≡ g ∷ h ∷ [] → (j : ℕ) → IsFalse (stops i)
+            → IsIn (record { from = i; symbol = h; to = j }) (edges_of wanted.items) → number (callee r.to g) ≡ Some m → (n : ℕ)
+            → Below s (pair_in j n) (s.extend (weight_in s base (arrow r.control (Symbol r.symbol) n)) (s.extend r.weight (settled_pair i m)))
+        pub reads : IsPairRead s wanted.items first.items i m (going_pair i m) before_in
+        pub rests : IsTrue (stops i) → Below s answer_in (s.extend (tail_in s tails m) (settled_pair i m))

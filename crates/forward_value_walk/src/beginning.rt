@@ -1,4 +1,4 @@
-ghost use Rattle.std.specs.Prelude.{◌≤◌, length, OnOk, ℕ};
+ghost use Rattle.std.specs.Prelude.{◌≤◌, Bool, length, OnOk, ℕ};
 ghost use Rattle.semiring_laws.specs.Semiring.{Below};
 ghost use Rattle.weight_tables.specs.Entries.{weight_in};
 ghost use Rattle.walk_pairs.specs.Answering.{IsWalkedOver};
@@ -71,7 +71,7 @@ pub(crate) fn begin<'s, S: Semiring, M: Weigher<S>>(
 ) -> Result<(), OutOfMemory>
     requires { IsFinished S.operations tables.old.system first.now tables.old }
     ensures walking { let s = S.operations tables.old.system.semiring in
-        OnOk result (IsWalking s first.now wanted.now tables.new) }
+        OnOk result ((stops : ℕ → Bool) → IsWalking s first.now wanted.now stops tables.new) }
     ensures others { OnOk result (IsWalkedOver tables.old tables.new) }
 {
     tables.valid();

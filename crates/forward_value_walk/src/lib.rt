@@ -8,4 +8,4 @@ mod giving;
 mod opening;
 mod turns;
 
-pub use turns::walk;
+pub use turns::{ends_in_rest, walk, walk_by_tails};

@@ -94,9 +94,9 @@ module _ {W Map : Type 0} {s : Operations W Map} (laws : IsSemiring s) (from to 
               let B : ℕ → Type 0 = λ n. Below s (across_in s es n a) (s.extend (down_in s es i c) m) in
               subst B (sym to) (below_trans laws x (s.extend w m) (s.extend (down_in s es i c) m) (fa (suc k) a) (laws.fits-extend w m (fv k c) (fe c g a)) (laws.fits-extend (down_in s es i c) m (fd i c) (fe c g a))
               ((aboves k c).goes_in g takes a) (extend_right_keeps_below laws w (down_in s es i c) m (fv k c) (fd i c) (fe c g a) below));
-          reads = λ i g j edge a b edge'. readings_read laws from.items to.items (across_in s es) (before_in s es) (answer_in s es) fa fb (fits answer_place) closed g i j a b edge edge';
+          reads = λ i g j edge a b edge'. readings_read laws from.items to.items (across_in s es) (across_in s es) (before_in s es) (answer_in s es) fa fa fb (fits answer_place) closed g i j a b edge edge';
           meets = λ i. (downs i to.control).meets refl;
-          ends = λ i a final final'. readings_end laws from.items to.items (across_in s es) (before_in s es) (answer_in s es) fa fb (fits answer_place) closed i a final final';
+          ends = λ i a final final'. readings_end laws from.items to.items (across_in s es) (across_in s es) (before_in s es) (answer_in s es) fa fa fb (fits answer_place) closed i a final final';
         }
 
     -- where nothing counts, all is settled once the walk has begun

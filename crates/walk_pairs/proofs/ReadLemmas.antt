@@ -243,8 +243,8 @@ module _ (items : List Item) where
       subst P (same_Some is.0 x (sym is.1 ∙ at)) is.2))
 
 -- ---- settled pairs go along all edges
-module _ {W Map : Type 0} {s : Operations W Map} (laws : IsSemiring s) (one other : List Item) (pair before : ℕ → ℕ → W) (answer : W) (fp : (i a : ℕ) → Fits s (pair i a)) (fb : (k l : ℕ) → Fits s (before k l)) (fa : Fits s answer)
-    (settled : AreReadingsSettled s one other pair pair before before answer) where
+module _ {W Map : Type 0} {s : Operations W Map} (laws : IsSemiring s) (one other : List Item) (pair counts before : ℕ → ℕ → W) (answer : W) (fp : (i a : ℕ) → Fits s (pair i a)) (fc : (i a : ℕ) → Fits s (counts i a)) (fb : (k l : ℕ) → Fits s (before k l)) (fa : Fits s answer)
+    (settled : AreReadingsSettled s one other pair counts before before answer) where
   along : (n k l : ℕ) → l ≤ length other → ((i : ℕ) → k ≤ i → i < n + k → IsSkipped one i) → Below s (before (n + k) l) (before k l)
   along zero k l within skips = let e : 0 + k ≡ k = omega arith in let P : ℕ → Type 0 = λ q. Below s (before q l) (before k l) in subst P (sym e) (below_itself laws (before k l) (fb k l))
   along (suc n) k l within skips =
@@ -261,7 +261,7 @@ module _ {W Map : Type 0} {s : Operations W Map} (laws : IsSemiring s) (one othe
       subst P (sym e) (below_trans laws (before k (suc (n + l))) (before k (n + l)) (before k l) (fb k (suc (n + l))) (fb k (n + l)) (fb k l)
       ((settled.befores k (n + l)).skips_other within (skips (n + l) (omega arith) (omega arith))) (along_other n k l within (λ i low high. skips i low (omega (arith, high)))))
 
-  come : (i a k l : ℕ) → i ≤ length one → a ≤ length other → k ≤ length one → l ≤ length other → ComesBefore one i k → ComesBefore other a l → Below s (before k l) (pair i a)
+  come : (i a k l : ℕ) → i ≤ length one → a ≤ length other → k ≤ length one → l ≤ length other → ComesBefore one i k → ComesBefore other a l → Below s (before k l) (counts i a)
   come i a k l low low' high high' comes comes' =
       let m : ℕ = comes.begins in
       let m' : ℕ = comes'.begins in
@@ -269,17 +269,17 @@ module _ {W Map : Type 0} {s : Operations W Map} (laws : IsSemiring s) (one othe
       let n' : ℕ = l - m' in
       let e : n + m ≡ k = let above = comes.above in omega (arith, above) in
       let e' : n' + m' ≡ l = let above = comes'.above in omega (arith, above) in
-      let first : Below s (before m m') (pair i a) = (settled.pairs i a).stands low low' m m' comes.stands comes'.stands in
+      let first : Below s (before m m') (counts i a) = (settled.pairs i a).stands low low' m m' comes.stands comes'.stands in
       let P : ℕ → Type 0 = λ q. Below s (before q m') (before m m') in
       let Q : ℕ → Type 0 = λ q. Below s (before k q) (before k m') in
       let second : Below s (before k m') (before m m') = subst P e (along n m m' (let above = comes'.above in omega (arith, above, high')) (λ j from high. comes.skips j from (omega (arith, high, e)))) in
       let third : Below s (before k l) (before k m') = subst Q e' (along_other n' k m' high (λ j from high. comes'.skips j from (omega (arith, high, e')))) in
-      below_trans laws (before k l) (before k m') (pair i a) (fb k l) (fb k m') (fp i a) third (below_trans laws (before k m') (before m m') (pair i a) (fb k m') (fb m m') (fp i a) second first)
+      below_trans laws (before k l) (before k m') (counts i a) (fb k l) (fb k m') (fc i a) third (below_trans laws (before k m') (before m m') (counts i a) (fb k m') (fb m m') (fc i a) second first)
 
   taken_within : (items : List Item) (k g : ℕ) → TakesAt items (suc k) g → k < length items
   taken_within items k g takes = let low = slice_get_within items (suc k - 1) takes.0 takes.1 in omega (arith, low)
 
-  pub readings_read : (g i j a b : ℕ) → IsIn (record { from = i; symbol = g; to = j }) (edges_of one) → IsIn (record { from = a; symbol = g; to = b }) (edges_of other) → Below s (pair j b) (pair i a)
+  pub readings_read : (g i j a b : ℕ) → IsIn (record { from = i; symbol = g; to = j }) (edges_of one) → IsIn (record { from = a; symbol = g; to = b }) (edges_of other) → Below s (pair j b) (counts i a)
   readings_read g i j a b edge edge' =
       let (k, to, comes, takes) = edge_comes one i g j edge in
       let (l, to', comes', takes') = edge_comes other a g b edge' in
@@ -288,15 +288,15 @@ module _ {W Map : Type 0} {s : Operations W Map} (laws : IsSemiring s) (one othe
       let low : i ≤ length one = comes_within one i k comes (omega (arith, high)) in
       let low' : a ≤ length other = comes_within other a l comes' (omega (arith, high')) in
       let here : Below s (pair (suc k) (suc l)) (before k l) = (settled.befores k l).reads g takes takes' in
-      let P : ℕ → Type 0 = λ q. Below s (pair q b) (pair i a) in
-      let Q : ℕ → Type 0 = λ q. Below s (pair (suc k) q) (pair i a) in
-      subst P (sym to) (subst Q (sym to') (below_trans laws (pair (suc k) (suc l)) (before k l) (pair i a) (fp (suc k) (suc l)) (fb k l) (fp i a) here (come i a k l low low' (omega (arith, high)) (omega (arith, high')) comes comes')))
+      let P : ℕ → Type 0 = λ q. Below s (pair q b) (counts i a) in
+      let Q : ℕ → Type 0 = λ q. Below s (pair (suc k) q) (counts i a) in
+      subst P (sym to) (subst Q (sym to') (below_trans laws (pair (suc k) (suc l)) (before k l) (counts i a) (fp (suc k) (suc l)) (fb k l) (fc i a) here (come i a k l low low' (omega (arith, high)) (omega (arith, high')) comes comes')))
 
-  pub readings_end : (i a : ℕ) → IsTrue (is_final_of one i) → IsTrue (is_final_of other a) → Below s answer (pair i a)
+  pub readings_end : (i a : ℕ) → IsTrue (is_final_of one i) → IsTrue (is_final_of other a) → Below s answer (counts i a)
   readings_end i a final final' =
       let (low, comes) = final_comes one i final in
       let (low', comes') = final_comes other a final' in
-      below_trans laws answer (before (length one) (length other)) (pair i a) fa (fb (length one) (length other)) (fp i a)
+      below_trans laws answer (before (length one) (length other)) (counts i a) fa (fb (length one) (length other)) (fc i a)
       ((settled.befores (length one) (length other)).ends refl refl) (come i a (length one) (length other) low low' (omega arith) (omega arith) comes comes')
 
 -- ---- what was given stays given

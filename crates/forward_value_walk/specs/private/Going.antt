@@ -1,5 +1,5 @@
 -- What holds of a walk while it goes on.
-use Rattle.std.specs.Prelude.{◌≡◌, ℕ, List, [], ◌∷◌, Some, slice_get}
+use Rattle.std.specs.Prelude.{◌≡◌, ℕ, Bool, IsTrue, List, [], ◌∷◌, Some, slice_get}
 use Rattle.semiring_laws.specs.Semiring.{Operations, Fits, Below}
 use Rattle.pushdown_rules.specs.declared.rule.Rule.{Rule}
 use Rattle.config_patterns.specs.Membership.{PatternValue}
@@ -13,6 +13,8 @@ use Rattle.walk_pairs.specs.Lowerings.{AreLowered}
 use Rattle.walk_pairs.specs.Answering.{IsWalkedOver}
 use Rattle.forward_value_laws.specs.Model.{callee}
 use Rattle.forward_value_search.specs.Places.{arrow}
+use Rattle.forward_value_laws.specs.Tails.{IsSymbol, TakesRest}
+use Rattle.value_tails.specs.Tailing.{IsTailed}
 use Rattle.forward_value_walk.specs.Walking.{number, IsMade, IsSettled, IsPairMet, IsBeforeMet}
 use Rattle.forward_value_walk.specs.private.Opening.{IsCallMet}
 
@@ -34,6 +36,10 @@ module _ {S W Map : Type 0} (s : Operations W Map) (first wanted : PatternValue)
     pub lowered : AreLowered s (IsRuns v) v.walk new.walk
     pub others : IsWalkedOver v new
 
+  -- The target layer has the tails that are asked for where the walk stops, and there it may stop: the state takes the rest.
+  abbrev pub IsStopped : (ℕ → Bool) → TablesValue S W Map → Type 0
+  IsStopped stops v = (j : ℕ) → IsTrue (stops j) → IsTailed s first v × TakesRest (IsSymbol v.system first) wanted.items j
+
   -- All calls of the callee of a number were given to the pairs above them.
   pub record AreCallsGiven (state source : ℕ) (v new : TablesValue S W Map) : Type 0 where
     pub gone : IsGoneOn v new
@@ -41,9 +47,9 @@ module _ {S W Map : Type 0} (s : Operations W Map) (first wanted : PatternValue)
         → IsCallMet s first wanted state source k v new.walk r
 
   -- A pair has given all that it gives.
-  pub record IsPairGiven (state source : ℕ) (v new : TablesValue S W Map) : Type 0 where
+  pub record IsPairGiven (stops : ℕ → Bool) (state source : ℕ) (v new : TablesValue S W Map) : Type 0 where
     pub gone : IsGoneOn v new
-    pub met : IsPairMet s v.system first wanted v.base new.walk state source
+    pub met : IsPairMet s v.system first wanted v.base new.walk stops v.target state source
 
   -- So has what stands before two items.
   pub record AreItemsGiven (k l : ℕ) (v new : TablesValue S W Map) : Type 0 where
@@ -51,12 +57,12 @@ module _ {S W Map : Type 0} (s : Operations W Map) (first wanted : PatternValue)
     pub met : IsBeforeMet s v.system first wanted v.base new.walk k l
 
   -- What stands at a place has given all that it gives. What is no pair gives nothing.
-  pub record IsPlaceGiven (place : Place) (v new : TablesValue S W Map) : Type 0 where
+  pub record IsPlaceGiven (stops : ℕ → Bool) (place : Place) (v new : TablesValue S W Map) : Type 0 where
     pub gone : IsGoneOn v new
-    pub met : (i m : ℕ) → place ≡ pair_place Down i m → IsPairMet s v.system first wanted v.base new.walk i m
+    pub met : (i m : ℕ) → place ≡ pair_place Down i m → IsPairMet s v.system first wanted v.base new.walk stops v.target i m
     pub met_before : (k l : ℕ) → place ≡ pair_place Before k l → IsBeforeMet s v.system first wanted v.base new.walk k l
 
   -- Each weight combines runs, and each pair that does not wait has given what it gives.
-  pub record IsWalking (v : TablesValue S W Map) : Type 0 where
+  pub record IsWalking (stops : ℕ → Bool) (v : TablesValue S W Map) : Type 0 where
     pub made : AreMade v
-    pub settled : IsSettled s v.system first wanted v.base v.walk
+    pub settled : IsSettled s v.system first wanted v.base v.walk stops v.target

@@ -1,4 +1,4 @@
-use Rattle.std.proofs.Common.{ℕ, ap, ◌∙◌, subst}
+use Rattle.std.proofs.Common.{ℕ, false, ap, ◌∙◌, subst}
 use Rattle.config_patterns.specs.Edges.{edges_of}
 use Rattle.weight_tables.specs.Tables.{TablesValue, with_hand}
 use Rattle.weight_tables.specs.declared.layer.Layer.TheVariants.{Base}
@@ -37,6 +37,6 @@ returns g c =
     let P : ℕ → Type 0 = λ n. AreFallsGiven (g.S.Semiring.operations v1.system.semiring) v1 Then Base Down n (edges_of a.wanted.now.items) 0 v2 in
     let tops = subst P c.control.ensures.value c.in_ok-fall_ways.ensures in
     record {
-      walking = begun_walking g.S.Semiring.operations (λ x. g.S.Semiring.laws x) a.first.now a.wanted.now v c.valid.ensures.system c.valid.ensures.tables c.requires v1 v2 v3 is tops c.in_ok-uncover_all.ensures.gone c.in_ok-uncover_all.ensures.met;
-      others = begun_over g.S.Semiring.operations (λ x. g.S.Semiring.laws x) a.first.now a.wanted.now v c.valid.ensures.system c.valid.ensures.tables c.requires v1 v2 v3 is tops c.in_ok-uncover_all.ensures.gone c.in_ok-uncover_all.ensures.met;
+      walking = λ stops. begun_walking g.S.Semiring.operations (λ x. g.S.Semiring.laws x) a.first.now a.wanted.now v c.valid.ensures.system c.valid.ensures.tables c.requires v1 v2 v3 is tops stops c.in_ok-uncover_all.ensures.gone c.in_ok-uncover_all.ensures.met;
+      others = begun_over g.S.Semiring.operations (λ x. g.S.Semiring.laws x) a.first.now a.wanted.now v c.valid.ensures.system c.valid.ensures.tables c.requires v1 v2 v3 is tops (λ _. false) c.in_ok-uncover_all.ensures.gone c.in_ok-uncover_all.ensures.met;
     }

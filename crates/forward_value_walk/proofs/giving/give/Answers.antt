@@ -5,7 +5,7 @@ use Rattle.walk_pairs.specs.declared.pairs.Pair.{Pair}
 use Rattle.walk_pairs.specs.declared.pairs.Stage.TheVariants.{Down, Across, Before, Above}
 use Rattle.walk_pairs.specs.Pairs.{number_of, pair_place}
 use Rattle.walk_pairs.proofs.CallerLemmas.{pair_parts, stages_apart}
-use Rattle.forward_value_walk.specs.Walking.{IsPairMet, IsBeforeMet}
+use Rattle.forward_value_walk.specs.Walking.{IsPairMet, IsBeforeMet, is_stop}
 use Rattle.forward_value_walk.proofs.GoingLemmas.{none_gone}
 use Rattle.forward_value_walk.proofs.OpeningLemmas.{entry_at}
 use Rattle.forward_value_walk.proofs.giving.give.Goals as goal
@@ -46,8 +46,8 @@ returns-in_ok-give_pair-in-Down g c = λ e there.
       gone = given.gone;
       met = λ i m is.
           let parts = pair_parts Down p.state p.to i m (sym here ∙ is) in
-          let P : ℕ → Type 0 = λ n. IsPairMet s v.system a.first.now a.wanted.now v.base c.give_pair.new.tables.walk n p.to in
-          let Q : ℕ → Type 0 = λ n. IsPairMet s v.system a.first.now a.wanted.now v.base c.give_pair.new.tables.walk i n in
+          let P : ℕ → Type 0 = λ n. IsPairMet s v.system a.first.now a.wanted.now v.base c.give_pair.new.tables.walk (is_stop a.stop) v.target n p.to in
+          let Q : ℕ → Type 0 = λ n. IsPairMet s v.system a.first.now a.wanted.now v.base c.give_pair.new.tables.walk (is_stop a.stop) v.target i n in
           subst Q parts.1 (subst P parts.0 given.met);
       met_before = λ k l is. absurd (stages_apart Down Before p.state p.to k l (λ e. omega (arith, e)) (sym here ∙ is));
     }

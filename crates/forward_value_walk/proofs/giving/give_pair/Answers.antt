@@ -1,5 +1,7 @@
+use Rattle.std.proofs.Common.{sym, ◌∙◌}
 use Rattle.walk_pairs.specs.declared.pairs.Stage.TheVariants.{Down}
 use Rattle.walk_pairs.specs.Pairs.{pair_place}
+use Rattle.forward_value_walk.specs.Walking.{is_stop}
 use Rattle.forward_value_walk.proofs.GoingLemmas.{walkable_of, within_of, gone_walkable, gone_stands}
 use Rattle.forward_value_walk.proofs.GivenLemmas.{before_calls, pair_given}
 use Rattle.forward_value_walk.proofs.giving.give_pair.Goals as goal
@@ -30,4 +32,4 @@ returns g c =
     let walkable = walkable_of g.S.Semiring.operations a.first.now a.wanted.now v c.valid.ensures.system c.valid.ensures.tables c.requires.finished c.requires.made in
     let stands = c.requires.entry in
     pair_given g.S.Semiring.operations (λ x. g.S.Semiring.laws x) a.first.now a.wanted.now v walkable c.valid.ensures.tables.walk.distinct a.state a.source a.t stands c.hold.new.self c.read_on.new.tables
-    (c.in_ok-hold.ensures.ok stands.0 stands.1) c.in_ok-read_on.ensures c.open_calls.new.tables c.in_ok-open_calls.ensures
+    (c.in_ok-hold.ensures.ok stands.0 stands.1) c.in_ok-read_on.ensures (is_stop a.stop) (sym c.stops_at.ensures ∙ c.if-stops_at.false) c.open_calls.new.tables c.in_ok-open_calls.ensures
