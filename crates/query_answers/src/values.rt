@@ -66,7 +66,7 @@ impl<'s, S: Semiring> Values<'s, S> {
 
 impl<'s, S: Semiring<W: Send + Sync, Ret: Send + Sync> + Send + Sync> Values<'s, S> {
     /// The values of the answers to queries that begin at one pattern: one for each pattern where runs end, in order. Each worker
-    /// calls the gate between taking a transition and settling it. Refused only when out of memory.
+    /// calls the gate once for each transition that it takes. Refused only when out of memory.
     pub fn values_from<H: Threads + Wait + Sync, G: Gate>(
         &mut self,
         rt: &H,
