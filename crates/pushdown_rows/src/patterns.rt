@@ -149,7 +149,11 @@ fn items_of_all_symbols(rt: HostRuntime) {
         for code in 0..27 {
             let stack = [code % 3, code / 3 % 3, code / 9];
             let config = Config::new(alloc, 7, &stack).expect(&rt, "an answer");
-            assert_eq!(rt; all.matches(&config), listed.matches(&config), "stack {code}");
+            assert_eq!(rt;
+                all.matches(&config),
+                listed.matches(&config),
+                "stack {code}"
+            );
         }
     }
 }
