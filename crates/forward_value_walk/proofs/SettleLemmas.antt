@@ -25,12 +25,7 @@ module _ {S W Map : Type 0} {operations : S → Operations W Map} {p : Pushdown 
   abbrev Kept : W → W → Type 0
   Kept x' x = (x' ≡ x) ⊎ (x' ≡ s.zero)
 
-  -- what lay below a weight lies below what counts of it
-  pub itself_kept : (w w' x x' : W) → Fits s w → Fits s w' → Fits s x → Below s w' w → Kept x' x → Below s w x → Below s w' x'
-  itself_kept w w' x x' fw fw' fx falls (inl same) below = let P : W → Type 0 = Below s w' in subst P (sym same) (below_trans laws w' w x fw' fw fx falls below)
-  itself_kept w w' x x' fw fw' fx falls (inr none) below = let P : W → Type 0 = Below s w' in subst P (sym none) (below_zero laws w' fw')
-
-  -- the same of what a call that stays open makes of it
+  -- what lay below what a call that stays open makes of a weight lies below what it makes of what counts of it
   pub opened_kept : (w w' a b x x' : W) → Fits s w → Fits s w' → Fits s a → Fits s b → Fits s x → Below s w' w → Kept x' x → Below s w (s.extend a (s.extend b x)) → Below s w' (s.extend a (s.extend b x'))
   opened_kept w w' a b x x' fw fw' fa fb fx falls (inl same) below =
       let P : W → Type 0 = λ v. Below s w' (s.extend a (s.extend b v)) in

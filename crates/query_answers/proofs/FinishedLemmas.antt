@@ -8,6 +8,7 @@ use Rattle.forward_value_laws.specs.Model.{IsClosed, IsSound}
 use Rattle.forward_value_search.specs.Places.{row_weights}
 use Rattle.forward_value_search.specs.Search.{IsFinished}
 use Rattle.pushdown_rules.specs.Pushdown.{Pushdown}
+use Rattle.value_tails.specs.Tailing.{IsTailed}
 use Rattle.walk_pairs.specs.Answering.{IsWalkedOver}
 use Rattle.weight_tables.specs.Entries.{TableEntry, weight_in}
 use Rattle.weight_tables.specs.Tables.{TablesValue}
@@ -21,3 +22,10 @@ finished_stays {S} {W} {Map} operations p first old new walked is =
     let P : List (TableEntry W) → Type 0 = λ es. IsSound s p first.control (edges_of first.items) (row_weights s.zero (length first.items) p (weight_in s es)) in
     let Q : List (TableEntry W) → Type 0 = λ es. IsClosed s p first.control (edges_of first.items) (row_weights s.zero (length first.items) p (weight_in s es)) in
     record { sound = subst P (sym same) is.sound; closed = subst Q (sym same) is.closed }
+
+-- so do its tails
+pub tailed_stays : {S W Map : Type 0} (operations : S → Operations W Map) (first : PatternValue) (old new : TablesValue S W Map) → IsWalkedOver old new
+    → IsTailed (operations old.system.semiring) first old → IsTailed (operations new.system.semiring) first new
+tailed_stays {S} {W} {Map} operations first old new walked is =
+    let P : TablesValue S W Map → Type 0 = λ v. IsTailed (operations v.system.semiring) first v in
+    subst P (sym walked) (record { sums = is.sums; ends = is.ends; reads = is.reads; opens = is.opens })

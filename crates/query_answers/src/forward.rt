@@ -1,16 +1,19 @@
 //! The values of many queries forwards, by the plain search that one worker makes.
 
-ghost use Rattle.std.specs.Prelude.{◌≡◌, IfOk};
+ghost use Rattle.std.specs.Prelude.{◌≡◌, true, IfOk, OnOk};
 ghost use Rattle.forward_value_search.specs.Search.{IsFinished};
+ghost use Rattle.value_tails.specs.Tailing.{IsTailed};
+ghost use Rattle.walk_pairs.specs.Answering.{IsAnswered, IsWalkedOver};
 ghost use Rattle.query_answers.specs.private.Answered.{AreAnswered};
 
 use config_patterns::Pattern;
 use forward_value_search::{open, turn};
-use forward_value_walk::walk;
+use forward_value_walk::{ends_in_rest, walk, walk_by_tails};
 use pushdown_rules::System;
 use semiring_laws::Semiring;
 use std::alloc::Global;
-use weight_tables::{PlainWeigher, Tables};
+use value_tails::make_tails;
+use weight_tables::{PlainWeigher, Tables, Weigher};
 use wpds_base::{Gate, OutOfMemory};
 
 // What runs from a pattern come to, which is searched to its end.
@@ -33,8 +36,64 @@ fn close_from<'s, S: Semiring, G: Gate>(
     }
 }
 
+// Whether at least two patterns end in any number of any symbols, so that the tails of all sources serve more than once.
+fn share_tails<S: Semiring>(system: &System<S>, from: &Pattern, tos: &[Pattern]) -> bool {
+    let mut one = false;
+    for to in tos {
+        if ends_in_rest(system, from, to) {
+            if one {
+                return true;
+            }
+            one = true;
+        }
+    }
+    false
+}
+
+// Makes the tails of all sources after a search, where they are wanted.
+fn prepare<'s, S: Semiring, M: Weigher<S>>(
+    tables: &mut Tables<'s, S, M>,
+    from: &Pattern,
+    by_tails: bool,
+) -> Result<(), OutOfMemory>
+    requires { IsFinished S.operations tables.old.system from.now tables.old }
+    ensures system { OnOk result (tables.new.system ≡ tables.old.system) }
+    ensures finished { OnOk result
+        (IsFinished S.operations tables.old.system from.now tables.new) }
+    ensures tails { let s = S.operations tables.old.system.semiring in
+        OnOk result (by_tails ≡ true → IsTailed s from.now tables.new) }
+{
+    if by_tails {
+        make_tails(tables, from)?;
+        return Ok(());
+    }
+    Ok(())
+}
+
+// The value of all runs to a pattern, by tails where they were made.
+fn value_to<'s, S: Semiring, M: Weigher<S>>(
+    tables: &mut Tables<'s, S, M>,
+    from: &Pattern,
+    to: &Pattern,
+    by_tails: bool,
+) -> Result<S::W, OutOfMemory>
+    requires finished { IsFinished S.operations tables.old.system from.now tables.old }
+    requires tails { let s = S.operations tables.old.system.semiring in
+        by_tails ≡ true → IsTailed s from.now tables.old }
+    ensures answer { let p = tables.old.system in
+        IfOk result (IsAnswered (S.operations p.semiring) p from.now to.now) }
+    ensures others { OnOk result (IsWalkedOver tables.old tables.new) }
+{
+    if by_tails {
+        walk_by_tails(tables, from, to)
+    } else {
+        walk(tables, from, to)
+    }
+}
+
 /// The values of the answers to queries that begin at one pattern, forwards: one for each pattern where runs end, in order. The runs
-/// from the first pattern are searched once for all of them. The gate is called once for each transition that is taken. Refused
+/// from the first pattern are searched once for all of them, and the ways down from where they begin are summed up once where
+/// at least two patterns end in any number of any symbols. The gate is called once for each transition that is taken. Refused
 /// only when out of memory.
 pub(crate) fn forward_values<S: Semiring, G: Gate>(
     alloc: Global,
@@ -47,9 +106,11 @@ pub(crate) fn forward_values<S: Semiring, G: Gate>(
         IfOk result (λ vs. are vs.items) }
 {
     let mut tables = close_from(alloc, system, from, gate)?;
+    let by_tails = share_tails(system, from, tos);
+    prepare(&mut tables, from, by_tails)?;
     let mut values = Vec::new(alloc);
     for to in tos {
-        values.push(walk(&mut tables, from, to)?)?;
+        values.push(value_to(&mut tables, from, to, by_tails)?)?;
     }
     Ok(values)
 }
