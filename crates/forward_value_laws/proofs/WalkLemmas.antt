@@ -94,19 +94,24 @@ module _ {S W Map : Type 0} {operations : S → Operations W Map} {p : Pushdown 
           open_value valid laws k r there g h right run (at_stack r.to (g ∷ [])) (at_stack wanted.control word) goes refl is.5,
         )
 
-    -- a call that stays open
-    pub opens_sum : (i j : ℕ) → IsIn (record { from = i; symbol = h; to = j }) others → (from : Source) (v w : W)
-        → Sums s value (To (head_of r) from) v → Sums s value (Walk i (callee r.to g)) w → Sums s value (Walk j from) (s.extend (s.extend v r.weight) w)
-    opens_sum i j edge from v w above below =
+    -- a call that stays open above runs that each read to a state from which an edge leads on
+    pub opens_runs : (Is : List ℕ → Type 0) (j : ℕ) → ((run : List ℕ) → Is run → (i : ℕ) × IsIn (record { from = i; symbol = h; to = j }) others × Walk i (callee r.to g) run) → (from : Source) (v w : W)
+        → Sums s value (To (head_of r) from) v → Sums s value Is w → Sums s value (Walk j from) (s.extend (s.extend v r.weight) w)
+    opens_runs Is j leads from v w above below =
         let fr = weight_fits valid laws k r there in
-        let inner = sums_map laws value fv (Walk i (callee r.to g)) (On j) (λ a. k ∷ a) (s.extend r.weight) (linear_left laws r.weight fr) (λ run is. opened i j edge run is) w below in
+        let inner = sums_map laws value fv Is (On j) (λ a. k ∷ a) (s.extend r.weight) (linear_left laws r.weight fr) (λ run is. let one = leads run is in opened one.0 j one.1 run one.2) w below in
         let all = sums_pairs laws value fv (To (head_of r) from) (On j) (Walk j from) (λ a b. a ++ b) s.extend (linear_right laws) (linear_left laws)
         (λ a b is on. (
           (is.begin, on.0 ++ h ∷ [], is.begins, run_then p a b is.begin (head_of r) (at_stack wanted.control (on.0 ++ h ∷ [])) is.goes on.1, on.2, λ e. absurd (on.3 e)),
           after_value valid laws a b (head_of r) (at_stack wanted.control (on.0 ++ h ∷ [])) on.1 refl on.3,
         )) v (s.extend r.weight w) above inner in
         let T : W → Type 0 = Sums s value (Walk j from) in
-        subst T (sym (laws.extend_assoc v r.weight w (sums_fit laws value fv (To (head_of r) from) v above) fr (sums_fit laws value fv (Walk i (callee r.to g)) w below))) all
+        subst T (sym (laws.extend_assoc v r.weight w (sums_fit laws value fv (To (head_of r) from) v above) fr (sums_fit laws value fv Is w below))) all
+
+    -- and above all runs to one state
+    pub opens_sum : (i j : ℕ) → IsIn (record { from = i; symbol = h; to = j }) others → (from : Source) (v w : W)
+        → Sums s value (To (head_of r) from) v → Sums s value (Walk i (callee r.to g)) w → Sums s value (Walk j from) (s.extend (s.extend v r.weight) w)
+    opens_sum i j edge from v w above below = opens_runs (Walk i (callee r.to g)) j (λ run is. (i, edge, is)) from v w above below
 
   pub member : (q : PatternValue) (c : Configuration) (last : ℕ) → c.control ≡ q.control → Reads (edges_of q.items) 0 c.stack last → IsTrue (is_final_of q.items last) → IsTrue (has_member q c)
   member q c last at reads final =

@@ -14,7 +14,7 @@ use Rattle.weight_tables.specs.Tables.{TablesValue, AreTables, with_entries, wit
 use Rattle.weight_tables.specs.declared.layer.Layer.TheVariants.{Base, Walk}
 use Rattle.weight_tables.proofs.CallerLemmas.{place_fits}
 use Rattle.walk_pairs.specs.declared.pairs.Order.TheVariants.{Then}
-use Rattle.walk_pairs.specs.declared.pairs.Stage.TheVariants.{Down, Before}
+use Rattle.walk_pairs.specs.declared.pairs.Stage.TheVariants.{Down, Before, Above}
 use Rattle.walk_pairs.specs.Pairs.{pair_place, answer_place, place_over}
 use Rattle.walk_pairs.specs.Giving.{IsFall, AreFallsGiven}
 use Rattle.walk_pairs.specs.Answering.{IsWalkedOver}
@@ -159,11 +159,19 @@ module _ {S W Map : Type 0} (operations : S → Operations W Map) (laws : (x : S
               (place_fits ours y v2.walk our.fits-zero (gone_fit operations laws first wanted empty v2 empty_walkable tops_gone)) (row_fits g n) (falls_since y)
               (subst P (our.extend-one_left (row g n) (row_fits g n)) (tops_empty.met g j edge n));
           uncovered = λ i low. uncovered_first i low;
-          opens = λ k r there g h right i j going edge m entered n.
-              let head : W = weight_in ours v.base (arrow r.control (Symbol r.symbol) n) in
-              below_none (pair_place Down j n) (ours.extend head (ours.extend r.weight (settled_in ours v3.walk (pair_place Down i m))))
-              (ap (λ u. ours.extend head (ours.extend r.weight u)) (none_counts (pair_place Down i m)) ∙ ap (ours.extend head) (our.extend-zero_right r.weight (weight_fits system our k r there))
-              ∙ our.extend-zero_right head (place_fits ours (arrow r.control (Symbol r.symbol) n) v.base our.fits-zero valid.base.fits));
+          states = λ i m _. record {
+            stands = λ _ k _.
+                let w : W = settled_in ours v3.walk (pair_place Down i m) in
+                below_none (pair_place Above k m) (if stops i then ours.zero else w) (none_goes (stops i) w (none_counts (pair_place Down i m)));
+          };
+          aboves = λ l m. record {
+            skips = λ _. below_none (pair_place Above (suc l) m) (settled_in ours v3.walk (pair_place Above l m)) (none_counts (pair_place Above l m));
+            opens = λ k r there g h right takes entered n.
+                let head : W = weight_in ours v.base (arrow r.control (Symbol r.symbol) n) in
+                below_none (pair_place Down (suc l) n) (ours.extend head (ours.extend r.weight (settled_in ours v3.walk (pair_place Above l m))))
+                (ap (λ u. ours.extend head (ours.extend r.weight u)) (none_counts (pair_place Above l m)) ∙ ap (ours.extend head) (our.extend-zero_right r.weight (weight_fits system our k r there))
+                ∙ our.extend-zero_right head (place_fits ours (arrow r.control (Symbol r.symbol) n) v.base our.fits-zero valid.base.fits));
+          };
           readings = record {
             pairs = λ i a. record {
               stands = λ _ _ k l _ _.

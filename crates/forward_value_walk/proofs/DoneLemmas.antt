@@ -1,11 +1,11 @@
 -- Pairs that have all given what they give are what the laws ask for.
-use Rattle.std.proofs.Common.{◌≡◌, inl, inr, ℕ, Bool, List, [], ◌∷◌, length, drop, sym, ap, ◌∙◌, subst}
+use Rattle.std.proofs.Common.{◌≡◌, inl, inr, ℕ, suc, ◌<◌, Bool, List, [], ◌∷◌, length, drop, sym, ap, ◌∙◌, subst, arith}
 use Rattle.std.specs.Prelude.{IsTrue, IsFalse, Option, None, Some, slice_get, nat_le, if◌then◌else◌}
 use Rattle.std.specs.List.{AllByRecursion, list_all}
 use Rattle.std.proofs.lemmas.Bool.{and_parts, cases_Bool, leb-true}
 use Rattle.wpds_base.specs.Lists.{IsIn}
 use Rattle.semiring_laws.specs.Semiring.{Operations, IsSemiring, Fits, Below}
-use Rattle.semiring_laws.proofs.CallerLemmas.{below_itself, below_zero}
+use Rattle.semiring_laws.proofs.CallerLemmas.{below_itself, below_trans, below_zero, extend_left_keeps_below}
 use Rattle.pushdown_rules.specs.declared.rule.Rule.{Rule}
 use Rattle.pushdown_rules.specs.Configuration.{Configuration, at_stack}
 use Rattle.pushdown_rules.specs.Pushdown.{Pushdown, IsSystem}
@@ -17,16 +17,17 @@ use Rattle.weighted_automata.specs.declared.place.Label.TheVariants.{Symbol, Emp
 use Rattle.weighted_automata.specs.declared.place.Place.{Place}
 use Rattle.weight_tables.specs.Entries.{TableEntry, NoneWaits, weight_in, settled_in}
 use Rattle.weight_tables.proofs.CallerLemmas.{place_fits, all_settled}
-use Rattle.walk_pairs.specs.declared.pairs.Stage.TheVariants.{Down, Before}
+use Rattle.walk_pairs.specs.declared.pairs.Stage.TheVariants.{Down, Before, Above}
 use Rattle.walk_pairs.specs.Pairs.{pair_place, answer_place}
-use Rattle.walk_pairs.specs.Reading.{IsPairRead, IsBeforeRead, AreReadingsSettled}
-use Rattle.walk_pairs.proofs.CallerLemmas.{edge_from, edge_to, readings_read, readings_end}
+use Rattle.walk_pairs.specs.Reading.{IsStateRead, IsItemSkipped, IsPairRead, IsBeforeRead, AreReadingsSettled}
+use Rattle.walk_pairs.specs.Ways.{TakesAt}
+use Rattle.walk_pairs.proofs.CallerLemmas.{edge_from, edge_to, edge_above, readings_read, readings_end}
 use Rattle.forward_value_laws.specs.Model.{Source, item, callee, head_of}
 use Rattle.forward_value_laws.specs.Tails.{IsWalkedTo}
 use Rattle.value_tails.specs.Tailing.{tail_in}
 use Rattle.forward_value_search.specs.Places.{arrow, place_by}
-use Rattle.forward_value_search.proofs.CallerLemmas.{item_number, callee_number}
-use Rattle.forward_value_walk.specs.Walking.{number, found_in, pair_in, before_in, answer_in, pairs_of, tails_of, IsSettled}
+use Rattle.forward_value_search.proofs.CallerLemmas.{item_number, callee_number, callee_is}
+use Rattle.forward_value_walk.specs.Walking.{number, found_in, pair_in, before_in, above_in, answer_in, pairs_of, tails_of, IsSettled}
 use Rattle.forward_value_walk.proofs.SettleLemmas.{going_fits}
 
 module _ {S W Map : Type 0} {operations : S → Operations W Map} {p : Pushdown S W Map} (system : IsSystem operations p) (laws : IsSemiring (operations p.semiring)) (first wanted : PatternValue)
@@ -87,27 +88,6 @@ module _ {S W Map : Type 0} {operations : S → Operations W Map} {p : Pushdown 
         subst P (sym high) zero_below
   ]
 
-  opens : (k : ℕ) (r : Rule S W Map) → slice_get p.rules k ≡ Some r → (g h : ℕ) → r.right ≡ g ∷ h ∷ [] → (i j : ℕ) → IsFalse (stops i) → IsIn (record { from = i; symbol = h; to = j }) (edges_of wanted.items) → (from : Source)
-      → Below s (pairs j from) (s.extend (s.extend (Found (head_of r) from) r.weight) (pairs i (callee r.to g)))
-  opens k r there g h right i j going edge from =
-      let fr = weight_fits system laws k r there in
-      let has = callee_number (length first.items) p k r there g (h ∷ []) right in
-      let inner : pairs i (callee r.to g) ≡ pair_in s p first wanted base walk i has.0 = pair_is i (callee r.to g) has.0 has.1 in
-      let fi = fits_walk (pair_place Down i has.0) in
-      let T : W → Type 0 = λ u. Below s (pairs j from) (s.extend (s.extend (Found (head_of r) from) r.weight) u) in
-      let nothing : s.zero ≡ s.extend (s.extend s.zero r.weight) (pair_in s p first wanted base walk i has.0) =
-      sym (ap (λ u. s.extend u (pair_in s p first wanted base walk i has.0)) (laws.extend-zero_left r.weight fr) ∙ laws.extend-zero_left (pair_in s p first wanted base walk i has.0) fi) in
-      let Z : W → Type 0 = Below s s.zero in
-      subst T (sym inner) (elim (number s p first wanted from) as (λ o. Below s (pair_at j o) (s.extend (s.extend (row_at r.control (Symbol r.symbol) o) r.weight) (pair_in s p first wanted base walk i has.0))) [
-        | None ↦ subst Z nothing zero_below
-        | Some n ↦
-            let head : W = weight_in s base (arrow r.control (Symbol r.symbol) n) in
-            let B : W → Type 0 = Below s (pair_in s p first wanted base walk j n) in
-            let C : W → Type 0 = λ u. Below s (pair_in s p first wanted base walk j n) (s.extend head (s.extend r.weight u)) in
-            subst B (sym (laws.extend_assoc head r.weight (pair_in s p first wanted base walk i has.0) (fits_base (arrow r.control (Symbol r.symbol) n)) fr fi))
-            (subst C (settles i has.0) (settled.opens k r there g h right i j going edge has.0 has.1 n))
-      ])
-
   -- pairs of items: what both patterns read, and where both end
   abbrev Pair : ℕ → ℕ → W
   Pair = pair_in s p first wanted base walk
@@ -135,6 +115,69 @@ module _ {S W Map : Type 0} {operations : S → Operations W Map} {p : Pushdown 
 
   fits_on : (i a : ℕ) → Fits s (On i a)
   fits_on i a = going_fits system laws first wanted base base_fits (stops i) (Pair i a) (fits_pair i a)
+
+  -- above a callee the second pattern reads on alone, along all of its edges
+  abbrev Over : ℕ → ℕ → W
+  Over = above_in s p first wanted base walk
+
+  fits_over : (l m : ℕ) → Fits s (Over l m)
+  fits_over l m = fits_walk (pair_place Above l m)
+
+  settles_over : (l m : ℕ) → settled_in s walk (pair_place Above l m) ≡ Over l m
+  settles_over l m = all_settled s (pair_place Above l m) walk none
+
+  module _ (m : ℕ) (deep : length first.items < m) where
+    alone : (i c : ℕ) → IsStateRead s wanted.items i c (On i m) (λ l _. Over l m)
+    alone i c = record {
+      stands = λ low l stands.
+          let P : W → Type 0 = λ w. Below s (Over l m) (if stops i then s.zero else w) in
+          subst P (settles i m) ((settled.states i m deep).stands low l stands);
+    }
+
+    past : (l c : ℕ) → IsItemSkipped s wanted.items l c (Over l m) (λ l' _. Over l' m)
+    past l c skipped = let P : W → Type 0 = Below s (Over (suc l) m) in subst P (settles_over l m) ((settled.aboves l m).skips skipped)
+
+    over_edge : (h i j : ℕ) → IsIn (record { from = i; symbol = h; to = j }) (edges_of wanted.items) → (l : ℕ) × (j ≡ suc l) × TakesAt wanted.items (suc l) h × Below s (Over l m) (On i m)
+    over_edge h i j edge = edge_above laws wanted.items (λ x _. On x m) (λ l _. Over l m) (λ x _. fits_on x m) (λ l _. fits_over l m) alone past h i j 0 edge
+
+  opened : (k : ℕ) (r : Rule S W Map) → slice_get p.rules k ≡ Some r → (g h : ℕ) → r.right ≡ g ∷ h ∷ [] → (i j : ℕ) → IsFalse (stops i) → IsIn (record { from = i; symbol = h; to = j }) (edges_of wanted.items)
+      → (m : ℕ) → number s p first wanted (callee r.to g) ≡ Some m → (n : ℕ) → Below s (Pair j n) (s.extend (weight_in s base (arrow r.control (Symbol r.symbol) n)) (s.extend r.weight (Pair i m)))
+  opened k r there g h right i j going edge m entered n =
+      let is = (callee_is (length first.items) p r.to g m entered).number in
+      let (l, to, takes, below) = over_edge m (omega (arith, is)) h i j edge in
+      let G : Bool → Type 0 = λ c. Below s (Over l m) (if c then s.zero else Pair i m) in
+      let fr = weight_fits system laws k r there in
+      let head : W = weight_in s base (arrow r.control (Symbol r.symbol) n) in
+      let fh = fits_base (arrow r.control (Symbol r.symbol) n) in
+      let at : W → W = λ w. s.extend head (s.extend r.weight w) in
+      let fits_at = λ (w : W) (fw : Fits s w). laws.fits-extend head (s.extend r.weight w) fh (laws.fits-extend r.weight w fr fw) in
+      let O : W → Type 0 = λ w. Below s (Pair (suc l) n) (at w) in
+      let J : ℕ → Type 0 = λ x. Below s (Pair x n) (at (Pair i m)) in
+      subst J (sym to)
+      (below_trans laws (Pair (suc l) n) (at (Over l m)) (at (Pair i m)) (fits_pair (suc l) n) (fits_at (Over l m) (fits_over l m)) (fits_at (Pair i m) (fits_pair i m))
+      (subst O (settles_over l m) ((settled.aboves l m).opens k r there g h right takes entered n))
+      (extend_left_keeps_below laws head (s.extend r.weight (Over l m)) (s.extend r.weight (Pair i m)) fh (laws.fits-extend r.weight (Over l m) fr (fits_over l m)) (laws.fits-extend r.weight (Pair i m) fr (fits_pair i m))
+      (extend_left_keeps_below laws r.weight (Over l m) (Pair i m) fr (fits_over l m) (fits_pair i m) (subst G going below))))
+
+  opens : (k : ℕ) (r : Rule S W Map) → slice_get p.rules k ≡ Some r → (g h : ℕ) → r.right ≡ g ∷ h ∷ [] → (i j : ℕ) → IsFalse (stops i) → IsIn (record { from = i; symbol = h; to = j }) (edges_of wanted.items) → (from : Source)
+      → Below s (pairs j from) (s.extend (s.extend (Found (head_of r) from) r.weight) (pairs i (callee r.to g)))
+  opens k r there g h right i j going edge from =
+      let fr = weight_fits system laws k r there in
+      let has = callee_number (length first.items) p k r there g (h ∷ []) right in
+      let inner : pairs i (callee r.to g) ≡ pair_in s p first wanted base walk i has.0 = pair_is i (callee r.to g) has.0 has.1 in
+      let fi = fits_walk (pair_place Down i has.0) in
+      let T : W → Type 0 = λ u. Below s (pairs j from) (s.extend (s.extend (Found (head_of r) from) r.weight) u) in
+      let nothing : s.zero ≡ s.extend (s.extend s.zero r.weight) (pair_in s p first wanted base walk i has.0) =
+      sym (ap (λ u. s.extend u (pair_in s p first wanted base walk i has.0)) (laws.extend-zero_left r.weight fr) ∙ laws.extend-zero_left (pair_in s p first wanted base walk i has.0) fi) in
+      let Z : W → Type 0 = Below s s.zero in
+      subst T (sym inner) (elim (number s p first wanted from) as (λ o. Below s (pair_at j o) (s.extend (s.extend (row_at r.control (Symbol r.symbol) o) r.weight) (pair_in s p first wanted base walk i has.0))) [
+        | None ↦ subst Z nothing zero_below
+        | Some n ↦
+            let head : W = weight_in s base (arrow r.control (Symbol r.symbol) n) in
+            let B : W → Type 0 = Below s (pair_in s p first wanted base walk j n) in
+            subst B (sym (laws.extend_assoc head r.weight (pair_in s p first wanted base walk i has.0) (fits_base (arrow r.control (Symbol r.symbol) n)) fr fi))
+            (opened k r there g h right i j going edge has.0 has.1 n)
+      ])
 
   reads : (h i j a b : ℕ) → IsFalse (stops i) → IsIn (record { from = i; symbol = h; to = j }) (edges_of wanted.items) → IsIn (record { from = a; symbol = h; to = b }) (edges_of first.items)
       → Below s (pairs j (item b)) (pairs i (item a))

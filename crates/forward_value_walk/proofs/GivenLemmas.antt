@@ -1,5 +1,5 @@
 -- What a pair gives, one part after another.
-use Rattle.std.proofs.Common.{◌≡◌, ◌⊎◌, inl, inr, ℕ, refl, sym, ap, ◌∙◌, subst}
+use Rattle.std.proofs.Common.{◌≡◌, ◌⊎◌, inl, inr, ℕ, ◌<◌, ◌≤◌, length, refl, sym, ap, ◌∙◌, subst, arith}
 use Rattle.std.specs.Prelude.{Bool, IsTrue, IsFalse, None, Some, slice_get, if◌then◌else◌}
 use Rattle.std.proofs.lemmas.Bool.{false≢true}
 use Rattle.semiring_laws.specs.Semiring.{Operations, IsSemiring, Fits, Below}
@@ -10,15 +10,15 @@ use Rattle.weight_tables.specs.Entries.{TableEntry, HasDistinctPlaces, index_at,
 use Rattle.weight_tables.specs.Tables.{TablesValue, with_entries, with_hand}
 use Rattle.weight_tables.specs.declared.layer.Layer.TheVariants.{Walk}
 use Rattle.weight_tables.proofs.CallerLemmas.{place_fits, settled_or_none, index_there, weight_at_index, none_weight}
-use Rattle.walk_pairs.specs.declared.pairs.Stage.TheVariants.{Down, Before}
+use Rattle.walk_pairs.specs.declared.pairs.Stage.TheVariants.{Down, Before, Above}
 use Rattle.walk_pairs.specs.Pairs.{pair_place, answer_place}
-use Rattle.walk_pairs.specs.Reading.{IsStand, IsStep, IsPairRead, IsPairGiven as IsReadOn, IsBeforeGiven}
-use Rattle.walk_pairs.proofs.CallerLemmas.{AllFit, one_pair, one_below, pair_kept, before_kept}
+use Rattle.walk_pairs.specs.Reading.{IsStand, IsStep, IsStateStand, IsItemSkip, IsStateRead, IsPairRead, IsPairGiven as IsReadOn, IsStateGiven, IsSkipGiven, IsBeforeGiven}
+use Rattle.walk_pairs.proofs.CallerLemmas.{AllFit, one_pair, one_below, pair_kept, before_kept, state_kept, skip_kept}
 use Rattle.forward_value_search.specs.Search.{StandsAt}
 use Rattle.value_tails.specs.Tailing.{tail_place, tail_in}
 use Rattle.forward_value_walk.specs.Walking.{IsMade}
-use Rattle.forward_value_walk.specs.private.Going.{IsGoneOn, AreCallsGiven, IsPairGiven, AreItemsGiven, IsStopped}
-use Rattle.forward_value_walk.proofs.MadeLemmas.{stand_made, step_made}
+use Rattle.forward_value_walk.specs.private.Going.{IsGoneOn, AreCallsGiven, IsPairGiven, IsAboveGiven, AreItemsGiven, IsStopped}
+use Rattle.forward_value_walk.proofs.MadeLemmas.{stand_made, step_made, state_made, skip_made}
 use Rattle.forward_value_walk.proofs.SettleLemmas.{tailed_kept}
 use Rattle.forward_value_walk.proofs.RestLemmas.{rest_made}
 use Rattle.forward_value_walk.proofs.GoingLemmas.{IsWalkable, settled_fits, none_gone, hand_gone, gone_then, pairs_gone, gone_fit, gone_falls, gone_counts, gone_walkable}
@@ -87,43 +87,58 @@ module _ {S W Map : Type 0} (operations : S → Operations W Map) (laws : (x : S
       to_read = pairs_gone operations laws first wanted (held pair t stands) v2 (IsStand hand wanted.items first.items state source)
           (λ x w one. (subst (Fits s) (sym one.weight) (fits_entry pair t stands), stand_made walkable.system law first wanted hand state source (made_entry pair t stands) x w one)) reads_held.lowered
 
-      pub before_calls : Gone v v2
-      before_calls = gone_then operations laws first wanted v (held pair t stands) v2 (to_held pair t stands) to_read
+      read_gone : Gone v v2
+      read_gone = gone_then operations laws first wanted v (held pair t stands) v2 (to_held pair t stands) to_read
 
-      module _ (stops : ℕ → Bool) (going : IsFalse (stops state)) (v3 : TablesValue S W Map) (calls : AreCallsGiven (operations v2.system.semiring) first wanted state source v2 v3) where
-        calls_first : AreCallsGiven s first wanted state source (with_hand v2.hand (with_entries Walk v2.walk v)) v3
-        calls_first = let P : TablesValue S W Map → Type 0 = λ u. AreCallsGiven (operations u.system.semiring) first wanted state source u v3 in subst P before_calls.others calls
-
-        all : Gone v v3
-        all = gone_then operations laws first wanted v v2 v3 before_calls calls.gone
-
-        read_at_last : IsPairRead s wanted.items first.items state source (settled_in s v3.walk pair) (λ x y. weight_in s v3.walk (pair_place Before x y))
-        read_at_last = pair_kept law wanted.items first.items (λ x y. weight_in s v2.walk (pair_place Before x y)) (λ x y. weight_in s v3.walk (pair_place Before x y)) (λ x y. fits_in v2 before_calls (pair_place Before x y))
-            (λ x y. fits_in v3 all (pair_place Before x y)) (λ x y. falls_since v2 v3 before_calls calls.gone (pair_place Before x y)) hand (settled_in s v3.walk pair) (fits_entry pair t stands) (counts pair t stands v3 all) state source
-            reads_held.met
-
-        pub pair_given : IsPairGiven s first wanted stops state source v v3
-        pair_given =
-            let P : Bool → Type 0 = λ b. IsPairRead s wanted.items first.items state source (if b then s.zero else settled_in s v3.walk pair) (λ x y. weight_in s v3.walk (pair_place Before x y)) in
+      module _ (stops : ℕ → Bool) (going : IsFalse (stops state)) where
+        going_is : (new : TablesValue S W Map) → Gone v2 new → (length first.items < source → IsStateRead s wanted.items state source hand (λ x y. weight_in s new.walk (pair_place Above x y))) → IsPairGiven s first wanted stops state source v new
+        going_is new since alone =
+            let all : Gone v new = gone_then operations laws first wanted v v2 new read_gone since in
+            let before : ℕ → ℕ → W = λ x y. weight_in s new.walk (pair_place Before x y) in
+            let above : ℕ → ℕ → W = λ x y. weight_in s new.walk (pair_place Above x y) in
+            let fa = λ (x y : ℕ). fits_in new all (pair_place Above x y) in
+            let now = counts pair t stands new all in
+            let fp = fits_entry pair t stands in
+            let P : Bool → Type 0 = λ b. IsPairRead s wanted.items first.items state source (if b then s.zero else settled_in s new.walk pair) before in
+            let Q : Bool → Type 0 = λ b. IsStateRead s wanted.items state source (if b then s.zero else settled_in s new.walk pair) above in
             record {
               gone = all;
               met = record {
-                opens = λ k r there g h right j _ edge entered n. calls_first.met k r there g h right entered g h right j edge n;
-                reads = subst P (sym going) read_at_last;
+                states = λ deep.
+                    subst Q (sym going)
+                    (state_kept law wanted.items above above fa fa (λ x y. below_itself law (above x y) (fa x y)) hand (settled_in s new.walk pair) fp now state source (alone deep));
+                reads = subst P (sym going)
+                    (pair_kept law wanted.items first.items (λ x y. weight_in s v2.walk (pair_place Before x y)) before (λ x y. fits_in v2 read_gone (pair_place Before x y)) (λ x y. fits_in new all (pair_place Before x y))
+                    (λ x y. falls_since v2 new read_gone since (pair_place Before x y)) hand (settled_in s new.walk pair) fp now state source reads_held.met);
                 rests = λ stop. absurd (false≢true (sym going ∙ stop));
               };
             }
+
+        -- above an item of the first pattern no calls lie
+        pub pair_read : source ≤ length first.items → IsPairGiven s first wanted stops state source v v2
+        pair_read low = going_is v2 (none_gone operations laws first wanted v2) (λ deep. absurd (omega (arith, low, deep)))
+
+        pub pair_given : (v3 : TablesValue S W Map) → IsStateGiven (operations v2.system.semiring) v2 wanted.items state source v3 → IsPairGiven s first wanted stops state source v v3
+        pair_given v3 states =
+            let P : TablesValue S W Map → Type 0 = λ u. IsStateGiven (operations u.system.semiring) u wanted.items state source v3 in
+            let Q : TablesValue S W Map → Type 0 = λ u. Gone u v3 in
+            let first_states = subst P reads_held.lowered.others states in
+            let since = pairs_gone operations laws first wanted (with_entries Walk v2.walk (held pair t stands)) v3 (IsStateStand hand wanted.items state source)
+            (λ x w one. (subst (Fits s) (sym one.weight) (fits_entry pair t stands), state_made walkable.system law first wanted hand state source (made_entry pair t stands) x w one)) first_states.lowered in
+            going_is v3 (subst Q (sym reads_held.lowered.others) since) (λ _. first_states.met)
 
     -- where the walk stops, with the tail of the pair's source
     module _ (stops : ℕ → Bool) (stop : IsTrue (stops state)) (stopped : IsStopped s first wanted stops v) (tails_fits : AllFit s v.target) where
       given_by : (new : TablesValue S W Map) → Gone v new → Below s (weight_in s new.walk answer_place) (s.extend (tail_in s v.target source) (settled_in s new.walk pair)) → IsPairGiven s first wanted stops state source v new
       given_by new gone below =
           let before : ℕ → ℕ → W = λ x y. weight_in s new.walk (pair_place Before x y) in
+          let above : ℕ → ℕ → W = λ x y. weight_in s new.walk (pair_place Above x y) in
           let P : Bool → Type 0 = λ b. IsPairRead s wanted.items first.items state source (if b then s.zero else settled_in s new.walk pair) before in
+          let Q : Bool → Type 0 = λ b. IsStateRead s wanted.items state source (if b then s.zero else settled_in s new.walk pair) above in
           record {
             gone = gone;
             met = record {
-              opens = λ k r there g h right j on edge entered n. absurd (false≢true (sym on ∙ stop));
+              states = λ _. subst Q (sym stop) (record { stands = λ _ k _. below_zero law (above k source) (fits_in new gone (pair_place Above k source)) });
               reads = subst P (sym stop) (record { stands = λ _ _ k l _ _. below_zero law (before k l) (fits_in new gone (pair_place Before k l)) });
               rests = λ _. below;
             };
@@ -173,6 +188,43 @@ module _ {S W Map : Type 0} (operations : S → Operations W Map) (laws : (x : S
             (subst P (sym tail_is)
             (tailed_kept walkable.system law first wanted v.base walkable.base (weight_in s new.walk answer_place) (weight_in s new.walk answer_place) d.weight hand (settled_in s new.walk pair) fa fa fits_d (fits_entry pair t stands)
             (below_itself law (weight_in s new.walk answer_place) fa) (counts pair t stands new rest_gone) below))
+
+  -- an item above a source
+  module _ (l source t : ℕ) (stands : StandsAt t (pair_place Above l source) v.walk) (v1 v2 : TablesValue S W Map) where
+    abbrev place : Place
+    place = pair_place Above l source
+
+    abbrev worth : W
+    worth = stands.0.weight
+
+    module _ (is : v1 ≡ held place t stands) (skips : IsSkipGiven (operations v1.system.semiring) v1 wanted.items l source v2) where
+      skips_held : IsSkipGiven s (held place t stands) wanted.items l source v2
+      skips_held = let P : TablesValue S W Map → Type 0 = λ u. IsSkipGiven (operations u.system.semiring) u wanted.items l source v2 in subst P is skips
+
+      to_skipped : Gone (held place t stands) v2
+      to_skipped = pairs_gone operations laws first wanted (held place t stands) v2 (IsItemSkip worth wanted.items l source)
+          (λ x w one. (subst (Fits s) (sym one.weight) (fits_entry place t stands), skip_made walkable.system law first wanted worth l source (made_entry place t stands) x w one)) skips_held.lowered
+
+      pub before_calls : Gone v v2
+      before_calls = gone_then operations laws first wanted v (held place t stands) v2 (to_held place t stands) to_skipped
+
+      module _ (v3 : TablesValue S W Map) (calls : AreCallsGiven (operations v2.system.semiring) first wanted l source v2 v3) where
+        calls_first : AreCallsGiven s first wanted l source (with_hand v2.hand (with_entries Walk v2.walk v)) v3
+        calls_first = let P : TablesValue S W Map → Type 0 = λ u. AreCallsGiven (operations u.system.semiring) first wanted l source u v3 in subst P before_calls.others calls
+
+        all : Gone v v3
+        all = gone_then operations laws first wanted v v2 v3 before_calls calls.gone
+
+        pub above_given : IsAboveGiven s first wanted l source v v3
+        above_given = record {
+          gone = all;
+          met = record {
+            skips = skip_kept law wanted.items (λ x y. weight_in s v2.walk (pair_place Above x y)) (λ x y. weight_in s v3.walk (pair_place Above x y)) (λ x y. fits_in v2 before_calls (pair_place Above x y))
+                (λ x y. fits_in v3 all (pair_place Above x y)) (λ x y. falls_since v2 v3 before_calls calls.gone (pair_place Above x y)) worth (settled_in s v3.walk place) (fits_entry place t stands) (counts place t stands v3 all) l source
+                skips_held.met;
+            opens = λ k r there g h right takes entered n. calls_first.met k r there g h right entered g h right takes n;
+          };
+        }
 
   -- what stands before two items
   module _ (k l t : ℕ) (stands : StandsAt t (pair_place Before k l) v.walk) (v1 v2 : TablesValue S W Map) where

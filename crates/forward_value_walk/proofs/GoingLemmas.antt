@@ -1,5 +1,5 @@
 -- A walk goes on: pairs are lowered by weights that combine runs, and nothing else is changed but the hand.
-use Rattle.std.proofs.Common.{◌≡◌, ◌⊎◌, inl, inr, ℕ, ◌<◌, ◌≤◌, ◌^◌, List, [], ◌∷◌, length, refl, sym, ap, ◌∙◌, subst}
+use Rattle.std.proofs.Common.{◌≡◌, ◌⊎◌, inl, inr, ℕ, suc, ◌<◌, ◌≤◌, ◌^◌, List, [], ◌∷◌, length, refl, sym, ap, ◌∙◌, subst}
 use Rattle.std.specs.Prelude.{Some, slice_get}
 use Rattle.std.specs.List.{AllByRecursion}
 use Rattle.std.proofs.lemmas.Option.{slice_get_within}
@@ -14,7 +14,7 @@ use Rattle.weight_tables.specs.Tables.{TablesValue, AreTables, with_entries, wit
 use Rattle.weight_tables.specs.Turns.{turns_left}
 use Rattle.weight_tables.specs.declared.layer.Layer.TheVariants.{Walk}
 use Rattle.weight_tables.proofs.CallerLemmas.{KeepPlaces, places_stay, places_then, lowered_places, place_fits, settled_or_none}
-use Rattle.walk_pairs.specs.declared.pairs.Stage.TheVariants.{Down}
+use Rattle.walk_pairs.specs.declared.pairs.Stage.TheVariants.{Down, Above}
 use Rattle.walk_pairs.specs.Pairs.{pair_place, place_over}
 use Rattle.walk_pairs.specs.Lowerings.{Lowering, lowered_by, ArePairsLowered}
 use Rattle.walk_pairs.proofs.CallerLemmas.{AllFit, none_lowered, lowered_then, lowered_wider, lowered_all_fit, lowered_falls, lowered_counts, lowered_all_turns, lowered_holds}
@@ -119,22 +119,22 @@ module _ {S W Map : Type 0} (operations : S → Operations W Map) (laws : (x : S
     at_first P holds = subst P gone.others holds
 
     -- what a call by a rule asked for is there still
-    pub call_later : (state source k : ℕ) (r : Rule S W Map) → slice_get v.system.rules k ≡ Some r → IsCallMet s first wanted state source k v v.walk r → IsCallMet s first wanted state source k v new.walk r
-    call_later state source k r there met g h right j edge n =
-        let x : Place = pair_place Down j n in
-        let y : Place = pair_place Down state source in
+    pub call_later : (l source k : ℕ) (r : Rule S W Map) → slice_get v.system.rules k ≡ Some r → IsCallMet s first wanted l source k v v.walk r → IsCallMet s first wanted l source k v new.walk r
+    call_later l source k r there met g h right takes n =
+        let x : Place = pair_place Down (suc l) n in
+        let y : Place = pair_place Above l source in
         let a : W = weight_in s v.base (place_over r.control r.symbol n) in
         opened_kept walkable.system law first wanted v.base walkable.base (weight_in s v.walk x) (weight_in s new.walk x) a r.weight (settled_in s v.walk y) (settled_in s new.walk y)
         (place_fits s x v.walk law.fits-zero walkable.walk) (place_fits s x new.walk law.fits-zero gone_fit) (place_fits s (place_over r.control r.symbol n) v.base law.fits-zero walkable.base) (weight_fits walkable.system law k r there)
-        (settled_fits law y v.walk walkable.walk) (gone_falls x) (gone_counts y) (met g h right j edge n)
+        (settled_fits law y v.walk walkable.walk) (gone_falls x) (gone_counts y) (met g h right takes n)
 
   -- calls by one rule
-  pub called_gone : (v new : TablesValue S W Map) → IsWalkable operations first wanted v → (state source k : ℕ) → AreRuleCallsGiven (of v) first wanted state source k v new → Gone v new
-  called_gone v new walkable state source k given = record {
-    lowered = lowered_wider (of v) (IsCall (of v) first wanted state source k v) (IsRuns (of v) first wanted v)
+  pub called_gone : (v new : TablesValue S W Map) → IsWalkable operations first wanted v → (l source k : ℕ) → AreRuleCallsGiven (of v) first wanted l source k v new → Gone v new
+  called_gone v new walkable l source k given = record {
+    lowered = lowered_wider (of v) (IsCall (of v) first wanted l source k v) (IsRuns (of v) first wanted v)
         (λ x w is. (
-          call_fits v walkable.system (laws v.system.semiring) walkable.base first wanted walkable.finished.sound state source k x w is,
-          call_made v walkable.system (laws v.system.semiring) walkable.base first wanted walkable.finished.sound state source k x w is,
+          call_fits v walkable.system (laws v.system.semiring) walkable.base first wanted walkable.finished.sound l source k x w is,
+          call_made v walkable.system (laws v.system.semiring) walkable.base first wanted walkable.finished.sound l source k x w is,
         )) v.walk new.walk given.lowered;
     others = given.others;
   }

@@ -26,29 +26,29 @@ calls_entered operations p first to top rule source number found k r there passe
     let is : length first.items + 1 + rule ≡ source = same_Some (length first.items + 1 + rule) source (ap (option_map (λ j. length first.items + 1 + j)) found ∙ number) in
     enters_by operations p first to top rule source (sym is) found k r there passes
 
-module _ {S W Map : Type 0} (operations : S → Operations W Map) (first wanted : PatternValue) (v : TablesValue S W Map) (state source : ℕ) (test : Rule S W Map → Bool) where
+module _ {S W Map : Type 0} (operations : S → Operations W Map) (first wanted : PatternValue) (v : TablesValue S W Map) (l source : ℕ) (test : Rule S W Map → Bool) where
   abbrev s : Operations W Map
   s = operations v.system.semiring
 
   -- what the rule of a number asked for is there, if it is one of the row
   abbrev pub IsRowMet : TablesValue S W Map → ℕ → Type 0
-  IsRowMet now j = (r : Rule S W Map) → slice_get v.system.rules j ≡ Some r → test r ≡ true → IsCallMet s first wanted state source j v now.walk r
+  IsRowMet now j = (r : Rule S W Map) → slice_get v.system.rules j ≡ Some r → test r ≡ true → IsCallMet s first wanted l source j v now.walk r
 
   -- What the loop has before the rule of number `at`.
   pub record IsCallLoop (now : TablesValue S W Map) (at : Option ℕ) : Type 0 where
     pub gone : IsGoneOn s first wanted v now
     pub walk : IsRowWalk test v.system.rules at (IsRowMet now)
 
-module _ {S W Map : Type 0} (operations : S → Operations W Map) (laws : (x : S) → IsSemiring (operations x)) (first wanted : PatternValue) (v : TablesValue S W Map) (state source : ℕ) (test : Rule S W Map → Bool)
+module _ {S W Map : Type 0} (operations : S → Operations W Map) (laws : (x : S) → IsSemiring (operations x)) (first wanted : PatternValue) (v : TablesValue S W Map) (l source : ℕ) (test : Rule S W Map → Bool)
     (walkable : IsWalkable operations first wanted v) where
   abbrev ours : Operations W Map
   ours = operations v.system.semiring
 
   abbrev Loop : TablesValue S W Map → Option ℕ → Type 0
-  Loop now at = IsCallLoop operations first wanted v state source test now at
+  Loop now at = IsCallLoop operations first wanted v l source test now at
 
   abbrev Met : TablesValue S W Map → ℕ → Type 0
-  Met now = IsRowMet operations first wanted v state source test now
+  Met now = IsRowMet operations first wanted v l source test now
 
   no_row : (now : TablesValue S W Map) (j : ℕ) → ((r : Rule S W Map) → slice_get v.system.rules j ≡ Some r → test r ≡ false) → Met now j
   no_row now j none r there passes = let both : true ≡ false = sym passes ∙ none r there in cc
@@ -66,21 +66,21 @@ module _ {S W Map : Type 0} (operations : S → Operations W Map) (laws : (x : S
     pub calls_walkable : IsWalkable operations first wanted now
     calls_walkable = gone_walkable operations laws first wanted v now walkable loop.gone
 
-    module _ (k : ℕ) (is : at ≡ Some k) (new : TablesValue S W Map) (given : AreRuleCallsGiven (operations now.system.semiring) first wanted state source k now new) (next : Option ℕ)
+    module _ (k : ℕ) (is : at ≡ Some k) (new : TablesValue S W Map) (given : AreRuleCallsGiven (operations now.system.semiring) first wanted l source k now new) (next : Option ℕ)
         (goes : next ≡ index_from test (k + 1) v.system.rules) where
       step : IsGoneOn (operations now.system.semiring) first wanted now new
-      step = called_gone operations laws first wanted now new calls_walkable state source k given
+      step = called_gone operations laws first wanted now new calls_walkable l source k given
 
       -- what is said of the tables as they were, of the first ones
       later : (j : ℕ) → Met now j → Met new j
       later j met r there passes =
-          let P : TablesValue S W Map → Type 0 = λ u. slice_get u.system.rules j ≡ Some r → IsCallMet (operations u.system.semiring) first wanted state source j u now.walk r → IsCallMet (operations u.system.semiring) first wanted state source j u new.walk r in
-          let all : P now = λ there' old. call_later operations laws first wanted now new calls_walkable step state source j r there' old in
+          let P : TablesValue S W Map → Type 0 = λ u. slice_get u.system.rules j ≡ Some r → IsCallMet (operations u.system.semiring) first wanted l source j u now.walk r → IsCallMet (operations u.system.semiring) first wanted l source j u new.walk r in
+          let all : P now = λ there' old. call_later operations laws first wanted now new calls_walkable step l source j r there' old in
           subst P loop.gone.others all there (met r there passes)
 
       here : Met new k
       here r there passes =
-          let P : TablesValue S W Map → Type 0 = λ u. (q : Rule S W Map) → slice_get u.system.rules k ≡ Some q → IsCallMet (operations u.system.semiring) first wanted state source k u new.walk q in
+          let P : TablesValue S W Map → Type 0 = λ u. (q : Rule S W Map) → slice_get u.system.rules k ≡ Some q → IsCallMet (operations u.system.semiring) first wanted l source k u new.walk q in
           subst P loop.gone.others given.met r there
 
       pub calls_go_on : Loop new next
@@ -89,7 +89,7 @@ module _ {S W Map : Type 0} (operations : S → Operations W Map) (laws : (x : S
         walk = walk_goes_on test v.system.rules at (Met now) loop.walk k next (Met new) is later here (λ j none. no_row new j none) goes;
       }
 
-    pub calls_end : at ≡ None → (j : ℕ) (r : Rule S W Map) → slice_get v.system.rules j ≡ Some r → test r ≡ true → IsCallMet ours first wanted state source j v now.walk r
+    pub calls_end : at ≡ None → (j : ℕ) (r : Rule S W Map) → slice_get v.system.rules j ≡ Some r → test r ≡ true → IsCallMet ours first wanted l source j v now.walk r
     calls_end is j r there passes = walk_ends test v.system.rules at (Met now) loop.walk is (λ i none. no_row now i none) j r there passes
 
     pub calls_smaller : (k : ℕ) → at ≡ Some k → (next : Option ℕ) → next ≡ index_from test (k + 1) v.system.rules → to_go (length v.system.rules) next < to_go (length v.system.rules) at

@@ -17,17 +17,17 @@ use Rattle.weighted_automata.specs.declared.place.Place.{Place}
 use Rattle.weight_tables.specs.Entries.{weight_in}
 use Rattle.weight_tables.specs.Tables.{TablesValue}
 use Rattle.weight_tables.proofs.CallerLemmas.{place_fits}
-use Rattle.walk_pairs.specs.declared.pairs.Stage.TheVariants.{Down, Before}
+use Rattle.walk_pairs.specs.declared.pairs.Stage.TheVariants.{Down, Before, Above}
 use Rattle.walk_pairs.specs.Pairs.{pair_place, place_over, answer_place}
-use Rattle.walk_pairs.specs.Reading.{ComesBefore, IsStand, IsStep}
+use Rattle.walk_pairs.specs.Reading.{ComesBefore, IsStand, IsStep, IsStateStand, IsItemSkip}
 use Rattle.walk_pairs.proofs.CallerLemmas.{AllFit, stands_comes, skip_comes, comes_edge, comes_final}
 use Rattle.value_laws.specs.Runs.{Sums}
 use Rattle.value_laws.proofs.CallerLemmas.{sums_none, sums_combine, sums_within}
 use Rattle.forward_value_laws.specs.Model.{Source, item, callee, Comes, Walks, IsSound}
-use Rattle.forward_value_laws.proofs.CallerLemmas.{tops_sum, uncovered_top_sum, opens_sum, walks_on, walks_lead}
+use Rattle.forward_value_laws.proofs.CallerLemmas.{tops_sum, uncovered_top_sum, opens_runs, walks_on, walks_lead}
 use Rattle.forward_value_search.specs.Places.{arrow, place_by}
 use Rattle.forward_value_search.proofs.CallerLemmas.{item_number, one_source}
-use Rattle.forward_value_walk.specs.Walking.{number, found_in, Stands, IsMade, IsMadeAt}
+use Rattle.forward_value_walk.specs.Walking.{number, found_in, Stands, Hangs, IsMade, IsMadeAt}
 use Rattle.forward_value_walk.specs.private.Opening.{IsCall}
 
 module _ {S W Map : Type 0} {operations : S → Operations W Map} {p : Pushdown S W Map} (system : IsSystem operations p) (laws : IsSemiring (operations p.semiring)) (first wanted : PatternValue) where
@@ -43,7 +43,8 @@ module _ {S W Map : Type 0} {operations : S → Operations W Map} {p : Pushdown 
   none_at : (f : ℕ) (l : Label) (n : ℕ) → IsMadeAt ours p first wanted f l n ours.zero
   none_at zero (Symbol j) n = λ from is. sums_none laws (value_of ours p) (value_fits system laws) (Pair j from)
   none_at (suc zero) (Symbol j) n = tt
-  none_at (suc (suc m)) (Symbol k) l = sums_none laws (value_of ours p) (value_fits system laws) (Stands ours p first wanted k l)
+  none_at (suc (suc zero)) (Symbol k) l = sums_none laws (value_of ours p) (value_fits system laws) (Stands ours p first wanted k l)
+  none_at (suc (suc (suc m))) (Symbol k) n = λ from is. sums_none laws (value_of ours p) (value_fits system laws) (Hangs ours p first wanted k from)
   none_at zero Empty n = sums_none laws (value_of ours p) (value_fits system laws) Lead
   none_at (suc m) Empty n = sums_none laws (value_of ours p) (value_fits system laws) Lead
 
@@ -53,7 +54,8 @@ module _ {S W Map : Type 0} {operations : S → Operations W Map} {p : Pushdown 
   joins_at : (f : ℕ) (l : Label) (n : ℕ) (v w : W) → IsMadeAt ours p first wanted f l n v → IsMadeAt ours p first wanted f l n w → IsMadeAt ours p first wanted f l n (ours.combine v w)
   joins_at zero (Symbol j) n v w one two = λ from is. sums_combine laws (value_of ours p) (value_fits system laws) (Pair j from) v w (one from is) (two from is)
   joins_at (suc zero) (Symbol j) n v w one two = tt
-  joins_at (suc (suc m)) (Symbol k) l v w one two = sums_combine laws (value_of ours p) (value_fits system laws) (Stands ours p first wanted k l) v w one two
+  joins_at (suc (suc zero)) (Symbol k) l v w one two = sums_combine laws (value_of ours p) (value_fits system laws) (Stands ours p first wanted k l) v w one two
+  joins_at (suc (suc (suc m))) (Symbol k) n v w one two = λ from is. sums_combine laws (value_of ours p) (value_fits system laws) (Hangs ours p first wanted k from) v w (one from is) (two from is)
   joins_at zero Empty n v w one two = sums_combine laws (value_of ours p) (value_fits system laws) Lead v w one two
   joins_at (suc m) Empty n v w one two = sums_combine laws (value_of ours p) (value_fits system laws) Lead v w one two
 
@@ -73,6 +75,16 @@ module _ {S W Map : Type 0} {operations : S → Operations W Map} {p : Pushdown 
       (within (Pair i (item a)) (Stands ours p first wanted is.item is.item_other)
       (λ run walks. record { state = i; state_first = a; comes = stands_comes wanted.items i is.item is.stands; comes_first = stands_comes first.items a is.item_other is.stands_other; walks = walks }) hand
       (made (item a) (item_number (length first.items) p a is.within_other)))
+
+  pub state_made : (hand : W) (i m : ℕ) → IsMade ours p first wanted (pair_place Down i m) hand → (x : Place) (w : W) → IsStateStand hand wanted.items i m x w → IsMade ours p first wanted x w
+  state_made hand i m made x w is =
+      at_place x (pair_place Above is.item m) hand w is.place is.weight (λ from numbered.
+      within (Pair i from) (Hangs ours p first wanted is.item from) (λ run walks. record { state = i; comes = stands_comes wanted.items i is.item is.stands; walks = walks }) hand (made from numbered))
+
+  pub skip_made : (hand : W) (l m : ℕ) → IsMade ours p first wanted (pair_place Above l m) hand → (x : Place) (w : W) → IsItemSkip hand wanted.items l m x w → IsMade ours p first wanted x w
+  skip_made hand l m made x w is =
+      at_place x (pair_place Above (suc l) m) hand w is.place is.weight (λ from numbered.
+      within (Hangs ours p first wanted l from) (Hangs ours p first wanted (suc l) from) (λ run h. record { state = h.state; comes = skip_comes wanted.items h.state l h.comes is.skipped; walks = h.walks }) hand (made from numbered))
 
   pub step_made : (hand : W) (k l : ℕ) → IsMade ours p first wanted (pair_place Before k l) hand → (x : Place) (w : W) → IsStep hand wanted.items first.items Down k l x w → IsMade ours p first wanted x w
   step_made hand k l made x w (weight, inl (skipped, place)) =
@@ -131,19 +143,20 @@ module _ {S W Map : Type 0} {operations : S → Operations W Map} (v : TablesVal
       let T : Source → Type 0 = λ y. Sums s (value_of s v.system) (Walks first.control first.items wanted.control wanted.items v.system 0 y) (weight_in s v.base (arrow wanted.control Empty i)) in
       subst T same (uncovered_top_sum system laws first wanted i (weight_in s v.base (arrow wanted.control Empty i)) (bare_sums wanted.control i (item i) is))
 
-  pub call_made : (state source k : ℕ) (x : Place) (w : W) → IsCall s first wanted state source k v x w → IsMade s v.system first wanted x w
-  call_made state source k x w is =
+  pub call_made : (l source k : ℕ) (x : Place) (w : W) → IsCall s first wanted l source k v x w → IsMade s v.system first wanted x w
+  call_made l source k x w is =
       let r = is.rule in
       let head : Place = place_over r.control r.symbol is.from in
-      let there : IsMade s v.system first wanted (pair_place Down is.next is.from) w = λ y numbered.
-      let all = opens_sum system laws first wanted k r is.there is.top is.below is.right state is.next is.edge y (weight_in s v.base head) is.worth (row_sums r.control r.symbol is.from y numbered) (is.made (callee r.to is.top) is.entered) in
-      let U : W → Type 0 = Sums s (value_of s v.system) (Walks first.control first.items wanted.control wanted.items v.system is.next y) in
+      let there : IsMade s v.system first wanted (pair_place Down (suc l) is.from) w = λ y numbered.
+      let all = opens_runs system laws first wanted k r is.there is.top is.below is.right (Hangs s v.system first wanted l (callee r.to is.top)) (suc l)
+      (λ run h. (h.state, comes_edge wanted.items h.state l is.below h.comes is.takes, h.walks)) y (weight_in s v.base head) is.worth (row_sums r.control r.symbol is.from y numbered) (is.made (callee r.to is.top) is.entered) in
+      let U : W → Type 0 = Sums s (value_of s v.system) (Walks first.control first.items wanted.control wanted.items v.system (suc l) y) in
       subst U (laws.extend_assoc (weight_in s v.base head) r.weight is.worth (place_fits s head v.base laws.fits-zero base_fits) (weight_fits system laws k r is.there) is.fits ∙ sym is.weight) all in
       let P : Place → Type 0 = λ z. IsMade s v.system first wanted z w in
       subst P (sym is.place) there
 
-  pub call_fits : (state source k : ℕ) (x : Place) (w : W) → IsCall s first wanted state source k v x w → Fits s w
-  call_fits state source k x w is =
+  pub call_fits : (l source k : ℕ) (x : Place) (w : W) → IsCall s first wanted l source k v x w → Fits s w
+  call_fits l source k x w is =
       let r = is.rule in
       let head : Place = place_over r.control r.symbol is.from in
       subst (Fits s) (sym is.weight)

@@ -2,13 +2,11 @@
 use Rattle.std.proofs.Common.{◌≡◌, ◌⊎◌, inl, inr, ℕ, zero, suc, ◌<◌, ◌≤◌, get_or, List, [], ◌∷◌, length, refl, sym, ap, ◌∙◌, subst, arith}
 use Rattle.std.specs.Prelude.{Some, slice_get}
 use Rattle.std.proofs.lemmas.Option.{same_Some}
-use Rattle.wpds_base.specs.Lists.{IsIn}
 use Rattle.pushdown_rules.specs.declared.rule.Rule.{Rule}
 use Rattle.pushdown_rules.specs.Pushdown.{IsSystem}
 use Rattle.pushdown_rules.proofs.CallerLemmas.{weight_fits}
 use Rattle.semiring_laws.specs.Semiring.{Operations, IsSemiring, Fits, Below}
 use Rattle.semiring_laws.proofs.CallerLemmas.{below_itself}
-use Rattle.config_patterns.specs.Edges.{edges_of}
 use Rattle.config_patterns.specs.declared.item.Item.{Item}
 use Rattle.config_patterns.specs.Membership.{PatternValue}
 use Rattle.weighted_automata.specs.declared.place.Place.{Place}
@@ -16,26 +14,21 @@ use Rattle.weight_tables.specs.Entries.{TableEntry, weight_in, settled_in}
 use Rattle.weight_tables.specs.Tables.{TablesValue, AreTables, with_entries, with_hand}
 use Rattle.weight_tables.specs.declared.layer.Layer.TheVariants.{Walk}
 use Rattle.weight_tables.proofs.CallerLemmas.{place_fits, index_there, weight_at_index, settled_or_none}
-use Rattle.walk_pairs.specs.declared.pairs.Stage.TheVariants.{Down}
+use Rattle.walk_pairs.specs.declared.pairs.Stage.TheVariants.{Down, Above}
 use Rattle.walk_pairs.specs.Pairs.{pair_place, place_over}
+use Rattle.walk_pairs.specs.Ways.{TakesAt}
 use Rattle.walk_pairs.proofs.CallerLemmas.{lowered_wider, lowered_all_fit, lowered_counts}
 use Rattle.forward_value_laws.specs.Model.{callee}
 use Rattle.forward_value_walk.specs.Walking.{number, IsMade}
-use Rattle.forward_value_walk.specs.private.Opening.{IsHead, IsWayGiven, AreHeadsGiven, IsCall, AreRuleCallsGiven, worth_from}
+use Rattle.forward_value_walk.specs.private.Opening.{IsWay, IsWayGiven, IsCall, AreRuleCallsGiven, worth_from}
 use Rattle.forward_value_walk.proofs.SettleLemmas.{opened_kept}
 
 module _ {S W Map : Type 0} {s : Operations W Map} (laws : IsSemiring s) (v : TablesValue S W Map) (valid : AreTables s v) where
-  pub from_fits : (control symbol n : ℕ) → Fits s (worth_from s v control symbol n)
+  from_fits : (control symbol n : ℕ) → Fits s (worth_from s v control symbol n)
   from_fits control symbol n = laws.fits-extend _ v.hand (place_fits s (place_over control symbol n) v.base laws.fits-zero valid.base.fits) valid.hand
 
-  pub head_fits : (wanted : PatternValue) (state below control symbol : ℕ) (x : Place) (w : W) → IsHead s v wanted state below control symbol x w → Fits s w
-  head_fits wanted state below control symbol x w is = subst (Fits s) (sym is.weight) (from_fits control symbol is.source)
-
--- what was given at the tables as they stood, said of the old ones
-pub way_between : {S W Map : Type 0} (operations : S → Operations W Map) (v v1 v2 : TablesValue S W Map) → v1 ≡ with_entries Walk v1.walk v → (items : List Item) (next below control symbol : ℕ)
-    → IsWayGiven (operations v1.system.semiring) v1 items next below control symbol v2 → IsWayGiven (operations v.system.semiring) (with_entries Walk v1.walk v) items next below control symbol v2
-way_between {S} {W} {Map} operations v v1 v2 others items next below control symbol given =
-    let P : TablesValue S W Map → Type 0 = λ u. IsWayGiven (operations u.system.semiring) u items next below control symbol v2 in subst P others given
+  way_fits : (items : List Item) (l below control symbol : ℕ) (x : Place) (w : W) → IsWay s v items l below control symbol x w → Fits s w
+  way_fits items l below control symbol x w is = subst (Fits s) (sym is.weight) (from_fits control symbol is.source)
 
 -- what stands at a number
 pub entry_at : {X : Type 0} (xs : List X) (k : ℕ) → k < length xs → (x : X) × (slice_get xs k ≡ Some x)
@@ -47,36 +40,36 @@ second_is : (a b c d : ℕ) → a ∷ b ∷ [] ≡ c ∷ d ∷ [] → b ≡ d
 second_is a b c d e = cc
 
 module _ {S W Map : Type 0} {operations : S → Operations W Map} (v : TablesValue S W Map) (system : IsSystem operations v.system) (laws : IsSemiring (operations v.system.semiring)) (valid : AreTables (operations v.system.semiring) v)
-    (first wanted : PatternValue) (state source k t : ℕ) where
+    (first wanted : PatternValue) (l source k t : ℕ) where
   abbrev s : Operations W Map
   s = operations v.system.semiring
 
   module _ (r : Rule S W Map) (there : slice_get v.system.rules k ≡ Some r) (g h : ℕ) (right : r.right ≡ g ∷ h ∷ []) (entered : number s v.system first wanted (callee r.to g) ≡ Some source)
-      (e : TableEntry W) (at : slice_get v.walk t ≡ Some e) (place : e.place ≡ pair_place Down state source) (made : IsMade s v.system first wanted (pair_place Down state source) (weight_in s v.walk (pair_place Down state source))) where
+      (e : TableEntry W) (at : slice_get v.walk t ≡ Some e) (place : e.place ≡ pair_place Above l source) (made : IsMade s v.system first wanted (pair_place Above l source) (weight_in s v.walk (pair_place Above l source))) where
     -- the tables with the rule's weight and then the pair's in hand
     abbrev pub with_rule : TablesValue S W Map
     with_rule = with_hand (s.extend r.weight e.weight) v
 
-    weight_is : weight_in s v.walk (pair_place Down state source) ≡ e.weight
+    weight_is : weight_in s v.walk (pair_place Above l source) ≡ e.weight
     weight_is = ap (weight_in s v.walk) (sym place) ∙ (weight_at_index s e.place v.walk t e (index_there v.walk valid.walk.distinct t e at) at).0
 
     fits_entry : Fits s e.weight
-    fits_entry = subst (Fits s) weight_is (place_fits s (pair_place Down state source) v.walk laws.fits-zero valid.walk.fits)
+    fits_entry = subst (Fits s) weight_is (place_fits s (pair_place Above l source) v.walk laws.fits-zero valid.walk.fits)
 
-    pub rule_opened : AreTables s with_rule → (new : TablesValue S W Map) → AreHeadsGiven s with_rule wanted state h r.control r.symbol new → AreRuleCallsGiven s first wanted state source k v new
+    pub rule_opened : AreTables s with_rule → (new : TablesValue S W Map) → IsWayGiven s with_rule wanted.items l h r.control r.symbol new → AreRuleCallsGiven s first wanted l source k v new
     rule_opened valid' new given =
-        let Is = IsHead s with_rule wanted state h r.control r.symbol in
-        let fit = head_fits laws with_rule valid' wanted state h r.control r.symbol in
+        let Is = IsWay s with_rule wanted.items l h r.control r.symbol in
+        let fit = way_fits laws with_rule valid' wanted.items l h r.control r.symbol in
         let hand : new.hand ≡ s.extend r.weight e.weight = ap (λ (u : TablesValue S W Map). u.hand) given.lowered.others in
         let new_fit = lowered_all_fit laws Is fit v.walk new.walk given.lowered.pairs valid.walk.fits in
-        let fn = λ (n j : ℕ). place_fits s (pair_place Down j n) new.walk laws.fits-zero new_fit in
-        let counts : (settled_in s new.walk (pair_place Down state source) ≡ e.weight) ⊎ (settled_in s new.walk (pair_place Down state source) ≡ s.zero) =
-        elim (lowered_counts laws Is fit v.walk new.walk given.lowered.pairs valid.walk.fits (pair_place Down state source)) [
+        let fn = λ (n : ℕ). place_fits s (pair_place Down (suc l) n) new.walk laws.fits-zero new_fit in
+        let counts : (settled_in s new.walk (pair_place Above l source) ≡ e.weight) ⊎ (settled_in s new.walk (pair_place Above l source) ≡ s.zero) =
+        elim (lowered_counts laws Is fit v.walk new.walk given.lowered.pairs valid.walk.fits (pair_place Above l source)) [
           | inr none ↦ inr none
-          | inl same ↦ elim (settled_or_none s (pair_place Down state source) v.walk) [ inl is ↦ inl (same ∙ is ∙ weight_is) | inr none ↦ inr (same ∙ none) ]
+          | inl same ↦ elim (settled_or_none s (pair_place Above l source) v.walk) [ inl is ↦ inl (same ∙ is ∙ weight_is) | inr none ↦ inr (same ∙ none) ]
         ] in
         record {
-          lowered = lowered_wider s Is (IsCall s first wanted state source k v)
+          lowered = lowered_wider s Is (IsCall s first wanted l source k v)
               (λ x w is. record {
                 rule = r;
                 there = there;
@@ -84,26 +77,25 @@ module _ {S W Map : Type 0} {operations : S → Operations W Map} (v : TablesVal
                 below = h;
                 right = right;
                 entered = entered;
-                next = is.next;
-                edge = is.edge;
+                takes = is.takes;
                 from = is.source;
                 place = is.place;
                 worth = e.weight;
                 fits = fits_entry;
-                made = subst (IsMade s v.system first wanted (pair_place Down state source)) weight_is made;
+                made = subst (IsMade s v.system first wanted (pair_place Above l source)) weight_is made;
                 weight = is.weight;
               }) v.walk new.walk given.lowered.pairs;
           others = given.lowered.others ∙ ap (λ w. with_hand w (with_entries Walk new.walk v)) (sym hand);
-          met = λ r' there' g' h' right' j edge n.
+          met = λ r' there' g' h' right' takes n.
               let same : r ≡ r' = same_Some r r' (sym there ∙ there') in
               let below : h ≡ h' = second_is g h g' h' (sym right ∙ ap (λ (x : Rule S W Map). x.right) same ∙ right') in
               let P : Rule S W Map → Type 0 =
-              λ x. Below s (weight_in s new.walk (pair_place Down j n)) (s.extend (weight_in s v.base (place_over x.control x.symbol n)) (s.extend x.weight (settled_in s new.walk (pair_place Down state source)))) in
-              let E : ℕ → Type 0 = λ b. IsIn (record { from = state; symbol = b; to = j }) (edges_of wanted.items) in
+              λ x. Below s (weight_in s new.walk (pair_place Down (suc l) n)) (s.extend (weight_in s v.base (place_over x.control x.symbol n)) (s.extend x.weight (settled_in s new.walk (pair_place Above l source)))) in
+              let E : ℕ → Type 0 = TakesAt wanted.items (suc l) in
               subst P same
-              (opened_kept system laws first wanted v.base valid.base.fits (weight_in s new.walk (pair_place Down j n)) (weight_in s new.walk (pair_place Down j n)) (weight_in s v.base (place_over r.control r.symbol n)) r.weight e.weight
-              (settled_in s new.walk (pair_place Down state source)) (fn n j) (fn n j) (place_fits s (place_over r.control r.symbol n) v.base laws.fits-zero valid.base.fits) (weight_fits system laws k r there) fits_entry
-              (below_itself laws (weight_in s new.walk (pair_place Down j n)) (fn n j)) counts (given.met j (subst E (sym below) edge) n));
+              (opened_kept system laws first wanted v.base valid.base.fits (weight_in s new.walk (pair_place Down (suc l) n)) (weight_in s new.walk (pair_place Down (suc l) n)) (weight_in s v.base (place_over r.control r.symbol n)) r.weight e.weight
+              (settled_in s new.walk (pair_place Above l source)) (fn n) (fn n) (place_fits s (place_over r.control r.symbol n) v.base laws.fits-zero valid.base.fits) (weight_fits system laws k r there) fits_entry
+              (below_itself laws (weight_in s new.walk (pair_place Down (suc l) n)) (fn n)) counts (given.met (subst E (sym below) takes) n));
         }
 
 pub two_of : (xs : List ℕ) → 2 ≤ length xs → length xs < 3 → xs ≡ get_or xs 0 0 ∷ get_or xs 1 0 ∷ []

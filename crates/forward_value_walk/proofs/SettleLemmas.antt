@@ -1,5 +1,5 @@
 -- A turn of the walk keeps what was settled.
-use Rattle.std.proofs.Common.{◌≡◌, ◌⊎◌, inl, inr, ℕ, true, false, List, refl, sym, ap, ◌∙◌, subst}
+use Rattle.std.proofs.Common.{◌≡◌, ◌⊎◌, inl, inr, ℕ, suc, true, false, List, refl, sym, ap, ◌∙◌, subst}
 use Rattle.std.specs.Prelude.{Bool, if◌then◌else◌}
 use Rattle.semiring_laws.specs.Semiring.{Operations, IsSemiring, Fits, Below}
 use Rattle.semiring_laws.proofs.CallerLemmas.{below_trans, below_zero}
@@ -10,12 +10,12 @@ use Rattle.weighted_automata.specs.declared.place.Label.TheVariants.{Symbol, Emp
 use Rattle.weighted_automata.specs.declared.place.Place.{Place}
 use Rattle.weight_tables.specs.Entries.{TableEntry, weight_in, settled_in}
 use Rattle.weight_tables.proofs.CallerLemmas.{place_fits, settled_or_none}
-use Rattle.walk_pairs.specs.declared.pairs.Stage.TheVariants.{Down, Before}
+use Rattle.walk_pairs.specs.declared.pairs.Stage.TheVariants.{Down, Before, Above}
 use Rattle.walk_pairs.specs.Pairs.{pair_place, answer_place}
-use Rattle.walk_pairs.proofs.CallerLemmas.{AllFit, pair_kept, before_kept}
+use Rattle.walk_pairs.proofs.CallerLemmas.{AllFit, pair_kept, before_kept, state_kept, skip_kept}
 use Rattle.forward_value_search.specs.Places.{arrow}
 use Rattle.value_tails.specs.Tailing.{tail_place, tail_in}
-use Rattle.forward_value_walk.specs.Walking.{pair_in, before_in, answer_in, settled_pair, settled_before, going_pair, IsSettled, IsPairMet, IsBeforeMet}
+use Rattle.forward_value_walk.specs.Walking.{pair_in, before_in, above_in, answer_in, settled_pair, settled_before, settled_above, going_pair, IsSettled, IsPairMet, IsBeforeMet, IsAboveMet}
 
 module _ {S W Map : Type 0} {operations : S → Operations W Map} {p : Pushdown S W Map} (system : IsSystem operations p) (laws : IsSemiring (operations p.semiring)) (first wanted : PatternValue)
     (base : List (TableEntry W)) (base_fits : AllFit (operations p.semiring) base) where
@@ -71,23 +71,40 @@ module _ {S W Map : Type 0} {operations : S → Operations W Map} {p : Pushdown 
     abbrev At : List (TableEntry W) → ℕ → ℕ → W
     At es = before_in s p first wanted base es
 
+    abbrev Over : List (TableEntry W) → ℕ → ℕ → W
+    Over es = above_in s p first wanted base es
+
     abbrev Going : List (TableEntry W) → ℕ → ℕ → W
     Going es = going_pair s p first wanted base es stops tails
 
     -- Each pair counts as it did, or for nothing, or has given what it gives: the walk is settled.
     pub settled_on : ((i m : ℕ) → Kept (settled_pair s p first wanted base new i m) (settled_pair s p first wanted base old i m) ⊎ IsPairMet s p first wanted base new stops tails i m)
         → ((k l : ℕ) → Kept (settled_before s p first wanted base new k l) (settled_before s p first wanted base old k l) ⊎ IsBeforeMet s p first wanted base new k l)
+        → ((l m : ℕ) → Kept (settled_above s p first wanted base new l m) (settled_above s p first wanted base old l m) ⊎ IsAboveMet s p first wanted base new l m)
         → IsSettled s p first wanted base old stops tails → IsSettled s p first wanted base new stops tails
-    settled_on each each_before settled = record {
+    settled_on each each_before each_above settled = record {
       tops = λ g j edge n. below_trans laws (weight_in s new (pair_place Down j n)) (weight_in s old (pair_place Down j n)) (weight_in s base (arrow wanted.control (Symbol g) n))
           (fn (pair_place Down j n)) (fo (pair_place Down j n)) (fb (arrow wanted.control (Symbol g) n)) (falls (pair_place Down j n)) (settled.tops g j edge n);
       uncovered = λ i low. below_trans laws (weight_in s new (pair_place Down 0 i)) (weight_in s old (pair_place Down 0 i)) (weight_in s base (arrow wanted.control Empty i))
           (fn (pair_place Down 0 i)) (fo (pair_place Down 0 i)) (fb (arrow wanted.control Empty i)) (falls (pair_place Down 0 i)) (settled.uncovered i low);
-      opens = λ k r there g h right i j going edge m is n. elim (each i m) [
-        | inr met ↦ met.opens k r there g h right j going edge is n
-        | inl kept ↦ opened_kept (weight_in s old (pair_place Down j n)) (weight_in s new (pair_place Down j n)) (weight_in s base (arrow r.control (Symbol r.symbol) n)) r.weight
-            (settled_pair s p first wanted base old i m) (settled_pair s p first wanted base new i m) (fo (pair_place Down j n)) (fn (pair_place Down j n)) (fb (arrow r.control (Symbol r.symbol) n))
-            (weight_fits system laws k r there) (fso (pair_place Down i m)) (falls (pair_place Down j n)) kept (settled.opens k r there g h right i j going edge m is n)
+      states = λ i m deep. elim (each i m) [
+        | inr met ↦ met.states deep
+        | inl kept ↦ state_kept laws wanted.items (Over old) (Over new) (λ x y. fo (pair_place Above x y)) (λ x y. fn (pair_place Above x y)) (λ x y. falls (pair_place Above x y)) (Going old i m) (Going new i m)
+            (going_fits (stops i) (settled_pair s p first wanted base old i m) (fso (pair_place Down i m)))
+            (going_kept (stops i) (settled_pair s p first wanted base new i m) (settled_pair s p first wanted base old i m) kept) i m (settled.states i m deep)
+      ];
+      aboves = λ l m. elim (each_above l m) [
+        | inr met ↦ met
+        | inl kept ↦
+            let was = settled.aboves l m in
+            record {
+              skips = skip_kept laws wanted.items (Over old) (Over new) (λ x y. fo (pair_place Above x y)) (λ x y. fn (pair_place Above x y)) (λ x y. falls (pair_place Above x y)) (settled_above s p first wanted base old l m)
+                  (settled_above s p first wanted base new l m) (fso (pair_place Above l m)) kept l m was.skips;
+              opens = λ k r there g h right takes is n.
+                  opened_kept (weight_in s old (pair_place Down (suc l) n)) (weight_in s new (pair_place Down (suc l) n)) (weight_in s base (arrow r.control (Symbol r.symbol) n)) r.weight (settled_above s p first wanted base old l m)
+                  (settled_above s p first wanted base new l m) (fo (pair_place Down (suc l) n)) (fn (pair_place Down (suc l) n)) (fb (arrow r.control (Symbol r.symbol) n)) (weight_fits system laws k r there) (fso (pair_place Above l m))
+                  (falls (pair_place Down (suc l) n)) kept (was.opens k r there g h right takes is n);
+            }
       ];
       readings = record {
         pairs = λ i a. elim (each i a) [

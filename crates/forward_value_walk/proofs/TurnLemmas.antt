@@ -12,12 +12,12 @@ use Rattle.weight_tables.specs.Tables.{TablesValue, AreTables, with_entries}
 use Rattle.weight_tables.specs.Turns.{turns_left}
 use Rattle.weight_tables.specs.declared.layer.Layer.TheVariants.{Walk}
 use Rattle.weight_tables.proofs.CallerLemmas.{taken_weight, taken_settled, taken_turns}
-use Rattle.walk_pairs.specs.declared.pairs.Stage.TheVariants.{Down, Before}
+use Rattle.walk_pairs.specs.declared.pairs.Stage.TheVariants.{Down, Before, Above}
 use Rattle.walk_pairs.specs.Pairs.{pair_place, answer_place}
 use Rattle.walk_pairs.specs.Answering.{IsAnswered, IsWalkedOver}
 use Rattle.forward_value_search.specs.Search.{IsFinished}
 use Rattle.forward_value_laws.proofs.CallerLemmas.{stopped_answers}
-use Rattle.forward_value_walk.specs.Walking.{IsMade, IsPairMet, IsBeforeMet, found_in, pairs_of, tails_of, settled_pair, settled_before}
+use Rattle.forward_value_walk.specs.Walking.{IsMade, IsPairMet, IsBeforeMet, IsAboveMet, found_in, pairs_of, tails_of, settled_pair, settled_before, settled_above}
 use Rattle.forward_value_walk.specs.private.Going.{IsPlaceGiven, IsStopped, IsWalking}
 use Rattle.forward_value_walk.proofs.SettleLemmas.{settled_on}
 use Rattle.forward_value_walk.proofs.RestLemmas.{tails_known}
@@ -87,10 +87,17 @@ module _ {S W Map : Type 0} (operations : S → Operations W Map) (laws : (x : S
             | inr differs ↦ inl (kept (pair_place Before k l) differs)
           ]
 
+          each_above : (l m : ℕ) → ((settled_above s v.system first wanted v.base new.walk l m ≡ settled_above s v.system first wanted v.base v.walk l m) ⊎ (settled_above s v.system first wanted v.base new.walk l m ≡ s.zero))
+              ⊎ IsAboveMet s v.system first wanted v.base new.walk l m
+          each_above l m = elim (cases_place e.place (pair_place Above l m)) [
+            | inl same ↦ inr (given.met_above l m same)
+            | inr differs ↦ inl (kept (pair_place Above l m) differs)
+          ]
+
           pub turned : IsTurned v new
           turned =
               let now = gone_walkable operations laws first wanted took new took_walkable given.gone in
-              let settled = settled_on system law first wanted v.base valid.base.fits stops v.target valid.target.fits v.walk new.walk valid.walk.fits (gone_fit operations laws first wanted took new took_walkable given.gone) falls each each_before walking.settled in
+              let settled = settled_on system law first wanted v.base valid.base.fits stops v.target valid.target.fits v.walk new.walk valid.walk.fits (gone_fit operations laws first wanted took new took_walkable given.gone) falls each each_before each_above walking.settled in
               let P : TablesValue S W Map → Type 0 = IsWalking s first wanted stops in
               let Q : TablesValue S W Map → Type 0 = λ u. (x : Place) → IsMade (of u) u.system first wanted x (weight_in (of u) new.walk x) in
               let less = gone_turns operations laws first wanted took new took_walkable given.gone few in

@@ -6,7 +6,7 @@ ghost use Rattle.forward_value_laws.specs.Model.{callee as callee_of};
 ghost use Rattle.forward_value_search.specs.Places.{number_of};
 ghost use Rattle.forward_value_search.specs.Search.{StandsAt, IsFinished};
 ghost use Rattle.walk_pairs.specs.Pairs.{pair_place as pair_value};
-ghost use Rattle.walk_pairs.specs.declared.pairs.Stage.TheVariants.{Down};
+ghost use Rattle.walk_pairs.specs.declared.pairs.Stage.TheVariants.{Above};
 ghost use Rattle.forward_value_walk.specs.private.Opening.{IsCallMet};
 ghost use Rattle.forward_value_walk.specs.private.Going.{AreMade, IsGoneOn, AreCallsGiven};
 
@@ -23,11 +23,11 @@ fn open_onto<'s, S: Semiring, M: Weigher<S>>(
     first: &Pattern,
     wanted: &Pattern,
     callee: Callee,
-    state: u32,
+    item: u32,
     source: u32,
     t: u32,
 ) -> Result<(), OutOfMemory>
-    requires entry { StandsAt t (pair_value Down state source) tables.old.walk }
+    requires entry { StandsAt t (pair_value Above item source) tables.old.walk }
     requires finished { IsFinished S.operations tables.old.system first.now tables.old }
     requires made { let s = S.operations tables.old.system.semiring in
         AreMade s first.now wanted.now tables.old }
@@ -40,38 +40,38 @@ fn open_onto<'s, S: Semiring, M: Weigher<S>>(
     ensures met { let s = S.operations tables.old.system.semiring in OnOk result
         ((k : ℕ) (r : RuleValue S S.W S.Ret) → slice_get tables.old.system.rules k ≡ Some r →
         goes_onto callee.to callee.top r ≡ true →
-        IsCallMet s first.now wanted.now state source k tables.old tables.new.walk r) }
+        IsCallMet s first.now wanted.now item source k tables.old tables.new.walk r) }
 {
     tables.valid();
     let system = tables.system();
     let mut at = Some(callee.rule);
     'rules: while let Some(k) = at {
-        open_rule(tables, first, wanted, state, source, t, k)?;
+        open_rule(tables, first, wanted, item, source, t, k)?;
         at = system.next_onto(k);
     }
     Ok(())
 }
 
-/// All calls that stay open above what an entry of the walk reads, where its source is a callee.
+/// All calls that stay open where an item reads what they left below, if the source is a callee.
 pub(crate) fn open_calls<'s, S: Semiring, M: Weigher<S>>(
     tables: &mut Tables<'s, S, M>,
     first: &Pattern,
     wanted: &Pattern,
-    state: u32,
+    item: u32,
     source: u32,
     t: u32,
 ) -> Result<(), OutOfMemory>
-    requires entry { StandsAt t (pair_value Down state source) tables.old.walk }
+    requires entry { StandsAt t (pair_value Above item source) tables.old.walk }
     requires finished { IsFinished S.operations tables.old.system first.now tables.old }
     requires made { let s = S.operations tables.old.system.semiring in
         AreMade s first.now wanted.now tables.old }
     ensures { let s = S.operations tables.old.system.semiring in OnOk result
-        (AreCallsGiven s first.now wanted.now state source tables.old tables.new) }
+        (AreCallsGiven s first.now wanted.now item source tables.old tables.new) }
 {
     tables.valid();
     let Some(callee) = callee_at(tables.system(), first.items(), source) else {
         return Ok(());
     };
-    open_onto(tables, first, wanted, callee, state, source, t)?;
+    open_onto(tables, first, wanted, callee, item, source, t)?;
     Ok(())
 }

@@ -2,15 +2,15 @@ ghost use Rattle.std.specs.Prelude.{◌<◌, ◌≡◌, IsTrue, length, OnOk, So
 ghost use Rattle.forward_value_search.specs.Search.{StandsAt, IsFinished};
 ghost use Rattle.weight_tables.specs.Entries.{TableEntry};
 ghost use Rattle.walk_pairs.specs.Pairs.{pair_place as pair_value};
-ghost use Rattle.walk_pairs.specs.declared.pairs.Stage.TheVariants.{Before, Down};
-ghost use Rattle.forward_value_walk.specs.private.Going.{AreItemsGiven, AreMade, IsPairGiven, IsPlaceGiven, IsStopped};
+ghost use Rattle.walk_pairs.specs.declared.pairs.Stage.TheVariants.{Above, Before, Down};
+ghost use Rattle.forward_value_walk.specs.private.Going.{AreItemsGiven, AreMade, IsAboveGiven, IsPairGiven, IsPlaceGiven, IsStopped};
 ghost use Rattle.forward_value_walk.specs.Walking.{is_stop};
 
 use crate::calls::open_calls;
 use config_patterns::Pattern;
 use semiring_laws::Semiring;
 use value_tails::tail_place;
-use walk_pairs::{Stage, answer_place, pair_at, read_items, read_on};
+use walk_pairs::{Stage, answer_place, pair_at, read_items, read_on, read_state, skip_item};
 use weight_tables::{Layer, Tables, Weigher};
 use wpds_base::OutOfMemory;
 
@@ -53,8 +53,8 @@ fn give_rest<'s, S: Semiring, M: Weigher<S>>(
     Ok(())
 }
 
-// Gives all that a pair gives: where it has been read down to an item, both patterns read on; where to a callee, its calls lie
-// below.
+// Gives all that a pair gives: where it has been read down to an item, both patterns read on; where to a callee, the second does,
+// and its calls lie below.
 fn give_pair<'s, S: Semiring, M: Weigher<S>>(
     tables: &mut Tables<'s, S, M>,
     first: &Pattern,
@@ -80,7 +80,33 @@ fn give_pair<'s, S: Semiring, M: Weigher<S>>(
     }
     tables.hold(Layer::Walk, t)?;
     read_on(tables, wanted, state, first, source)?;
-    open_calls(tables, first, wanted, state, source, t)?;
+    if source <= first.items() {
+        return Ok(());
+    }
+    read_state(tables, wanted, state, source)?;
+    Ok(())
+}
+
+// Gives all that an item gives that is read next above a source: past it, where it has a star, and the calls whose rest it reads.
+fn give_above<'s, S: Semiring, M: Weigher<S>>(
+    tables: &mut Tables<'s, S, M>,
+    first: &Pattern,
+    wanted: &Pattern,
+    item: u32,
+    source: u32,
+    t: u32,
+) -> Result<(), OutOfMemory>
+    requires entry { StandsAt t (pair_value Above item source) tables.old.walk }
+    requires finished { IsFinished S.operations tables.old.system first.now tables.old }
+    requires made { let s = S.operations tables.old.system.semiring in
+        AreMade s first.now wanted.now tables.old }
+    ensures { let s = S.operations tables.old.system.semiring in OnOk result
+        (IsAboveGiven s first.now wanted.now item source tables.old tables.new) }
+{
+    tables.valid();
+    tables.hold(Layer::Walk, t)?;
+    skip_item(tables, wanted, item, source)?;
+    open_calls(tables, first, wanted, item, source, t)?;
     Ok(())
 }
 
@@ -137,6 +163,10 @@ pub(crate) fn give<'s, S: Semiring, M: Weigher<S>>(
             give_items(tables, first, wanted, pair.state, pair.to, t)?;
             Ok(())
         }
-        Stage::Across | Stage::Above => Ok(()),
+        Stage::Above => {
+            give_above(tables, first, wanted, pair.state, pair.to, t)?;
+            Ok(())
+        }
+        Stage::Across => Ok(()),
     }
 }

@@ -7,7 +7,7 @@ use Rattle.weighted_automata.specs.declared.place.Place.{Place}
 use Rattle.weighted_automata.specs.declared.place.Label.TheVariants.{Empty}
 use Rattle.weight_tables.specs.Entries.{TableEntry, weight_in}
 use Rattle.weight_tables.specs.Tables.{TablesValue}
-use Rattle.walk_pairs.specs.declared.pairs.Stage.TheVariants.{Down, Before}
+use Rattle.walk_pairs.specs.declared.pairs.Stage.TheVariants.{Down, Before, Above}
 use Rattle.walk_pairs.specs.Pairs.{pair_place}
 use Rattle.walk_pairs.specs.Lowerings.{AreLowered}
 use Rattle.walk_pairs.specs.Answering.{IsWalkedOver}
@@ -15,7 +15,7 @@ use Rattle.forward_value_laws.specs.Model.{callee}
 use Rattle.forward_value_search.specs.Places.{arrow}
 use Rattle.forward_value_laws.specs.Tails.{IsSymbol, TakesRest}
 use Rattle.value_tails.specs.Tailing.{IsTailed}
-use Rattle.forward_value_walk.specs.Walking.{number, IsMade, IsSettled, IsPairMet, IsBeforeMet}
+use Rattle.forward_value_walk.specs.Walking.{number, IsMade, IsSettled, IsPairMet, IsBeforeMet, IsAboveMet}
 use Rattle.forward_value_walk.specs.private.Opening.{IsCallMet}
 
 -- the pair of an item's number, of which nothing has been read, is below what leads to that item over nothing
@@ -40,11 +40,11 @@ module _ {S W Map : Type 0} (s : Operations W Map) (first wanted : PatternValue)
   abbrev pub IsStopped : (ℕ → Bool) → TablesValue S W Map → Type 0
   IsStopped stops v = (j : ℕ) → IsTrue (stops j) → IsTailed s first v × TakesRest (IsSymbol v.system first) wanted.items j
 
-  -- All calls of the callee of a number were given to the pairs above them.
-  pub record AreCallsGiven (state source : ℕ) (v new : TablesValue S W Map) : Type 0 where
+  -- All calls of the callee of a number were given to the pairs above them, where an item reads what they left below.
+  pub record AreCallsGiven (l source : ℕ) (v new : TablesValue S W Map) : Type 0 where
     pub gone : IsGoneOn v new
     pub met : (k : ℕ) (r : Rule S W Map) → slice_get v.system.rules k ≡ Some r → (g h : ℕ) → r.right ≡ g ∷ h ∷ [] → number s v.system first wanted (callee r.to g) ≡ Some source
-        → IsCallMet s first wanted state source k v new.walk r
+        → IsCallMet s first wanted l source k v new.walk r
 
   -- A pair has given all that it gives.
   pub record IsPairGiven (stops : ℕ → Bool) (state source : ℕ) (v new : TablesValue S W Map) : Type 0 where
@@ -56,11 +56,17 @@ module _ {S W Map : Type 0} (s : Operations W Map) (first wanted : PatternValue)
     pub gone : IsGoneOn v new
     pub met : IsBeforeMet s v.system first wanted v.base new.walk k l
 
+  -- So has an item above a source.
+  pub record IsAboveGiven (l source : ℕ) (v new : TablesValue S W Map) : Type 0 where
+    pub gone : IsGoneOn v new
+    pub met : IsAboveMet s v.system first wanted v.base new.walk l source
+
   -- What stands at a place has given all that it gives. What is no pair gives nothing.
   pub record IsPlaceGiven (stops : ℕ → Bool) (place : Place) (v new : TablesValue S W Map) : Type 0 where
     pub gone : IsGoneOn v new
     pub met : (i m : ℕ) → place ≡ pair_place Down i m → IsPairMet s v.system first wanted v.base new.walk stops v.target i m
     pub met_before : (k l : ℕ) → place ≡ pair_place Before k l → IsBeforeMet s v.system first wanted v.base new.walk k l
+    pub met_above : (l m : ℕ) → place ≡ pair_place Above l m → IsAboveMet s v.system first wanted v.base new.walk l m
 
   -- Each weight combines runs, and each pair that does not wait has given what it gives.
   pub record IsWalking (stops : ℕ → Bool) (v : TablesValue S W Map) : Type 0 where

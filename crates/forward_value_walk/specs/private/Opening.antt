@@ -1,15 +1,13 @@
 -- What calls that stay open give.
-use Rattle.std.specs.Prelude.{◌≡◌, ℕ, List, [], ◌∷◌, Some, slice_get}
-use Rattle.wpds_base.specs.Lists.{IsIn}
+use Rattle.std.specs.Prelude.{◌≡◌, ℕ, suc, List, [], ◌∷◌, Some, slice_get}
 use Rattle.semiring_laws.specs.Semiring.{Operations, Fits, Below}
 use Rattle.pushdown_rules.specs.declared.rule.Rule.{Rule}
 use Rattle.config_patterns.specs.declared.item.Item.{Item}
-use Rattle.config_patterns.specs.Edges.{edges_of}
 use Rattle.config_patterns.specs.Membership.{PatternValue}
 use Rattle.weighted_automata.specs.declared.place.Place.{Place}
 use Rattle.weight_tables.specs.Entries.{TableEntry, weight_in, settled_in}
 use Rattle.weight_tables.specs.Tables.{TablesValue}
-use Rattle.walk_pairs.specs.declared.pairs.Stage.TheVariants.{Down}
+use Rattle.walk_pairs.specs.declared.pairs.Stage.TheVariants.{Down, Above}
 use Rattle.walk_pairs.specs.Pairs.{pair_place, place_over}
 use Rattle.walk_pairs.specs.Lowerings.{AreLowered, ArePairsLowered}
 use Rattle.walk_pairs.specs.Answering.{IsWalkedOver}
@@ -22,33 +20,20 @@ module _ {S W Map : Type 0} (s : Operations W Map) (v : TablesValue S W Map) whe
   abbrev pub worth_from : ℕ → ℕ → ℕ → W
   worth_from control symbol n = s.extend (weight_in s v.base (place_over control symbol n)) v.hand
 
-  -- A pair of one state and a source of the row.
-  pub record IsWay (items : List Item) (next below control symbol : ℕ) (x : Place) (w : W) : Type 0 where
+  -- A pair of the item's state and a source of the row.
+  pub record IsWay (items : List Item) (l below control symbol : ℕ) (x : Place) (w : W) : Type 0 where
     pub source : ℕ
-    pub takes : TakesAt items next below
-    pub place : x ≡ pair_place Down next source
+    pub takes : TakesAt items (suc l) below
+    pub place : x ≡ pair_place Down (suc l) source
     pub weight : w ≡ worth_from control symbol source
 
-  -- Only such pairs were lowered, and each is, where the item of the state takes the symbol.
-  pub record IsWayGiven (items : List Item) (next below control symbol : ℕ) (new : TablesValue S W Map) : Type 0 where
-    pub lowered : ArePairsLowered s (IsWay items next below control symbol) v new
-    pub met : TakesAt items next below → (n : ℕ) → Below s (weight_in s new.walk (pair_place Down next n)) (worth_from control symbol n)
+  -- Only such pairs were lowered, and each is, where the item takes the symbol.
+  pub record IsWayGiven (items : List Item) (l below control symbol : ℕ) (new : TablesValue S W Map) : Type 0 where
+    pub lowered : ArePairsLowered s (IsWay items l below control symbol) v new
+    pub met : TakesAt items (suc l) below → (n : ℕ) → Below s (weight_in s new.walk (pair_place Down (suc l) n)) (worth_from control symbol n)
 
-  -- A pair of the state where an edge over the symbol leads, and a source of the row.
-  pub record IsHead (wanted : PatternValue) (state below control symbol : ℕ) (x : Place) (w : W) : Type 0 where
-    pub next : ℕ
-    pub source : ℕ
-    pub edge : IsIn (record { from = state; symbol = below; to = next }) (edges_of wanted.items)
-    pub place : x ≡ pair_place Down next source
-    pub weight : w ≡ worth_from control symbol source
-
-  -- Only such pairs were lowered, and each is.
-  pub record AreHeadsGiven (wanted : PatternValue) (state below control symbol : ℕ) (new : TablesValue S W Map) : Type 0 where
-    pub lowered : ArePairsLowered s (IsHead wanted state below control symbol) v new
-    pub met : (next : ℕ) → IsIn (record { from = state; symbol = below; to = next }) (edges_of wanted.items) → (n : ℕ) → Below s (weight_in s new.walk (pair_place Down next n)) (worth_from control symbol n)
-
-module _ {S W Map : Type 0} (s : Operations W Map) (first wanted : PatternValue) (state source k : ℕ) where
-  -- A pair of the state where an edge leads over what the rule leaves below, and a source of the rule's head: the call lies above what a pair of this weight reads.
+module _ {S W Map : Type 0} (s : Operations W Map) (first wanted : PatternValue) (l source k : ℕ) where
+  -- A pair of the state of an item that takes what the rule leaves below, and a source of the rule's head: the call lies above what was read with this weight.
   pub record IsCall (v : TablesValue S W Map) (x : Place) (w : W) : Type 0 where
     pub rule : Rule S W Map
     pub there : slice_get v.system.rules k ≡ Some rule
@@ -56,19 +41,18 @@ module _ {S W Map : Type 0} (s : Operations W Map) (first wanted : PatternValue)
     pub below : ℕ
     pub right : rule.right ≡ top ∷ below ∷ []
     pub entered : number s v.system first wanted (callee rule.to top) ≡ Some source
-    pub next : ℕ
-    pub edge : IsIn (record { from = state; symbol = below; to = next }) (edges_of wanted.items)
+    pub takes : TakesAt wanted.items (suc l) below
     pub from : ℕ
-    pub place : x ≡ pair_place Down next from
+    pub place : x ≡ pair_place Down (suc l) from
     pub worth : W
     pub fits : Fits s worth
-    pub made : IsMade s v.system first wanted (pair_place Down state source) worth
+    pub made : IsMade s v.system first wanted (pair_place Above l source) worth
     pub weight : w ≡ s.extend (weight_in s v.base (place_over rule.control rule.symbol from)) (s.extend rule.weight worth)
 
-  -- what a call by the rule asks of pairs is there, by what counts of the pair below
+  -- what a call by the rule asks of pairs is there, by what counts of what was read
   abbrev pub IsCallMet : TablesValue S W Map → List (TableEntry W) → Rule S W Map → Type 0
-  IsCallMet v now r = (g h : ℕ) → r.right ≡ g ∷ h ∷ [] → (j : ℕ) → IsIn (record { from = state; symbol = h; to = j }) (edges_of wanted.items) → (n : ℕ)
-      → Below s (weight_in s now (pair_place Down j n)) (s.extend (weight_in s v.base (place_over r.control r.symbol n)) (s.extend r.weight (settled_in s now (pair_place Down state source))))
+  IsCallMet v now r = (g h : ℕ) → r.right ≡ g ∷ h ∷ [] → TakesAt wanted.items (suc l) h → (n : ℕ)
+      → Below s (weight_in s now (pair_place Down (suc l) n)) (s.extend (weight_in s v.base (place_over r.control r.symbol n)) (s.extend r.weight (settled_in s now (pair_place Above l source))))
 
   -- Only such pairs were lowered, and each is; the hand may be another.
   pub record AreRuleCallsGiven (v new : TablesValue S W Map) : Type 0 where

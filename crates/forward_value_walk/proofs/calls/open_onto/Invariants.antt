@@ -5,7 +5,7 @@ use Rattle.forward_value_walk.proofs.LoopLemmas.{IsCallLoop}
 use Rattle.forward_value_walk.proofs.calls.open_onto.Given as goal
 
 abbrev pub invariant-rules : goal.invariant-rules
-invariant-rules g l = IsCallLoop g.S.Semiring.operations l.first l.wanted l.fn.tables l.state l.source (goes_onto l.fn.callee.to l.fn.callee.top) l.tables l.at
+invariant-rules g l = IsCallLoop g.S.Semiring.operations l.first l.wanted l.fn.tables l.item l.source (goes_onto l.fn.callee.to l.fn.callee.top) l.tables l.at
 
 abbrev pub decreases-rules : goal.decreases-rules
 decreases-rules g l = to_go (length l.fn.tables.system.rules) l.at

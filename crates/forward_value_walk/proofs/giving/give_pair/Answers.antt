@@ -1,29 +1,23 @@
-use Rattle.std.proofs.Common.{sym, ◌∙◌}
+use Rattle.std.proofs.Common.{◌≤◌, ℕ, sym, ◌∙◌, subst}
 use Rattle.walk_pairs.specs.declared.pairs.Stage.TheVariants.{Down}
 use Rattle.walk_pairs.specs.Pairs.{pair_place}
 use Rattle.forward_value_walk.specs.Walking.{is_stop}
-use Rattle.forward_value_walk.proofs.GoingLemmas.{walkable_of, within_of, gone_walkable, gone_stands}
-use Rattle.forward_value_walk.proofs.GivenLemmas.{before_calls, pair_given}
+use Rattle.forward_value_walk.proofs.GoingLemmas.{walkable_of, within_of}
+use Rattle.forward_value_walk.proofs.GivenLemmas.{pair_read, pair_given}
 use Rattle.forward_value_walk.proofs.giving.give_pair.Goals as goal
 
 pub hold-requires : goal.hold-requires
 hold-requires g c = within_of c.args.t (pair_place Down c.args.state c.args.source) c.args.tables.now.walk c.requires.entry
 
-pub open_calls-requires : goal.open_calls-requires
-open_calls-requires g c =
+pub returns-then-source-items : goal.returns-then-source-items
+returns-then-source-items g c =
     let a = c.args in
     let v = a.tables.now in
-    let v3 = c.read_on.new.tables in
     let walkable = walkable_of g.S.Semiring.operations a.first.now a.wanted.now v c.valid.ensures.system c.valid.ensures.tables c.requires.finished c.requires.made in
     let stands = c.requires.entry in
-    let gone = before_calls g.S.Semiring.operations (λ x. g.S.Semiring.laws x) a.first.now a.wanted.now v walkable c.valid.ensures.tables.walk.distinct a.state a.source a.t stands c.hold.new.self v3
-    (c.in_ok-hold.ensures.ok stands.0 stands.1) c.in_ok-read_on.ensures in
-    let later = gone_walkable g.S.Semiring.operations (λ x. g.S.Semiring.laws x) a.first.now a.wanted.now v v3 walkable gone in
-    record {
-      entry = gone_stands g.S.Semiring.operations (λ x. g.S.Semiring.laws x) a.first.now a.wanted.now v v3 walkable gone a.t (pair_place Down a.state a.source) stands;
-      finished = later.finished;
-      made = later.made;
-    }
+    let P : ℕ → Type 0 = λ n. a.source ≤ n in
+    pair_read g.S.Semiring.operations (λ x. g.S.Semiring.laws x) a.first.now a.wanted.now v walkable c.valid.ensures.tables.walk.distinct a.state a.source a.t stands c.hold.new.self c.read_on.new.tables
+    (c.in_ok-hold.ensures.ok stands.0 stands.1) c.in_ok-read_on.ensures (is_stop a.stop) (sym c.stops_at.ensures ∙ c.if-stops_at.false) (subst P c.items.ensures.value c.if-source-items.true)
 
 pub returns : goal.returns
 returns g c =
@@ -32,4 +26,4 @@ returns g c =
     let walkable = walkable_of g.S.Semiring.operations a.first.now a.wanted.now v c.valid.ensures.system c.valid.ensures.tables c.requires.finished c.requires.made in
     let stands = c.requires.entry in
     pair_given g.S.Semiring.operations (λ x. g.S.Semiring.laws x) a.first.now a.wanted.now v walkable c.valid.ensures.tables.walk.distinct a.state a.source a.t stands c.hold.new.self c.read_on.new.tables
-    (c.in_ok-hold.ensures.ok stands.0 stands.1) c.in_ok-read_on.ensures (is_stop a.stop) (sym c.stops_at.ensures ∙ c.if-stops_at.false) c.open_calls.new.tables c.in_ok-open_calls.ensures
+    (c.in_ok-hold.ensures.ok stands.0 stands.1) c.in_ok-read_on.ensures (is_stop a.stop) (sym c.stops_at.ensures ∙ c.if-stops_at.false) c.read_state.new.tables c.in_ok-read_state.ensures
