@@ -7,28 +7,21 @@ use Rattle.pushdown_rules.specs.Pushdown.{IsSystem}
 use Rattle.pushdown_rules.proofs.CallerLemmas.{weight_fits}
 use Rattle.semiring_laws.specs.Semiring.{Operations, IsSemiring, Fits, Below}
 use Rattle.semiring_laws.proofs.CallerLemmas.{below_itself}
-use Rattle.config_patterns.specs.declared.item.Item.{Item}
 use Rattle.config_patterns.specs.Membership.{PatternValue}
-use Rattle.weighted_automata.specs.declared.place.Place.{Place}
 use Rattle.weight_tables.specs.Entries.{TableEntry, weight_in, settled_in}
 use Rattle.weight_tables.specs.Tables.{TablesValue, AreTables, with_entries, with_hand}
-use Rattle.weight_tables.specs.declared.layer.Layer.TheVariants.{Walk}
+use Rattle.weight_tables.specs.declared.layer.Layer.TheVariants.{Base, Walk}
 use Rattle.weight_tables.proofs.CallerLemmas.{place_fits, index_there, weight_at_index, settled_or_none}
+use Rattle.walk_pairs.specs.declared.pairs.Order.TheVariants.{After}
 use Rattle.walk_pairs.specs.declared.pairs.Stage.TheVariants.{Down, Above}
 use Rattle.walk_pairs.specs.Pairs.{pair_place, place_over}
+use Rattle.walk_pairs.specs.Giving.{IsFallOn, AreFallsOnGiven}
 use Rattle.walk_pairs.specs.Ways.{TakesAt}
-use Rattle.walk_pairs.proofs.CallerLemmas.{lowered_wider, lowered_all_fit, lowered_counts}
+use Rattle.walk_pairs.proofs.CallerLemmas.{none_lowered, fall_fits, lowered_wider, lowered_all_fit, lowered_counts}
 use Rattle.forward_value_laws.specs.Model.{callee}
 use Rattle.forward_value_walk.specs.Walking.{number, IsMade}
-use Rattle.forward_value_walk.specs.private.Opening.{IsWay, IsWayGiven, IsCall, AreRuleCallsGiven, worth_from}
+use Rattle.forward_value_walk.specs.private.Opening.{IsCall, AreRuleCallsGiven}
 use Rattle.forward_value_walk.proofs.SettleLemmas.{opened_kept}
-
-module _ {S W Map : Type 0} {s : Operations W Map} (laws : IsSemiring s) (v : TablesValue S W Map) (valid : AreTables s v) where
-  from_fits : (control symbol n : ℕ) → Fits s (worth_from s v control symbol n)
-  from_fits control symbol n = laws.fits-extend _ v.hand (place_fits s (place_over control symbol n) v.base laws.fits-zero valid.base.fits) valid.hand
-
-  way_fits : (items : List Item) (l below control symbol : ℕ) (x : Place) (w : W) → IsWay s v items l below control symbol x w → Fits s w
-  way_fits items l below control symbol x w is = subst (Fits s) (sym is.weight) (from_fits control symbol is.source)
 
 -- what stands at a number
 pub entry_at : {X : Type 0} (xs : List X) (k : ℕ) → k < length xs → (x : X) × (slice_get xs k ≡ Some x)
@@ -56,10 +49,11 @@ module _ {S W Map : Type 0} {operations : S → Operations W Map} (v : TablesVal
     fits_entry : Fits s e.weight
     fits_entry = subst (Fits s) weight_is (place_fits s (pair_place Above l source) v.walk laws.fits-zero valid.walk.fits)
 
-    pub rule_opened : AreTables s with_rule → (new : TablesValue S W Map) → IsWayGiven s with_rule wanted.items l h r.control r.symbol new → AreRuleCallsGiven s first wanted l source k v new
-    rule_opened valid' new given =
-        let Is = IsWay s with_rule wanted.items l h r.control r.symbol in
-        let fit = way_fits laws with_rule valid' wanted.items l h r.control r.symbol in
+    pub rule_opened : AreTables s with_rule → TakesAt wanted.items (suc l) h → (new : TablesValue S W Map) → AreFallsOnGiven s with_rule After Base Down r.control (λ b. b ≡ r.symbol) (suc l) new
+        → AreRuleCallsGiven s first wanted l source k v new
+    rule_opened valid' takes new given =
+        let Is = IsFallOn s with_rule After Base Down r.control (λ b. b ≡ r.symbol) (suc l) in
+        let fit = fall_fits laws with_rule valid' After Base Down r.control (λ b. b ≡ r.symbol) (suc l) in
         let hand : new.hand ≡ s.extend r.weight e.weight = ap (λ (u : TablesValue S W Map). u.hand) given.lowered.others in
         let new_fit = lowered_all_fit laws Is fit v.walk new.walk given.lowered.pairs valid.walk.fits in
         let fn = λ (n : ℕ). place_fits s (pair_place Down (suc l) n) new.walk laws.fits-zero new_fit in
@@ -77,26 +71,36 @@ module _ {S W Map : Type 0} {operations : S → Operations W Map} (v : TablesVal
                 below = h;
                 right = right;
                 entered = entered;
-                takes = is.takes;
-                from = is.source;
+                takes = takes;
+                from = is.to;
                 place = is.place;
                 worth = e.weight;
                 fits = fits_entry;
                 made = subst (IsMade s v.system first wanted (pair_place Above l source)) weight_is made;
-                weight = is.weight;
+                weight = is.weight ∙ ap (λ b. s.extend (weight_in s v.base (place_over r.control b is.to)) (s.extend r.weight e.weight)) is.has;
               }) v.walk new.walk given.lowered.pairs;
           others = given.lowered.others ∙ ap (λ w. with_hand w (with_entries Walk new.walk v)) (sym hand);
-          met = λ r' there' g' h' right' takes n.
+          met = λ r' there' g' h' right' _ n.
               let same : r ≡ r' = same_Some r r' (sym there ∙ there') in
-              let below : h ≡ h' = second_is g h g' h' (sym right ∙ ap (λ (x : Rule S W Map). x.right) same ∙ right') in
               let P : Rule S W Map → Type 0 =
               λ x. Below s (weight_in s new.walk (pair_place Down (suc l) n)) (s.extend (weight_in s v.base (place_over x.control x.symbol n)) (s.extend x.weight (settled_in s new.walk (pair_place Above l source)))) in
-              let E : ℕ → Type 0 = TakesAt wanted.items (suc l) in
               subst P same
               (opened_kept system laws first wanted v.base valid.base.fits (weight_in s new.walk (pair_place Down (suc l) n)) (weight_in s new.walk (pair_place Down (suc l) n)) (weight_in s v.base (place_over r.control r.symbol n)) r.weight e.weight
               (settled_in s new.walk (pair_place Above l source)) (fn n) (fn n) (place_fits s (place_over r.control r.symbol n) v.base laws.fits-zero valid.base.fits) (weight_fits system laws k r there) fits_entry
-              (below_itself laws (weight_in s new.walk (pair_place Down (suc l) n)) (fn n)) counts (given.met (subst E (sym below) takes) n));
+              (below_itself laws (weight_in s new.walk (pair_place Down (suc l) n)) (fn n)) counts (given.met r.symbol refl n));
         }
+
+  -- where the item does not take what the rule leaves below, nothing is given
+  pub none_opened : (r : Rule S W Map) → slice_get v.system.rules k ≡ Some r → (g h : ℕ) → r.right ≡ g ∷ h ∷ [] → (TakesAt wanted.items (suc l) h → ⊥) → AreRuleCallsGiven s first wanted l source k v v
+  none_opened r there g h right none = record {
+    lowered = none_lowered s (IsCall s first wanted l source k v) v.walk;
+    others = refl;
+    met = λ r' there' g' h' right' takes n.
+        let same : r ≡ r' = same_Some r r' (sym there ∙ there') in
+        let below : h ≡ h' = second_is g h g' h' (sym right ∙ ap (λ (x : Rule S W Map). x.right) same ∙ right') in
+        let E : ℕ → Type 0 = TakesAt wanted.items (suc l) in
+        absurd (none (subst E (sym below) takes));
+  }
 
 pub two_of : (xs : List ℕ) → 2 ≤ length xs → length xs < 3 → xs ≡ get_or xs 0 0 ∷ get_or xs 1 0 ∷ []
 two_of [] low high = absurd (omega (arith, low))

@@ -1,11 +1,13 @@
-ghost use Rattle.std.specs.Prelude.{◌≡◌, ◌<◌, ◌∷◌, [], ℕ, OnOk, Some, length, slice_get};
+ghost use Rattle.std.specs.Prelude.{◌≡◌, ◌↔◌, ◌<◌, suc, IsTrue, ◌∷◌, [], ℕ, OnOk, Some, length, slice_get};
 ghost use Rattle.pushdown_rules.specs.declared.rule.Rule.{Rule as RuleValue};
 ghost use Rattle.forward_value_laws.specs.Model.{callee};
 ghost use Rattle.weight_tables.specs.Entries.{TableEntry, weight_in};
+ghost use Rattle.wpds_base.specs.Limits.{most_items};
+ghost use Rattle.walk_pairs.specs.Ways.{TakesAt};
 ghost use Rattle.walk_pairs.specs.Pairs.{pair_place as pair_value};
 ghost use Rattle.walk_pairs.specs.declared.pairs.Stage.TheVariants.{Above};
 ghost use Rattle.forward_value_walk.specs.Walking.{number, IsMade};
-ghost use Rattle.forward_value_walk.specs.private.Opening.{IsWayGiven, AreRuleCallsGiven};
+ghost use Rattle.forward_value_walk.specs.private.Opening.{AreRuleCallsGiven};
 
 use config_patterns::Pattern;
 use semiring_laws::Semiring;
@@ -13,36 +15,12 @@ use walk_pairs::{Order, Stage, fall_row};
 use weight_tables::{Layer, Tables, Weigher};
 use wpds_base::OutOfMemory;
 
-// Goes past an item that takes what a call left below, along each entry of the base from one over a symbol: the pair of the item's
-// state and of where the entry leads is lowered by the entry's weight and the one in hand.
-fn open_way<'s, S: Semiring, M: Weigher<S>>(
-    tables: &mut Tables<'s, S, M>,
-    wanted: &Pattern,
-    item: u32,
-    below: u32,
-    control: u32,
-    symbol: u32,
-) -> Result<(), OutOfMemory>
-    ensures { let s = S.operations tables.old.system.semiring in OnOk result
-        (IsWayGiven s tables.old wanted.now.items item below control symbol tables.new) }
+// Whether the item of a number takes a symbol. A number that is no item takes none.
+fn takes(wanted: &Pattern, item: u32, symbol: u32) -> bool
+    ensures meaning { IsTrue result ↔ TakesAt wanted.now.items (suc item) symbol }
+    ensures few { IsTrue result → item < most_items }
 {
-    tables.valid();
-    if item >= wanted.items() {
-        return Ok(());
-    }
-    if !wanted.item(item).set.has(below) {
-        return Ok(());
-    }
-    fall_row(
-        tables,
-        Order::After,
-        Layer::Base,
-        Stage::Down,
-        control,
-        symbol,
-        item + 1,
-    )?;
-    Ok(())
+    item < wanted.items() && wanted.item(item).set.has(symbol)
 }
 
 /// A call by a rule that stays open: the item reads what it left below.
@@ -72,9 +50,20 @@ pub(crate) fn open_rule<'s, S: Semiring, M: Weigher<S>>(
     let rule = tables.system().rule(k);
     match rule.right.as_slice() {
         [_top, below] => {
+            if !takes(wanted, item, *below) {
+                return Ok(());
+            }
             tables.hold_rule_then(k, Layer::Walk, t)?;
             tables.valid();
-            open_way(tables, wanted, item, *below, rule.control, rule.symbol)?;
+            fall_row(
+                tables,
+                Order::After,
+                Layer::Base,
+                Stage::Down,
+                rule.control,
+                rule.symbol,
+                item + 1,
+            )?;
             Ok(())
         }
         _ => Ok(()),

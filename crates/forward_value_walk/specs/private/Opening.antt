@@ -2,35 +2,17 @@
 use Rattle.std.specs.Prelude.{◌≡◌, ℕ, suc, List, [], ◌∷◌, Some, slice_get}
 use Rattle.semiring_laws.specs.Semiring.{Operations, Fits, Below}
 use Rattle.pushdown_rules.specs.declared.rule.Rule.{Rule}
-use Rattle.config_patterns.specs.declared.item.Item.{Item}
 use Rattle.config_patterns.specs.Membership.{PatternValue}
 use Rattle.weighted_automata.specs.declared.place.Place.{Place}
 use Rattle.weight_tables.specs.Entries.{TableEntry, weight_in, settled_in}
 use Rattle.weight_tables.specs.Tables.{TablesValue}
 use Rattle.walk_pairs.specs.declared.pairs.Stage.TheVariants.{Down, Above}
 use Rattle.walk_pairs.specs.Pairs.{pair_place, place_over}
-use Rattle.walk_pairs.specs.Lowerings.{AreLowered, ArePairsLowered}
+use Rattle.walk_pairs.specs.Lowerings.{AreLowered}
 use Rattle.walk_pairs.specs.Answering.{IsWalkedOver}
 use Rattle.walk_pairs.specs.Ways.{TakesAt}
 use Rattle.forward_value_laws.specs.Model.{callee}
 use Rattle.forward_value_walk.specs.Walking.{number, IsMade}
-
-module _ {S W Map : Type 0} (s : Operations W Map) (v : TablesValue S W Map) where
-  -- what stands at a row, and then the weight in hand
-  abbrev pub worth_from : ℕ → ℕ → ℕ → W
-  worth_from control symbol n = s.extend (weight_in s v.base (place_over control symbol n)) v.hand
-
-  -- A pair of the item's state and a source of the row.
-  pub record IsWay (items : List Item) (l below control symbol : ℕ) (x : Place) (w : W) : Type 0 where
-    pub source : ℕ
-    pub takes : TakesAt items (suc l) below
-    pub place : x ≡ pair_place Down (suc l) source
-    pub weight : w ≡ worth_from control symbol source
-
-  -- Only such pairs were lowered, and each is, where the item takes the symbol.
-  pub record IsWayGiven (items : List Item) (l below control symbol : ℕ) (new : TablesValue S W Map) : Type 0 where
-    pub lowered : ArePairsLowered s (IsWay items l below control symbol) v new
-    pub met : TakesAt items (suc l) below → (n : ℕ) → Below s (weight_in s new.walk (pair_place Down (suc l) n)) (worth_from control symbol n)
 
 module _ {S W Map : Type 0} (s : Operations W Map) (first wanted : PatternValue) (l source k : ℕ) where
   -- A pair of the state of an item that takes what the rule leaves below, and a source of the rule's head: the call lies above what was read with this weight.
