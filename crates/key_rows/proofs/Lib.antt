@@ -4,3 +4,4 @@ mod MemberLemmas
 mod RowNumbers
 mod CellLemmas
 mod NumberLemmas
+mod WordLemmas

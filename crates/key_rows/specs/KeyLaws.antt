@@ -9,7 +9,7 @@ use Rattle.std.specs.Ordering.{eq_by_cmp, nat_cmp, is_eq, ordering_then}
 use Rattle.std.proofs.lemmas.Bool.{eqb-true}
 use Rattle.std.proofs.lemmas.Map.Text.{is_eq-slice_cmp}
 use Rattle.std.proofs.lemmas.Slice.Eq.{bytes_eq-Decides}
-use Rattle.key_rows.specs.Keys.{mixed, first_mixed, all_mixed, bytes_spread}
+use Rattle.key_rows.specs.Keys.{mixed, first_mixed, bytes_mixed, bytes_spread}
 
 -- numbers that an order does not tell apart are one
 pub same_numbers : (a b : ℕ) → IsTrue (eq_by_cmp nat_cmp a b) → a ≡ b
@@ -31,4 +31,4 @@ same_bytes xs ys e = (bytes_eq-Decides xs ys).0 (sym (is_eq-slice_cmp xs ys) ∙
 pub bytes_alike :
     (n : ℕ) (a b : Bor (List ℕ)) → IsTrue (eq_by_cmp (slice_cmp nat_cmp) a.now b.now)
     → bytes_spread n a ≡ bytes_spread n b
-bytes_alike n a b e = ap (all_mixed (first_mixed n)) (same_bytes a.now b.now e)
+bytes_alike n a b e = ap (bytes_mixed (first_mixed n)) (same_bytes a.now b.now e)

@@ -1,5 +1,6 @@
 -- How the words of a key are spread.
-use Rattle.std.specs.Prelude.{ℕ, ◌*◌, ◌/◌, ◌%◌, ◌^◌, List, [], ◌∷◌, bit_xor}
+use Rattle.std.specs.Prelude.{ℕ, ◌+◌, ◌*◌, ◌/◌, ◌%◌, ◌^◌, List, [], ◌∷◌, bit_xor}
+use Rattle.std.specs.Int.{w64, from_le_bytes}
 use Rattle.std.specs.Borrow.{Bor}
 
 -- a hash with a word mixed in
@@ -12,10 +13,16 @@ mixed hash word =
 abbrev pub first_mixed : ℕ → ℕ
 first_mixed n = mixed n 1
 
--- a hash with words mixed in, one after the other
-abbrev pub all_mixed : ℕ → List ℕ → ℕ
-all_mixed hash [] = hash
-all_mixed hash (w ∷ ws) = all_mixed (mixed hash w) ws
+-- bytes spelled behind a number, in one word
+abbrev pub spelled : ℕ → List ℕ → ℕ
+spelled n [] = n
+spelled n (b ∷ bs) = spelled (((n * 256) % 2 ^ 64 + b) % 2 ^ 64) bs
+
+-- a hash with bytes mixed in, eight at a time, and what is left of them behind a 1
+abbrev pub bytes_mixed : ℕ → List ℕ → ℕ
+bytes_mixed hash (a ∷ b ∷ c ∷ d ∷ e ∷ f ∷ g ∷ h ∷ bytes) =
+    bytes_mixed (mixed hash (from_le_bytes w64 (a ∷ b ∷ c ∷ d ∷ e ∷ f ∷ g ∷ h ∷ []))) bytes
+bytes_mixed hash bytes = mixed hash (spelled 1 bytes)
 
 abbrev pub bytes_spread : ℕ → Bor (List ℕ) → ℕ
-bytes_spread n slice = all_mixed (first_mixed n) slice.now
+bytes_spread n slice = bytes_mixed (first_mixed n) slice.now

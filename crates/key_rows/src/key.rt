@@ -29,7 +29,15 @@ pub trait Key: Ord + Copy + Drop {
 pub fn mixed(hash: u64, word: u32) -> u64
     ensures { result ≡ mixed_value hash word }
 {
-    let product = (hash ^ u64::from(word)).wrapping_mul(0x9E37_79B9_7F4A_7C15);
+    mixed_word(hash, u64::from(word))
+}
+
+/// The same with a word of eight bytes.
+#[inline(always)]
+pub(crate) fn mixed_word(hash: u64, word: u64) -> u64
+    ensures { result ≡ mixed_value hash word }
+{
+    let product = (hash ^ word).wrapping_mul(0x9E37_79B9_7F4A_7C15);
     product ^ (product / 0x1_0000_0000)
 }
 
