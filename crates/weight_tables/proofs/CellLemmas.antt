@@ -12,7 +12,7 @@ use Rattle.weighted_automata.specs.Places.{same_place}
 use Rattle.weighted_automata.proofs.CallerLemmas.{same_place_is, same_place_itself, other_place, place_test}
 use Rattle.weight_tables.specs.declared.cell.Cell.{Cell}
 use Rattle.weight_tables.specs.Entries.{TableEntry, HasDistinctPlaces, NoneWaits, index_at, taken}
-use Rattle.weight_tables.specs.private.Cells.{waits_in, written, cleared, entries_in, changed}
+use Rattle.weight_tables.specs.private.Cells.{cells_of, waits_in, written, cleared, entries_in, changed}
 use Rattle.weight_tables.specs.private.Listed.{AreDistinct}
 
 module _ {W : Type 0} where
@@ -108,6 +108,13 @@ module _ {W : Type 0} where
   places-entries [] cs long = refl
   places-entries (p ∷ ps) [] long = let no : suc (length ps) ≡ 0 = long in absurd (omega (arith, no))
   places-entries (p ∷ ps) (c ∷ cs) long = ap (λ qs. p ∷ qs) (places-entries ps cs (let h : suc (length ps) ≡ suc (length cs) = long in omega (arith, h)))
+
+  -- the weights of entries that are kept so
+  pub cells_entries : (ps : List Place) (cs : List (Cell W)) → length ps ≡ length cs → cells_of (entries_in ps cs) ≡ cs
+  cells_entries [] [] long = refl
+  cells_entries [] (c ∷ cs) long = let no : 0 ≡ suc (length cs) = long in absurd (omega (arith, no))
+  cells_entries (p ∷ ps) [] long = let no : suc (length ps) ≡ 0 = long in absurd (omega (arith, no))
+  cells_entries (p ∷ ps) (c ∷ cs) long = ap (λ ds. c ∷ ds) (cells_entries ps cs (let h : suc (length ps) ≡ suc (length cs) = long in omega (arith, h)))
 
   -- an entry is made of its place and its weight
   pub record IsMade (ps : List Place) (cs : List (Cell W)) (t : ℕ) (e : TableEntry W) : Type 0 where

@@ -6,6 +6,7 @@ mod MarkLemmas
 mod CellLemmas
 mod ValueLemmas
 mod LayerLemmas
+mod RenewalLemmas
 mod ListLemmas
 mod IndexLemmas
 mod BoundLemmas

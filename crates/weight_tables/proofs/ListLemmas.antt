@@ -11,11 +11,11 @@ use Rattle.weighted_automata.specs.Places.{same_place}
 use Rattle.weight_tables.specs.declared.cell.Cell.{Cell}
 use Rattle.weight_tables.specs.declared.index.PlaceIndex.{PlaceIndex}
 use Rattle.weight_tables.specs.Entries.{TableEntry, NoneWaits, index_at}
-use Rattle.weight_tables.specs.private.Cells.{waits_in, written, cleared, entries_in}
+use Rattle.weight_tables.specs.private.Cells.{cells_of, waits_in, written, cleared, entries_in, with_cells}
 use Rattle.weight_tables.specs.private.Index.{AreIndexed}
 use Rattle.weight_tables.specs.private.Listed.{AreDistinct, IsEntryList}
 use Rattle.weight_tables.specs.private.Marks.{AreMarked}
-use Rattle.weight_tables.proofs.CellLemmas.{length-written, length-cleared, length-entries, length-waits, waits-append, entries-append, index_at-entries, distinct_append, found_by_place, get-entries, IsMade, none_waits, places-entries}
+use Rattle.weight_tables.proofs.CellLemmas.{length-written, length-cleared, length-entries, length-waits, waits-append, entries-append, index_at-entries, distinct_append, found_by_place, get-entries, IsMade, none_waits, places-entries, cells_entries}
 use Rattle.weight_tables.proofs.MarkLemmas.{marked_add, none_marked}
 use Rattle.weight_tables.proofs.IndexLemmas.{first_of_row, next_of_row, no_row, all_within, index_where-within, next_alike-within}
 use Rattle.weight_tables.proofs.LayerLemmas.{if_some}
@@ -51,6 +51,22 @@ module _ {W : Type 0} (ps : List Place) (cs : List (Cell W)) (index : PlaceIndex
     indexed = is.indexed;
     marked = marked;
   }
+
+  -- other weights with the same marks
+  pub list_put : (es : List (TableEntry W)) → entries_in ps cs ≡ es → (cs' now : List (Cell W)) → waits_in cs' ≡ waits_in (cells_of es) → now ≡ cs' → IsEntryList ps now index q
+  list_put es seen cs' now same put =
+      let marks : waits_in now ≡ waits_in cs = ap waits_in put ∙ same ∙ ap (λ ds. waits_in (cells_of ds)) (sym seen) ∙ ap waits_in (cells_entries ps cs is.long) in
+      record {
+        long = is.long ∙ sym (length-waits cs) ∙ sym (ap length marks) ∙ length-waits now;
+        few = is.few;
+        distinct = is.distinct;
+        indexed = is.indexed;
+        marked = subst (AreMarked q) (sym marks) is.marked;
+      }
+
+  pub entries_put : (es : List (TableEntry W)) → entries_in ps cs ≡ es → (cs' now : List (Cell W)) → now ≡ cs' → entries_in ps now ≡ with_cells cs' es
+  entries_put es seen cs' now put =
+      ap (entries_in ps) put ∙ ap (λ qs. entries_in qs cs') (sym (places-entries ps cs is.long) ∙ ap (map (λ (e : TableEntry W). e.place)) seen)
 
   -- the same cells and numbers
   pub list_same : (cs' : List (Cell W)) (q' : List ℕ) → cs' ≡ cs → q' ≡ q → IsEntryList ps cs' index q'

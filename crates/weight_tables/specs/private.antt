@@ -5,3 +5,4 @@ pub mod Cells
 pub mod Listed
 pub mod Layered
 pub mod Kept
+pub mod Renewed

@@ -2,7 +2,7 @@ ghost use Rattle.std.specs.Prelude.{◌≡◌, ◌+◌, ◌<◌, ◌^◌, ◌++�
 ghost use Rattle.weighted_automata.specs.Places.{same_label};
 ghost use Rattle.weighted_automata.specs.declared.place.Label.TheVariants.{Empty};
 ghost use Rattle.weight_tables.specs.Entries.{TableEntry, NoneWaits, HasDistinctPlaces, index_at, index_where, index_from, is_from, is_out_of, is_empty_into, taken};
-ghost use Rattle.weight_tables.specs.private.Cells.{changed};
+ghost use Rattle.weight_tables.specs.private.Cells.{cells_of, changed, waits_in, with_cells};
 
 use crate::cell::{Cell, take_cell, write_cell};
 use crate::index::PlaceIndex;
@@ -112,6 +112,21 @@ impl<W: Drop> EntryList<W> {
         ensures { (e : TableEntry W) → slice_get self.now t ≡ Some e → result ≡ e.waits }
     {
         self.cells[t as usize].waits
+    }
+
+    /// The weights by number, with their marks.
+    pub(crate) fn cells(&self) -> &[Cell<W>]
+        ensures { result.now ≡ cells_of self.now }
+    {
+        &self.cells
+    }
+
+    /// Puts other weights in the place of all, with the marks that are there.
+    pub(crate) fn put_cells(&mut self, cells: Vec<Cell<W>>)
+        requires { waits_in cells.items ≡ waits_in (cells_of self.old) }
+        ensures { self.new ≡ with_cells cells.items self.old }
+    {
+        self.cells = cells;
     }
 
     /// Writes the weight of an entry, which waits then. It is refused only when out of memory, and then all stays as it was.

@@ -1,8 +1,10 @@
 ghost use Rattle.std.specs.Prelude.{◌≡◌, ◌<◌, [], length, Some, IfNone, IfSome, slice_get, true};
 ghost use Rattle.weight_tables.specs.Entries.{TableEntry, NoneWaits, taken};
 ghost use Rattle.weight_tables.specs.private.Layered.{list_of, no_layers, with_list};
+ghost use Rattle.weight_tables.specs.private.Renewed.{HaveMarks, with_layer_cells};
 
 use crate::Layer;
+use crate::cell::Cell;
 use crate::entry_list::EntryList;
 use std::alloc::Global;
 
@@ -12,6 +14,14 @@ pub(crate) struct Layers<W: Drop> {
     pub(crate) base: EntryList<W>,
     pub(crate) target: EntryList<W>,
     pub(crate) walk: EntryList<W>,
+}
+
+/// The weights of each layer by number, with their marks.
+#[derive(Drop)]
+pub(crate) struct LayerCells<W: Drop> {
+    pub(crate) base: Vec<Cell<W>>,
+    pub(crate) target: Vec<Cell<W>>,
+    pub(crate) walk: Vec<Cell<W>>,
 }
 
 impl<W: Drop> Layers<W> {
@@ -72,5 +82,15 @@ impl<W: Drop> Layers<W> {
             Layer::Target => self.target = EntryList::new(alloc),
             Layer::Walk => self.walk = EntryList::new(alloc),
         }
+    }
+
+    /// Puts other weights in the place of all, with the marks that are there.
+    pub(crate) fn put_cells(&mut self, cells: LayerCells<W>)
+        requires { HaveMarks self.old cells }
+        ensures { self.new ≡ with_layer_cells cells self.old }
+    {
+        self.base.put_cells(cells.base);
+        self.target.put_cells(cells.target);
+        self.walk.put_cells(cells.walk);
     }
 }

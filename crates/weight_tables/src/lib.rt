@@ -10,6 +10,7 @@ mod layer;
 mod layers;
 mod lowering;
 mod plain;
+mod renewal;
 mod tables;
 mod weigher;
 

@@ -94,5 +94,17 @@ impl<'s, S: Semiring> Weigher<S> for PlainWeigher<'s, S> {
         self.system.semiring().zero(self.alloc)
     }
 
+    fn is_full(&self) -> bool {
+        false
+    }
+
+    fn renewed(&self) -> Result<PlainWeigher<'s, S>, OutOfMemory> {
+        Ok(PlainWeigher::new(self.alloc, self.system))
+    }
+
+    fn known(&mut self, w: &S::W) -> Result<S::W, OutOfMemory> {
+        self.system.semiring().copy(self.alloc, w)
+    }
+
     ghost fits = { λ m w known. known };
 }

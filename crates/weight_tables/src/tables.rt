@@ -8,6 +8,7 @@ ghost use Rattle.weight_tables.specs.Tables.{AreTables, entries_of, no_tables, w
 
 use crate::layers::Layers;
 use crate::lowering::{lower, lower_by};
+use crate::renewal::renew;
 use crate::{Layer, Weigher};
 use pushdown_rules::System;
 use semiring_laws::Semiring;
@@ -253,6 +254,24 @@ impl<'s, S: Semiring, M: Weigher<S>> Tables<'s, S, M> {
         }
     }
 
+    // Has another object keep the weights in use, where the one that does is full. What they stand for stays, and where memory is
+    // refused all stays as it was.
+    fn renew_weigher(&mut self)
+        ensures { self.new ≡ self.old }
+    {
+        if !self.weigher.is_full() {
+            return;
+        }
+        match renew(self.alloc, &self.weigher, &self.hand, &self.layers) {
+            Ok(new) => {
+                self.weigher = new.weigher;
+                self.hand = new.hand;
+                self.layers.put_cells(new.cells);
+            }
+            Err(_) => {}
+        }
+    }
+
     /// Takes an entry that waits, which waits no more, and says its number.
     pub fn pop(&mut self, layer: Layer) -> Option<u32>
         ensures none { IfNone result (NoneWaits (entries_of layer self.old)) }
@@ -263,6 +282,7 @@ impl<'s, S: Semiring, M: Weigher<S>> Tables<'s, S, M> {
         ensures taken { IfSome result (λ t.
             self.new ≡ with_entries layer (taken t (entries_of layer self.old)) self.old) }
     {
+        self.renew_weigher();
         self.layers.pop(layer)
     }
 

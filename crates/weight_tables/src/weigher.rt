@@ -113,6 +113,20 @@ pub trait Weigher<S: Semiring>: Drop {
     fn no_value(&self) -> Result<S::W, OutOfMemory>
         ensures { IfOk result (λ w. w ≡ (S.operations (pushdown self.now).semiring).zero) };
 
+    /// Whether so much is kept that the weights in use are worth being kept anew, by another object.
+    fn is_full(&self) -> bool;
+
+    /// Another object for the same system.
+    fn renewed(&self) -> Result<Self, OutOfMemory>
+        ensures { IfOk result (λ m. pushdown m ≡ pushdown self.now) };
+
+    /// The weight that stands for this one.
+    fn known(&mut self, w: &S::W) -> Result<Self::W, OutOfMemory>
+        requires { Fits (S.operations (pushdown self.old).semiring) w.now }
+        ensures grows { Grows pushdown Knows worth self.old self.new }
+        ensures known { IfOk result (λ k. Knows self.new k) }
+        ensures worth { IfOk result (λ k. worth self.new k ≡ w.now) };
+
     /// What is known fits the semiring.
     ghost fits: { (m : Self) (w : Self.W) → Knows m w
         → Fits (S.operations (pushdown m).semiring) (worth m w) };

@@ -1,5 +1,5 @@
 -- Weights by number, and the entries that they make with their places.
-use Rattle.std.specs.Prelude.{ℕ, zero, suc, Bool, true, false, List, [], ◌∷◌}
+use Rattle.std.specs.Prelude.{ℕ, zero, suc, Bool, true, false, List, [], ◌∷◌, map}
 use Rattle.weighted_automata.specs.declared.place.Place.{Place}
 use Rattle.weight_tables.specs.declared.cell.Cell.{Cell}
 use Rattle.weight_tables.specs.Entries.{TableEntry}
@@ -33,3 +33,12 @@ module _ {W : Type 0} where
   changed t w [] = []
   changed zero w (e ∷ es) = record { place = e.place; weight = w; waits = true } ∷ es
   changed (suc t) w (e ∷ es) = e ∷ changed t w es
+
+  -- the weights of entries by number
+  abbrev pub cells_of : List (TableEntry W) → List (Cell W)
+  cells_of [] = []
+  cells_of (e ∷ es) = record { weight = e.weight; waits = e.waits } ∷ cells_of es
+
+  -- the entries with these weights and marks
+  abbrev pub with_cells : List (Cell W) → List (TableEntry W) → List (TableEntry W)
+  with_cells cs es = entries_in (map (λ e. e.place) es) cs
