@@ -4,6 +4,7 @@ ghost use Rattle.key_rows.specs.Keys.{spelled, bytes_spread};
 ghost use Rattle.key_rows.specs.KeyLaws.{bytes_alike};
 
 use crate::key::{Key, mixed, mixed_word};
+use crate::keyed::Keyed;
 
 // The eight bytes from a place on, as one word.
 #[inline(always)]
@@ -83,4 +84,12 @@ impl<'t> Key for &'t [u8] {
     }
 
     ghost alike = { bytes_alike };
+}
+
+impl<'t> Keyed<&'t [u8]> for &'t [u8] {
+    ghost key_of = { λ slice. slice };
+
+    fn key(&self) -> &'t [u8] {
+        *self
+    }
 }
