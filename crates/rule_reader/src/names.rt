@@ -3,7 +3,7 @@ ghost use Rattle.document_forms.specs.Names.{is_among};
 ghost use Rattle.rule_reader.specs.Names.{number_among};
 ghost use Rattle.wpds_base.specs.Lists.{IsOnce};
 
-use key_rows::KeyRows;
+use key_rows::KeyedList;
 use std::alloc::Global;
 use std::marker::Model;
 use wpds_base::{OutOfMemory, Sequence};
@@ -16,20 +16,20 @@ use wpds_port::Text;
 /// a look-up slow.
 #[derive(Drop)]
 pub struct NameTable<'t> {
-    order: Vec<&'t [u8]>,
-    // Where each name stands.
-    rows: KeyRows<&'t [u8]>,
+    // Each is found by itself.
+    names: KeyedList<&'t [u8], &'t [u8]>,
 }
 
 impl<'t> Model for NameTable<'t> {
     ghost use Rattle.std.specs.Prelude.{List, ℕ};
-    ghost use Rattle.rule_reader.specs.private.NameTables.{bytes_of, IsNumbered};
+    ghost use Rattle.wpds_base.specs.Lists.{IsOnce};
+    ghost use Rattle.rule_reader.specs.private.NameTables.{bytes_of};
 
     ghost Value = { List (List ℕ) };
 
-    ghost view = { λ t. bytes_of t.order.items };
+    ghost view = { λ t. bytes_of t.names.members };
 
-    ghost invariant = { λ t. IsNumbered t.order.items t.rows };
+    ghost invariant = { λ t. IsOnce (bytes_of t.names.members) };
 }
 
 impl<'t> NameTable<'t> {
@@ -38,8 +38,7 @@ impl<'t> NameTable<'t> {
         ensures { result ≡ [] }
     {
         NameTable {
-            order: Vec::new(alloc),
-            rows: KeyRows::new(alloc),
+            names: KeyedList::new(alloc),
         }
     }
 
@@ -47,24 +46,21 @@ impl<'t> NameTable<'t> {
     pub fn len(&self) -> usize
         ensures { result ≡ length self.now }
     {
-        self.order.len()
+        self.names.len()
     }
 
     /// Each name stands once.
     pub fn stands_once(&self)
         ensures { IsOnce self.now }
     {
-        let _ = &self.order;
+        let _ = &self.names;
     }
 
     /// The number of a name, if it is there.
     pub fn number_of(&self, name: &[u8]) -> Option<u32>
         ensures { result ≡ number_among self.now name.now }
     {
-        match self.rows.first(name) {
-            Some(number) => Some(number as u32),
-            None => None,
-        }
+        self.names.find(name)
     }
 
     /// Adds a name, unless it is there, and returns whether it was added.
@@ -77,17 +73,9 @@ impl<'t> NameTable<'t> {
             self.new ≡ (if added then self.old ++ name.now ∷ [] else self.old)) }
         ensures err { OnErr result (self.new ≡ self.old) }
     {
-        if self.number_of(name).is_some() {
-            return Ok(false);
-        }
-        if self.order.len() >= u32::MAX as usize {
-            return Err(OutOfMemory);
-        }
-        self.order.reserve(1)?;
-        self.rows.reserve(Some(name), 1)?;
-        self.rows.push(Some(name));
-        self.order.push_reserved(name);
-        Ok(true)
+        let count = self.names.len();
+        self.names.make(name)?;
+        Ok(self.names.len() > count)
     }
 
     /// The same names in a table of their own. The bytes are borrowed again.
@@ -95,8 +83,8 @@ impl<'t> NameTable<'t> {
         ensures { IfOk result (λ t. t ≡ self.now) }
     {
         let mut copy = NameTable::new(alloc);
-        for name in &self.order {
-            copy.add(*name)?;
+        for k in 0..self.names.len() {
+            copy.add(*self.names.get(k))?;
         }
         Ok(copy)
     }
@@ -105,9 +93,9 @@ impl<'t> NameTable<'t> {
     pub fn into_names(self, alloc: Global) -> Result<Sequence<Text>, OutOfMemory>
         ensures { IfOk result (λ names. names ≡ self.entry) }
     {
-        let mut names = Vec::with_capacity(alloc, self.order.len())?;
-        for name in &self.order {
-            names.push(Text::of(alloc, *name)?)?;
+        let mut names = Vec::with_capacity(alloc, self.names.len())?;
+        for k in 0..self.names.len() {
+            names.push(Text::of(alloc, *self.names.get(k))?)?;
         }
         Ok(Sequence::from_vec(names))
     }

@@ -2,5 +2,5 @@ use Rattle.std.proofs.Common.{◌≡◌, take}
 use Rattle.rule_reader.specs.private.NameTables.{bytes_of}
 use Rattle.rule_reader.proofs.names.NameTable.into_names.Given as goal
 
-abbrev pub invariant-loop-name : goal.invariant-loop-name
-invariant-loop-name l = l.names.items ≡ take l.name-index (bytes_of l.name-items)
+abbrev pub invariant-loop-k : goal.invariant-loop-k
+invariant-loop-k l = l.names.items ≡ take l.k (bytes_of l.self-inside.names.members)
