@@ -4,7 +4,8 @@ ghost use Rattle.wpds_port.specs.Tokens.{is_blank, begins_said, is_lawful_word};
 ghost use Rattle.wpds_port.specs.Words.{lawful_words, word_of, same_word, before, behind, before_outside, behind_outside, brackets_after};
 ghost use Rattle.wpds_port.specs.private.Fronts.{IsFront};
 
-use crate::cutting::{blank, lexeme_in};
+use crate::classes::blank;
+use crate::cutting::lexeme_in;
 use crate::token::leads_with_zero;
 use crate::{Lexeme, Mark};
 use std::marker::Model;
