@@ -1,12 +1,14 @@
 -- A text and its first line.
-use Rattle.std.proofs.Common.{◌≡◌, ◌≢◌, ◌↔◌, inl, inr, ℕ, zero, suc, ◌+◌, ◌-◌, ◌<◌, ◌≤◌, Bool, true, false, not, cond, List, [], ◌∷◌, ◌++◌, length, take, drop, get_or, map, Some, None, refl, sym, ap, subst, ◌∙◌, arith, take-append-drop, drop-cons, add-one, length-drop}
+use Rattle.std.proofs.Common.{◌≡◌, ◌≢◌, ◌↔◌, inl, inr, ℕ, zero, suc, ◌+◌, ◌-◌, ◌<◌, ◌≤◌, Bool, true, false, not, cond, List, [], ◌∷◌, ◌++◌, length, take, drop, get_or, map, Option, Some, None, refl, sym, ap, subst, ◌∙◌, arith, take-append-drop, drop-cons, add-one, length-drop}
 use Rattle.std.proofs.Math.Seq.{take-length, drop-length}
 use Rattle.std.specs.Prelude.{◌==◌, nat_lt}
 use Rattle.std.specs.List.{position, position_or_len}
 use Rattle.std.proofs.lemmas.List.Quantifiers.{position-Some}
-use Rattle.std.proofs.lemmas.List.Sums.{fails_before_first}
+use Rattle.std.proofs.lemmas.List.Sums.{fails_before_first, position_or_len_is}
 use Rattle.std.proofs.lemmas.Bool.{and_from, false_from_ne_true, eqb-true, ltb-false}
+use Rattle.memchr.specs.Find.{IsFirstByte, is_byte}
 use Rattle.document_forms.specs.Lines.{pieces, lines, has_no_feed, without_return, IsCut}
+use Rattle.std.proofs.lemmas.Bool.Decides.{nat_tests}
 use Rattle.document_reader.specs.LinesLeft.{is_feed}
 
 -- ---- the carriage return at the end
@@ -84,3 +86,23 @@ from-place n bytes = ap (λ k. take k (drop n bytes)) (sym (length-drop n bytes)
 
 pub from-end : (bytes : List ℕ) → take (length bytes - length bytes) (drop (length bytes) bytes) ≡ []
 from-end bytes = from-place (length bytes) bytes ∙ drop-length bytes
+
+-- ---- the first line feed, as a search finds it
+
+placed : (at long i : ℕ) → at ≡ i → i < long → cond (nat_lt at long) (Some at) None ≡ Some i
+placed at long i e h = grind (arith, nat_tests)
+
+missed : (at long : ℕ) → at ≡ long → cond (nat_lt at long) (Some at) None ≡ None
+missed at long e = grind (arith, nat_tests)
+
+pub feed_at : (bytes : List ℕ) (r : Option ℕ) → IsFirstByte (is_byte 10) bytes r → r ≡ position is_feed bytes
+feed_at bytes None none =
+    let n : ℕ = length bytes in
+    let at : position_or_len is_feed bytes ≡ n = position_or_len_is is_feed bytes n 0 (omega arith)
+    (λ k h. false_from_ne_true (is_feed (get_or bytes k 0)) (none k (omega arith) h)) (λ h. absurd (omega arith)) in
+    sym (missed (position_or_len is_feed bytes) n at)
+feed_at bytes (Some i) (first, stands) =
+    let inside : i < length bytes = first.high in
+    let at : position_or_len is_feed bytes ≡ i = position_or_len_is is_feed bytes i 0 (omega arith)
+    (λ k h. false_from_ne_true (is_feed (get_or bytes k 0)) (first.before k (omega arith) h)) (λ h. stands) in
+    sym (placed (position_or_len is_feed bytes) (length bytes) i at inside)

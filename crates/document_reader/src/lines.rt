@@ -8,6 +8,7 @@ ghost use Rattle.document_forms.specs.Lines.{lines, counts as counts_as, is_text
 ghost use Rattle.document_reader.specs.LinesLeft.{left, is_feed};
 
 use document_forms::one_cutting_into_lines;
+use memchr::memchr;
 use std::marker::Model;
 use wpds_port::{Lexeme, Words, one_list_of_tokens};
 
@@ -114,7 +115,7 @@ fn split_line<'t>(bytes: &'t [u8]) -> (&'t [u8], &'t [u8])
 fn feed_place(bytes: &[u8]) -> Option<usize>
     ensures { result ≡ position is_feed bytes.now }
 {
-    bytes.iter().position(|byte| *byte == b'\n')
+    memchr(b'\n', bytes)
 }
 
 fn without_return(piece: &[u8]) -> &[u8]

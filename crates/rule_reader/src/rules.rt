@@ -150,6 +150,7 @@ fn read_right<'t>(
     ensures end { IfOk result (λ r. goes_on_right r.1 ≡ false) }
 {
     let mut read = NamesRead::new(alloc);
+    read.numbers.reserve(MOST_PUSHED)?;
     let mut left = words.reborrow();
     while let Some((name, rest)) = right_name(&left) {
         read.add(symbols, name)?;

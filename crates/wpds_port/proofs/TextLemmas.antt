@@ -1,12 +1,14 @@
 -- The words of a text, one after the other.
-use Rattle.std.proofs.Common.{◌≡◌, ℕ, zero, suc, ◌+◌, ◌-◌, ◌≤◌, ◌<◌, Bool, true, false, List, [], ◌∷◌, ◌++◌, length, take, drop, Option, Some, None, option_map, refl, sym, ap, ◌∙◌, subst, arith, append-nil, length-append}
+use Rattle.std.proofs.Common.{◌≡◌, ℕ, zero, suc, ◌+◌, ◌-◌, ◌≤◌, ◌<◌, Bool, true, false, not, nat_le, List, [], ◌∷◌, ◌++◌, get_or, length, take, drop, Option, Some, None, option_map, refl, sym, ap, ◌∙◌, subst, arith, append-nil, length-append}
 use Rattle.std.specs.Prelude.{if◌then◌else◌, option_and_then, unwrap_or, is_some, IsTrue, IfSome}
 use Rattle.std.specs.List.{list_all}
 use Rattle.std.proofs.lemmas.Bool.{not-true}
-use Rattle.std.proofs.lemmas.List.{take-append-drop}
+use Rattle.std.proofs.lemmas.Bool.Decides.{nat_tests}
+use Rattle.std.proofs.lemmas.List.{take-append-drop, length-take-le}
 use Rattle.std.proofs.Math.Seq.{drop-append_seam}
-use Rattle.wpds_port.specs.Tokens.{is_blank, Word, word_text, word_at, is_lawful_word, Token, token, tokens_from, begins_said}
+use Rattle.wpds_port.specs.Tokens.{is_blank, is_digit, begins_name, goes_on_name, bytes_while, has_leading_zero, Mark, mark_at, mark_text, Word, Name, Number, Sign, word_text, word_at, is_lawful_word, Token, token, tokens_from, begins_said}
 use Rattle.wpds_port.specs.Words.{words_of, text_words, if_lawful, lawful_words, IsNext}
+use Rattle.wpds_port.specs.private.Fronts.{IsLawfulStart}
 use Rattle.wpds_port.proofs.TokenLemmas.{blanks_skipped, word_taken, word_some}
 use Rattle.wpds_port.proofs.WordLemmas.{IsCutOff, word_cut}
 
@@ -152,3 +154,48 @@ some_more f (Some a) = refl
 
 pub lawful_word : (text : List ℕ) (w : Word) (rest : List ℕ) → IsNext text w rest → is_lawful_word w ≡ true → is_some (lawful_words text) ≡ is_some (lawful_words rest)
 lawful_word text w rest n h = ap is_some (lawful_next text w rest n h) ∙ some_more (λ ws. w ∷ ws) (lawful_words rest)
+
+-- ---- a text that is read from the front, by lengths alone
+
+-- with a blank less
+blank_first : (b : ℕ) (bs : List ℕ) → is_blank b ≡ true → IsLawfulStart (b ∷ bs) (Some 1)
+blank_first b bs h = (omega arith, omega arith, ap (λ o. is_some (lawful_in o)) same)
+  where
+    same : text_words (b ∷ bs) ≡ text_words bs
+    same = ap (option_map words_of) (blanks_skipped 0 (b ∷ []) bs (rw h refl)) ∙ placeless bs 1 0 0
+
+pub blank_start : (text : List ℕ) → 0 < length text → is_blank (get_or text 0 0) ≡ true → IsLawfulStart text (Some 1)
+blank_start [] some h = absurd (omega arith)
+blank_start (b ∷ bs) some h = blank_first b bs h
+
+-- with a word less
+pub word_start : (text : List ℕ) (w : Word) (n : ℕ) → word_at text ≡ Some w → is_lawful_word w ≡ true → n ≡ length (word_text w) → IsLawfulStart text (Some n)
+word_start text w n e h size =
+    let b = begun_by text text 0 w refl refl e in
+    let some : 1 ≤ length (word_text w) = word_some w b.next.word in
+    let whole = lawful_word text w (drop (length (word_text w)) text) b.next h in
+    (omega (arith, some, size), omega (arith, b.within, size), whole ∙ ap (λ k. is_some (lawful_words (drop k text))) (sym size))
+
+-- ---- the same, as a loop meets it
+
+mark_word : (text : List ℕ) (m : Mark) → 0 < length text → begins_name (get_or text 0 0) ≡ false → is_digit (get_or text 0 0) ≡ false → mark_at text ≡ Some m → word_at text ≡ Some (Sign m)
+mark_word [] m some n d e = absurd (omega arith)
+mark_word (b ∷ bs) m some n d e = rw (n, d, e) refl
+
+pub mark_start : (text : List ℕ) (m : Mark) → 0 < length text → begins_name (get_or text 0 0) ≡ false → is_digit (get_or text 0 0) ≡ false → mark_at text ≡ Some m → (n : ℕ) → n ≡ length (mark_text m) → IsLawfulStart text (Some n)
+mark_start text m some n d e k size = word_start text (Sign m) k (mark_word text m some n d e) refl size
+
+front_size : (text front : List ℕ) (n : ℕ) → n ≤ length text → take n text ≡ front → n ≡ length front
+front_size text front n within e = sym (length-take-le n text within) ∙ ap length e
+
+pub name_start : (text : List ℕ) (n : ℕ) → word_at text ≡ Some (Name (bytes_while goes_on_name text)) → n ≤ length text → take n text ≡ bytes_while goes_on_name text → n ≤ 64 → IsLawfulStart text (Some n)
+name_start text n e within front few =
+    let size = front_size text (bytes_while goes_on_name text) n within front in
+    let lawful : nat_le (length (bytes_while goes_on_name text)) 64 ≡ true = subst (λ k. nat_le k 64 ≡ true) size (grind (arith, nat_tests)) in
+    word_start text (Name (bytes_while goes_on_name text)) n e lawful size
+
+pub number_start : (text : List ℕ) (n : ℕ) → word_at text ≡ Some (Number (bytes_while is_digit text)) → n ≤ length text → take n text ≡ bytes_while is_digit text → has_leading_zero (take n text) ≡ false → IsLawfulStart text (Some n)
+number_start text n e within front few =
+    let size = front_size text (bytes_while is_digit text) n within front in
+    let lawful : not (has_leading_zero (bytes_while is_digit text)) ≡ true = ap not (ap has_leading_zero (sym front) ∙ few) in
+    word_start text (Number (bytes_while is_digit text)) n e lawful size

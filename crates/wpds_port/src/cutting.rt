@@ -1,72 +1,63 @@
-ghost use Rattle.std.specs.Prelude.{◌≡◌, ◌≤◌, IfOk, IfSome, IfNone, option_map, length, take};
-ghost use Rattle.wpds_port.specs.Tokens.{is_blank, mark_at, word_text, word_at, is_digit, begins_name, goes_on_name, bytes_while, tokens as tokens_of, AreTokens, IsStuck};
+ghost use Rattle.std.specs.Prelude.{◌≡◌, ◌≤◌, IfOk, IfSome, IfNone, ◌∷◌, [], cond, option_map, length, take};
+ghost use Rattle.wpds_port.specs.Tokens.{mark_at, word_text, word_at, is_digit, goes_on_name, bytes_while, tokens as tokens_of, AreTokens, IsStuck};
 ghost use Rattle.wpds_port.specs.Words.{word_of};
 
+use crate::classes::{blank, digit, name_begins, name_goes_on};
 use crate::{Lexeme, Mark, OutOfMemory, Text, Token, TokenList, Word};
 use std::alloc::Global;
 
-pub(crate) fn blank(b: u8) -> bool
-    ensures { result ≡ is_blank b }
-{
-    b == b' ' || b == b'\t'
-}
-
-fn digit(b: u8) -> bool
-    ensures { result ≡ is_digit b }
-{
-    b.is_ascii_digit()
-}
-
-fn name_begins(b: u8) -> bool
-    ensures { result ≡ begins_name b }
-{
-    b.is_ascii_uppercase() || b.is_ascii_lowercase() || b == b'_'
-}
-
-fn name_goes_on(b: u8) -> bool
-    ensures { result ≡ goes_on_name b }
-{
-    name_begins(b) || digit(b) || b == b'$' || b == b'@'
-}
-
 /// The longest mark that the text begins with.
-fn mark_in(text: &[u8]) -> Option<Mark>
+pub(crate) fn mark_in(text: &[u8]) -> Option<Mark>
     ensures { result ≡ mark_at text.now }
 {
     match text {
-        [b'-', b'>', ..] => Some(Mark::Arrow),
-        [b'=', b'>', ..] => Some(Mark::Implies),
-        [b':', b'=', ..] => Some(Mark::Becomes),
-        [b'!', b'=', ..] => Some(Mark::Differs),
-        [b':', ..] => Some(Mark::Colon),
-        [b';', ..] => Some(Mark::Semicolon),
-        [b',', ..] => Some(Mark::Comma),
-        [b'.', ..] => Some(Mark::Dot),
-        [b'*', ..] => Some(Mark::Star),
-        [b'+', ..] => Some(Mark::Plus),
-        [b'-', ..] => Some(Mark::Minus),
-        [b'=', ..] => Some(Mark::Equal),
-        [b'?', ..] => Some(Mark::Question),
-        [b'!', ..] => Some(Mark::Not),
-        [b'&', ..] => Some(Mark::And),
-        [b'|', ..] => Some(Mark::Or),
-        [b'^', ..] => Some(Mark::Xor),
-        [b'(', ..] => Some(Mark::Open),
-        [b')', ..] => Some(Mark::Close),
-        [b'{', ..] => Some(Mark::OpenBrace),
-        [b'}', ..] => Some(Mark::CloseBrace),
+        [first, next, ..] => mark_of(*first, *next),
+        [first] => mark_of(*first, 0),
+        [] => None,
+    }
+}
+
+// The longest mark that a text with these two bytes in front begins with.
+fn mark_of(first: u8, next: u8) -> Option<Mark>
+    ensures { result ≡ mark_at (first ∷ next ∷ []) }
+{
+    match first {
+        b'-' => Some(pair_if(next == b'>', Mark::Arrow, Mark::Minus)),
+        b'=' => Some(pair_if(next == b'>', Mark::Implies, Mark::Equal)),
+        b':' => Some(pair_if(next == b'=', Mark::Becomes, Mark::Colon)),
+        b'!' => Some(pair_if(next == b'=', Mark::Differs, Mark::Not)),
+        b';' => Some(Mark::Semicolon),
+        b',' => Some(Mark::Comma),
+        b'.' => Some(Mark::Dot),
+        b'*' => Some(Mark::Star),
+        b'+' => Some(Mark::Plus),
+        b'?' => Some(Mark::Question),
+        b'&' => Some(Mark::And),
+        b'|' => Some(Mark::Or),
+        b'^' => Some(Mark::Xor),
+        b'(' => Some(Mark::Open),
+        b')' => Some(Mark::Close),
+        b'{' => Some(Mark::OpenBrace),
+        b'}' => Some(Mark::CloseBrace),
         _ => None,
     }
 }
 
-// How long the name is that the text begins with. Most bytes of names are small letters, for which one test is enough.
-fn name_len(text: &[u8]) -> usize
+// The mark of two bytes where it stands, and else the one of the first byte alone.
+fn pair_if(stands: bool, pair: Mark, single: Mark) -> Mark
+    ensures { result ≡ cond stands pair single }
+{
+    if stands { pair } else { single }
+}
+
+// How long the name is that the text begins with.
+pub(crate) fn name_len(text: &[u8]) -> usize
     ensures within { result ≤ length text.now }
     ensures bytes { take result text.now ≡ bytes_while goes_on_name text.now }
 {
     let mut n = 0;
     for b in text {
-        if !b.is_ascii_lowercase() && !name_goes_on(*b) {
+        if !name_goes_on(*b) {
             return n;
         }
         n += 1;
@@ -74,7 +65,7 @@ fn name_len(text: &[u8]) -> usize
     n
 }
 
-fn digits_len(text: &[u8]) -> usize
+pub(crate) fn digits_len(text: &[u8]) -> usize
     ensures within { result ≤ length text.now }
     ensures bytes { take result text.now ≡ bytes_while is_digit text.now }
 {

@@ -1,10 +1,11 @@
-ghost use Rattle.std.specs.Prelude.{◌≡◌, ◌+◌, ◌^◌, ◌<◌, ◌≤◌, ◌⊎◌, ◌==◌, ◌&&◌, ◌∷◌, [], IsTrue, MatchOption, IfSome, drop, take, length, option_map, is_some};
+ghost use Rattle.std.specs.Prelude.{◌≡◌, ◌+◌, ◌^◌, ◌<◌, ◌≤◌, ◌⊎◌, ◌==◌, ◌&&◌, ◌∷◌, [], IsTrue, MatchOption, IfSome, drop, take, length, option_map, is_some, Some};
 ghost use Rattle.std.specs.List.{list_all};
-ghost use Rattle.wpds_port.specs.Tokens.{is_blank, begins_said, is_lawful_word};
+ghost use Rattle.wpds_port.specs.Tokens.{Name, Number, is_blank, is_digit, goes_on_name, bytes_while, word_at, begins_said, is_lawful_word};
 ghost use Rattle.wpds_port.specs.Words.{lawful_words, word_of, same_word, before, behind, before_outside, behind_outside, brackets_after};
-ghost use Rattle.wpds_port.specs.private.Fronts.{IsFront};
+ghost use Rattle.wpds_port.specs.private.Fronts.{IsFront, IsLawfulStart};
 
-use crate::cutting::{blank, lexeme_in};
+use crate::classes::{blank, digit, name_begins};
+use crate::cutting::{digits_len, lexeme_in, mark_in, name_len};
 use crate::token::leads_with_zero;
 use crate::{Lexeme, Mark};
 use std::marker::Model;
@@ -172,31 +173,55 @@ fn brackets_behind(brackets: usize, lexeme: Lexeme) -> usize
     }
 }
 
-fn is_lawful(lexeme: Lexeme) -> bool
-    ensures { result ≡ is_lawful_word (word_of lexeme.entry) }
-{
-    match lexeme {
-        Lexeme::Name(bytes) => bytes.len() <= 64,
-        Lexeme::Number(bytes) => !leads_with_zero(bytes),
-        Lexeme::Mark(_) => true,
-    }
-}
-
 // Whether a text is cut wholly into words which a form takes.
 fn is_lawful_text(text: &[u8]) -> bool
     ensures { result ≡ is_some (lawful_words text.now) }
 {
     let mut left = text;
-    loop {
-        match begin(left) {
-            Front::End => return true,
-            Front::Unknown => return false,
-            Front::Word(lexeme, rest) => {
-                if !is_lawful(lexeme) {
-                    return false;
-                }
-                left = rest;
-            }
+    while !left.is_empty() {
+        match lawful_len(left) {
+            Some(n) => left = &left[n..],
+            None => return false,
         }
+    }
+    true
+}
+
+// How long the blank or the word is that the text begins with, if a form takes it.
+fn lawful_len(text: &[u8]) -> Option<usize>
+    requires { 0 < length text.now }
+    ensures { IsLawfulStart text.now result }
+{
+    if blank(text[0]) {
+        Some(1)
+    } else if name_begins(text[0]) {
+        lawful_name_len(text)
+    } else if digit(text[0]) {
+        lawful_number_len(text)
+    } else {
+        match mark_in(text) {
+            Some(mark) => Some(mark.text().len()),
+            None => None,
+        }
+    }
+}
+
+fn lawful_name_len(text: &[u8]) -> Option<usize>
+    requires { word_at text.now ≡ Some (Name (bytes_while goes_on_name text.now)) }
+    ensures { IsLawfulStart text.now result }
+{
+    let n = name_len(text);
+    if n <= 64 { Some(n) } else { None }
+}
+
+fn lawful_number_len(text: &[u8]) -> Option<usize>
+    requires { word_at text.now ≡ Some (Number (bytes_while is_digit text.now)) }
+    ensures { IsLawfulStart text.now result }
+{
+    let n = digits_len(text);
+    if leads_with_zero(&text[..n]) {
+        None
+    } else {
+        Some(n)
     }
 }

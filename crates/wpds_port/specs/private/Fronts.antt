@@ -1,8 +1,8 @@
 -- What a text begins with, and how a loop over its words goes on.
-use Rattle.std.specs.Prelude.{◌≡◌, ◌≤◌, IsTrue, ℕ, Bool, List, [], ◌∷◌, ◌++◌, Option, None, drop, length}
+use Rattle.std.specs.Prelude.{◌≡◌, ◌≤◌, ◌<◌, IsTrue, ℕ, Bool, false, List, [], ◌∷◌, ◌++◌, Option, None, Some, is_some, drop, length}
 use Rattle.std.specs.List.{list_all}
 use Rattle.wpds_port.specs.Tokens.{is_blank, Word}
-use Rattle.wpds_port.specs.Words.{text_words, word_of, before, behind, before_outside, behind_outside, IsNext}
+use Rattle.wpds_port.specs.Words.{text_words, lawful_words, word_of, before, behind, before_outside, behind_outside, IsNext}
 use Rattle.wpds_port.specs.declared.words.Front.{Front}
 use Rattle.wpds_port.specs.declared.words.Front.TheVariants.{End, Unknown, Word as WordFront}
 
@@ -10,6 +10,13 @@ abbrev pub IsFront : List ℕ → Front → Type 0
 IsFront text End = IsTrue (list_all is_blank text)
 IsFront text Unknown = text_words text ≡ None
 IsFront text (WordFront l rest) = IsNext text (word_of l) rest.now
+
+-- A front of the text, so long, that leaves the question whether it is cut wholly into words which a
+-- form takes to the rest; without one the answer is no.
+abbrev pub IsLawfulStart : List ℕ → Option ℕ → Type 0
+IsLawfulStart text None = is_some (lawful_words text) ≡ false
+IsLawfulStart text (Some n) =
+    (0 < n) × (n ≤ length text) × (is_some (lawful_words text) ≡ is_some (lawful_words (drop n text)))
 
 -- Reading these words of the text leads to the rest.
 abbrev pub Reaches : List ℕ → List Word → List ℕ → Type 0

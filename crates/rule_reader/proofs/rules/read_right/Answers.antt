@@ -1,14 +1,20 @@
-use Rattle.std.proofs.Common.{◌∷◌, ◌++◌, [], sym, subst}
+use Rattle.std.proofs.Common.{◌∷◌, ◌++◌, ◌∙◌, [], length, sym, ap, subst}
 use Rattle.rule_reader.specs.private.Rules.{HasRight}
 use Rattle.rule_reader.proofs.RuleLemmas.{right_none, right_more}
 use Rattle.rule_reader.proofs.rules.read_right.Goals as goal
 
 pub loop-name-init : goal.loop-name-init
-loop-name-init c = (
-  [],
-  c.new-read.ensures c.args.symbols.now,
-  subst (HasRight c.args.words.now []) (sym c.reborrow-left.ensures.same) (right_none c.args.words.now),
-)
+loop-name-init c =
+    let none = c.new-read.ensures c.args.symbols.now in
+    let same = c.reserve.ensures.items in (
+      [],
+      record {
+        count = ap length same ∙ none.count;
+        unknown = none.unknown;
+        numbers = λ known. same ∙ none.numbers known;
+      },
+      subst (HasRight c.args.words.now []) (sym c.reborrow-left.ensures.same) (right_none c.args.words.now),
+    )
 
 pub loop-name-preserved : goal.loop-name-preserved
 loop-name-preserved c =
