@@ -86,8 +86,7 @@ impl NodeTable {
     pub(crate) fn node(&self, reference: u32) -> Node
         requires node { 2 ≤ reference }
         requires within { reference < length self.now + 2 }
-        ensures node { node_at self.now reference ≡ Some (branch_of result) }
-        ensures reduced { IsReduced self.now }
+        ensures { node_at self.now reference ≡ Some (branch_of result) }
     {
         *self.nodes.get(reference as usize - 2)
     }
@@ -95,8 +94,7 @@ impl NodeTable {
     /// The node that a reference names, if it is no constant.
     pub(crate) fn found(&self, reference: u32) -> Option<Node>
         requires { reference < length self.now + 2 }
-        ensures found { option_map branch_of result ≡ node_at self.now reference }
-        ensures reduced { IsReduced self.now }
+        ensures { option_map branch_of result ≡ node_at self.now reference }
     {
         if reference < 2 {
             return None;
@@ -117,10 +115,11 @@ impl NodeTable {
         ensures stands { IfOk result (λ r.
             Stands self.new r (IsChoice self.new var low high) (λ v. v < var)) }
     {
+        let count = self.nodes.len();
         if low == high {
             return Ok(low);
         }
-        if self.nodes.len() >= MOST_NODES {
+        if count >= MOST_NODES {
             return Err(OutOfMemory);
         }
         let number = make_node(&mut self.nodes, Node { var, low, high })?;

@@ -1,7 +1,7 @@
 ghost use Rattle.std.specs.Prelude.{◌≡◌, ◌+◌, ◌<◌, ◌++◌, [], ◌∷◌, ℕ, Bool, Some, IfOk, OnOk, length, cond, nat_eq};
 ghost use Rattle.diagram_store.specs.Diagrams.{IsOver, meaning};
 ghost use Rattle.diagram_store.specs.Meaning.{value_at};
-ghost use Rattle.diagram_store.specs.Nodes.{HasVariablesBelow};
+ghost use Rattle.diagram_store.specs.Nodes.{IsReduced, HasVariablesBelow};
 ghost use Rattle.diagram_ops.specs.private.Copying.{IsCopy, Copies};
 ghost use Rattle.diagram_ops.specs.private.TableCopying.{reference_of, copied_at};
 
@@ -44,6 +44,7 @@ fn place_of(references: &KeyedList<u32, Copied>, reference: u32) -> Option<u64>
 
 // Copies what a reference reaches, low first, and returns its place.
 fn copy_from(table: &NodeTable, copy: &mut TableCopy, reference: u32) -> Result<u64, OutOfMemory>
+    requires reduced { IsReduced table.now }
     requires within { reference < length table.now + 2 }
     requires count { length copy.old.references.members ≡ length copy.old.nodes.items }
     requires copy { IsCopy table.now (copied_at copy.old.references.members) copy.old.nodes.items }
@@ -86,7 +87,8 @@ fn place_node(copy: &mut TableCopy, reference: u32, node: Branch) -> Result<u64,
 
 // The diagram with the meaning of a reference.
 fn copy_out(alloc: Global, table: &NodeTable, root: u32) -> Result<Diagram, OutOfMemory>
-    requires { root < length table.now + 2 }
+    requires reduced { IsReduced table.now }
+    requires root { root < length table.now + 2 }
     ensures { IfOk result (λ d. (bits : ℕ → Bool) → meaning d bits ≡ value_at table.now root bits) }
 {
     let mut copy = TableCopy {

@@ -6,7 +6,7 @@ ghost use Rattle.diagram_ops.specs.private.Applying.{variable, lower, cofactor, 
 ghost use Rattle.diagram_ops.specs.private.ShortCuts.{IsShortCut};
 ghost use Rattle.diagram_ops.specs.private.TableNodes.{branch_of};
 ghost use Rattle.diagram_ops.specs.private.Tables.{Grows};
-ghost use Rattle.diagram_ops.specs.private.Uniting.{table_of, operation_of as operation_value, AreThese};
+ghost use Rattle.diagram_ops.specs.private.Uniting.{table_of, absorbing_of, operation_of as operation_value, AreThese};
 
 use crate::kept_results::{Operation, Slot};
 use crate::node::Node;
@@ -38,7 +38,9 @@ fn operation_of(junction: Junction) -> Operation
 }
 
 // The constant that is the result wherever it is an operand. The other one changes nothing.
-fn absorbing(junction: Junction) -> u32 {
+fn absorbing(junction: Junction) -> u32
+    ensures { result ≡ absorbing_of junction }
+{
     match junction {
         Junction::Or => 1,
         Junction::And => 0,

@@ -13,6 +13,12 @@ abbrev pub table_of : Junction → ℕ
 table_of junctions.Or = 252
 table_of junctions.And = 192
 
+-- the constant that is the result wherever it is an operand
+abbrev pub absorbing_of : Junction → ℕ
+absorbing_of junctions.Or = 1
+absorbing_of junctions.And = 0
+
+-- what the results are kept as
 abbrev pub operation_of : Junction → Operation
 operation_of junctions.Or = Union
 operation_of junctions.And = Intersection
