@@ -149,3 +149,7 @@ own_leads nodes all x y r c old new = leads_composed nodes nodes all all x y nod
 pub own_lowest : (nodes : List Branch) (x y : ℕ) (first second : Option Branch) → first ≡ node_at nodes x → second ≡ node_at nodes y
     → lower (place_in (position First) first) (place_in (position Second) second) ≡ lower (place (position First) nodes x) (place (position Second) nodes y)
 own_lowest nodes x y first second e f = composing.lowest_read nodes nodes x y first second e f
+
+-- no place in the middle
+pub own_chosen : (p : ℕ) → (p % 2 ≡ 1 → ⊥) → p % 2 ≡ 0
+own_chosen p odd = omega arith

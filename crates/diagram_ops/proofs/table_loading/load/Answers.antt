@@ -1,6 +1,8 @@
 use Rattle.std.proofs.Common.{◌≡◌, ℕ, List, ◌+◌, ◌≤◌, length, refl, sym, ap, subst, ◌∙◌, arith}
 use Rattle.std.proofs.lemmas.List.{length_push}
 use Rattle.diagram_store.proofs.CallerLemmas.{value_at_end}
+use Rattle.diagram_store.specs.declared.branch.Branch.{Branch}
+use Rattle.diagram_store.specs.Nodes.{HasVariablesBelow}
 use Rattle.diagram_ops.specs.private.Images.{IsImage, IsValue}
 use Rattle.diagram_ops.proofs.KeepingLemmas.{keeps_same, keeps_both}
 use Rattle.diagram_ops.proofs.ImageLemmas.{image_first, image_kept, image_push, root_within, root_stands}
@@ -41,3 +43,21 @@ pub returns-clause-stands : goal.returns-clause-stands
 returns-clause-stands c =
     root_stands IsValue c.nodes-nodes.result.now c.args.diagram.now.nodes c.loop-k.table c.loop-k.places.items c.deref-2.result.now c.args.diagram.now.root c.place_at.result c.loop-k.k
     c.nodes-nodes.ensures c.args.diagram.now.is_canonical c.loop-k.invariant.image c.loop-k.invariant.count c.loop-k-test.false c.deref-2.ensures.value c.place_at.ensures
+
+-- the limit of the diagram as that of its nodes
+of_nodes : (nodes view : List Branch) → view ≡ nodes → (limit : ℕ) → HasVariablesBelow limit nodes → HasVariablesBelow limit view
+of_nodes nodes view e limit all = let P : List Branch → Type 0 = λ l. HasVariablesBelow limit l in subst P (sym e) all
+
+pub returns-in_err-place-clause-limits : goal.returns-in_err-place-clause-limits
+returns-in_err-place-clause-limits c = λ limit there all.
+    let below = of_nodes c.args.diagram.now.nodes c.nodes-nodes.result.now c.nodes-nodes.ensures limit all in
+    c.in_err-place.ensures.limits limit (c.loop-k.invariant.limits limit there below) below
+
+pub returns-in_err-push-clause-limits : goal.returns-in_err-push-clause-limits
+returns-in_err-push-clause-limits c = λ limit there all.
+    let below = of_nodes c.args.diagram.now.nodes c.nodes-nodes.result.now c.nodes-nodes.ensures limit all in
+    c.in_ok-place.ensures.limits limit (c.loop-k.invariant.limits limit there below) below
+
+pub returns-clause-limits : goal.returns-clause-limits
+returns-clause-limits c = λ limit there all.
+    c.loop-k.invariant.limits limit there (of_nodes c.args.diagram.now.nodes c.nodes-nodes.result.now c.nodes-nodes.ensures limit all)

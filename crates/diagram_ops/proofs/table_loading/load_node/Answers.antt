@@ -37,3 +37,11 @@ returns-clause-stands c =
     c.args.table.now c.args.places.now (omega arith) (IsValue c.args.nodes.now) c.requires.image c.place_at-low.result c.place_at-high.result c.place_at-low.ensures c.place_at-high.ensures
     c.branch-table.new.self c.in_ok-place.ensures.reduced c.in_ok-place.ensures.keeps c.in_ok-place.place c.in_ok-place.ensures.stands
     (value_by c.args.nodes.now c.requires.nodes (c.args.k + 2) (get_or c.args.nodes.now c.args.k blank) (node_of_list c.args.nodes.now c.args.k blank c.requires.k))
+
+pub returns-in_err-place-clause-limits : goal.returns-in_err-place-clause-limits
+returns-in_err-place-clause-limits c = λ limit there of_nodes.
+    c.in_err-place.ensures.limits limit (of_nodes (c.args.k + 2) (get_or c.args.nodes.now c.args.k blank) (node_of_list c.args.nodes.now c.args.k blank c.requires.k)) there
+
+pub returns-clause-limits : goal.returns-clause-limits
+returns-clause-limits c = λ limit there of_nodes.
+    c.in_ok-place.ensures.limits limit (of_nodes (c.args.k + 2) (get_or c.args.nodes.now c.args.k blank) (node_of_list c.args.nodes.now c.args.k blank c.requires.k)) there

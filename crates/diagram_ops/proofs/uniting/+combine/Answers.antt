@@ -21,35 +21,35 @@ returns-in-Some-kept-clause-applied t c =
 
 pub combine-requires : goal.combine-requires
 combine-requires t c = (
-      subst (λ (m : ℕ). c.ways_on-ways.result.first.0 + c.ways_on-ways.result.second.0 < m) (these_sum c.args.x c.args.y c.in_order-a.result.0 c.in_order-a.result.1 c.in_order-a.ensures ∙ c.decreases)
-          (ways_fall (table_of c.args.junction) c.args.table.now c.requires.reduced c.in_order-a.result.0 c.in_order-a.result.1 c.ways_on-ways.result.var (these_within c.args.x c.args.y c.in_order-a.result.0 c.in_order-a.result.1 (length c.args.table.now + 2) c.in_order-a.ensures c.requires.x c.requires.y).0 (these_within c.args.x c.args.y c.in_order-a.result.0 c.in_order-a.result.1 (length c.args.table.now + 2) c.in_order-a.ensures c.requires.x c.requires.y).1 c.ways_on-ways.ensures.lowest
-          false c.ways_on-ways.result.first.0 c.ways_on-ways.result.second.0 c.ways_on-ways.ensures.first_low c.ways_on-ways.ensures.second_low),
-      (
-        c.requires.reduced,
-        (
-          way_within (table_of c.args.junction) c.args.table.now c.requires.reduced c.in_order-a.result.0 c.in_order-a.result.1 c.ways_on-ways.result.var (these_within c.args.x c.args.y c.in_order-a.result.0 c.in_order-a.result.1 (length c.args.table.now + 2) c.in_order-a.ensures c.requires.x c.requires.y).0 (these_within c.args.x c.args.y c.in_order-a.result.0 c.in_order-a.result.1 (length c.args.table.now + 2) c.in_order-a.ensures c.requires.x c.requires.y).1 c.ways_on-ways.ensures.lowest
-              c.args.table.now (keeps_same c.args.table.now) false c.in_order-a.result.0 c.ways_on-ways.result.first.0 (these_within c.args.x c.args.y c.in_order-a.result.0 c.in_order-a.result.1 (length c.args.table.now + 2) c.in_order-a.ensures c.requires.x c.requires.y).0 c.ways_on-ways.ensures.first_low,
-          way_within (table_of c.args.junction) c.args.table.now c.requires.reduced c.in_order-a.result.0 c.in_order-a.result.1 c.ways_on-ways.result.var (these_within c.args.x c.args.y c.in_order-a.result.0 c.in_order-a.result.1 (length c.args.table.now + 2) c.in_order-a.ensures c.requires.x c.requires.y).0 (these_within c.args.x c.args.y c.in_order-a.result.0 c.in_order-a.result.1 (length c.args.table.now + 2) c.in_order-a.ensures c.requires.x c.requires.y).1 c.ways_on-ways.ensures.lowest
-              c.args.table.now (keeps_same c.args.table.now) false c.in_order-a.result.1 c.ways_on-ways.result.second.0 (these_within c.args.x c.args.y c.in_order-a.result.0 c.in_order-a.result.1 (length c.args.table.now + 2) c.in_order-a.ensures c.requires.x c.requires.y).1 c.ways_on-ways.ensures.second_low,
-        ),
-      ),
-    )
+  subst (λ (m : ℕ). c.ways_on-ways.result.first.0 + c.ways_on-ways.result.second.0 < m) (these_sum c.args.x c.args.y c.in_order-a.result.0 c.in_order-a.result.1 c.in_order-a.ensures ∙ c.decreases)
+      (ways_fall (table_of c.args.junction) c.args.table.now c.requires.reduced c.in_order-a.result.0 c.in_order-a.result.1 c.ways_on-ways.result.var (these_within c.args.x c.args.y c.in_order-a.result.0 c.in_order-a.result.1 (length c.args.table.now + 2) c.in_order-a.ensures c.requires.x c.requires.y).0 (these_within c.args.x c.args.y c.in_order-a.result.0 c.in_order-a.result.1 (length c.args.table.now + 2) c.in_order-a.ensures c.requires.x c.requires.y).1 c.ways_on-ways.ensures.lowest
+      false c.ways_on-ways.result.first.0 c.ways_on-ways.result.second.0 c.ways_on-ways.ensures.first_low c.ways_on-ways.ensures.second_low),
+  (
+    c.requires.reduced,
+    (
+      way_within (table_of c.args.junction) c.args.table.now c.requires.reduced c.in_order-a.result.0 c.in_order-a.result.1 c.ways_on-ways.result.var (these_within c.args.x c.args.y c.in_order-a.result.0 c.in_order-a.result.1 (length c.args.table.now + 2) c.in_order-a.ensures c.requires.x c.requires.y).0 (these_within c.args.x c.args.y c.in_order-a.result.0 c.in_order-a.result.1 (length c.args.table.now + 2) c.in_order-a.ensures c.requires.x c.requires.y).1 c.ways_on-ways.ensures.lowest
+          c.args.table.now (keeps_same c.args.table.now) false c.in_order-a.result.0 c.ways_on-ways.result.first.0 (these_within c.args.x c.args.y c.in_order-a.result.0 c.in_order-a.result.1 (length c.args.table.now + 2) c.in_order-a.ensures c.requires.x c.requires.y).0 c.ways_on-ways.ensures.first_low,
+      way_within (table_of c.args.junction) c.args.table.now c.requires.reduced c.in_order-a.result.0 c.in_order-a.result.1 c.ways_on-ways.result.var (these_within c.args.x c.args.y c.in_order-a.result.0 c.in_order-a.result.1 (length c.args.table.now + 2) c.in_order-a.ensures c.requires.x c.requires.y).0 (these_within c.args.x c.args.y c.in_order-a.result.0 c.in_order-a.result.1 (length c.args.table.now + 2) c.in_order-a.ensures c.requires.x c.requires.y).1 c.ways_on-ways.ensures.lowest
+          c.args.table.now (keeps_same c.args.table.now) false c.in_order-a.result.1 c.ways_on-ways.result.second.0 (these_within c.args.x c.args.y c.in_order-a.result.0 c.in_order-a.result.1 (length c.args.table.now + 2) c.in_order-a.ensures c.requires.x c.requires.y).1 c.ways_on-ways.ensures.second_low,
+    ),
+  ),
+)
 
 pub combine-requires-2 : goal.combine-requires-2
 combine-requires-2 t c = (
-      subst (λ (m : ℕ). c.ways_on-ways.result.first.1 + c.ways_on-ways.result.second.1 < m) (these_sum c.args.x c.args.y c.in_order-a.result.0 c.in_order-a.result.1 c.in_order-a.ensures ∙ c.decreases)
-          (ways_fall (table_of c.args.junction) c.args.table.now c.requires.reduced c.in_order-a.result.0 c.in_order-a.result.1 c.ways_on-ways.result.var (these_within c.args.x c.args.y c.in_order-a.result.0 c.in_order-a.result.1 (length c.args.table.now + 2) c.in_order-a.ensures c.requires.x c.requires.y).0 (these_within c.args.x c.args.y c.in_order-a.result.0 c.in_order-a.result.1 (length c.args.table.now + 2) c.in_order-a.ensures c.requires.x c.requires.y).1 c.ways_on-ways.ensures.lowest
-          true c.ways_on-ways.result.first.1 c.ways_on-ways.result.second.1 c.ways_on-ways.ensures.first_high c.ways_on-ways.ensures.second_high),
-      (
-        c.in_ok-low.ensures.grows.reduced,
-        (
-          way_within (table_of c.args.junction) c.args.table.now c.requires.reduced c.in_order-a.result.0 c.in_order-a.result.1 c.ways_on-ways.result.var (these_within c.args.x c.args.y c.in_order-a.result.0 c.in_order-a.result.1 (length c.args.table.now + 2) c.in_order-a.ensures c.requires.x c.requires.y).0 (these_within c.args.x c.args.y c.in_order-a.result.0 c.in_order-a.result.1 (length c.args.table.now + 2) c.in_order-a.ensures c.requires.x c.requires.y).1 c.ways_on-ways.ensures.lowest
-              c.combine.new.table c.in_ok-low.ensures.grows.keeps true c.in_order-a.result.0 c.ways_on-ways.result.first.1 (these_within c.args.x c.args.y c.in_order-a.result.0 c.in_order-a.result.1 (length c.args.table.now + 2) c.in_order-a.ensures c.requires.x c.requires.y).0 c.ways_on-ways.ensures.first_high,
-          way_within (table_of c.args.junction) c.args.table.now c.requires.reduced c.in_order-a.result.0 c.in_order-a.result.1 c.ways_on-ways.result.var (these_within c.args.x c.args.y c.in_order-a.result.0 c.in_order-a.result.1 (length c.args.table.now + 2) c.in_order-a.ensures c.requires.x c.requires.y).0 (these_within c.args.x c.args.y c.in_order-a.result.0 c.in_order-a.result.1 (length c.args.table.now + 2) c.in_order-a.ensures c.requires.x c.requires.y).1 c.ways_on-ways.ensures.lowest
-              c.combine.new.table c.in_ok-low.ensures.grows.keeps true c.in_order-a.result.1 c.ways_on-ways.result.second.1 (these_within c.args.x c.args.y c.in_order-a.result.0 c.in_order-a.result.1 (length c.args.table.now + 2) c.in_order-a.ensures c.requires.x c.requires.y).1 c.ways_on-ways.ensures.second_high,
-        ),
-      ),
-    )
+  subst (λ (m : ℕ). c.ways_on-ways.result.first.1 + c.ways_on-ways.result.second.1 < m) (these_sum c.args.x c.args.y c.in_order-a.result.0 c.in_order-a.result.1 c.in_order-a.ensures ∙ c.decreases)
+      (ways_fall (table_of c.args.junction) c.args.table.now c.requires.reduced c.in_order-a.result.0 c.in_order-a.result.1 c.ways_on-ways.result.var (these_within c.args.x c.args.y c.in_order-a.result.0 c.in_order-a.result.1 (length c.args.table.now + 2) c.in_order-a.ensures c.requires.x c.requires.y).0 (these_within c.args.x c.args.y c.in_order-a.result.0 c.in_order-a.result.1 (length c.args.table.now + 2) c.in_order-a.ensures c.requires.x c.requires.y).1 c.ways_on-ways.ensures.lowest
+      true c.ways_on-ways.result.first.1 c.ways_on-ways.result.second.1 c.ways_on-ways.ensures.first_high c.ways_on-ways.ensures.second_high),
+  (
+    c.in_ok-low.ensures.grows.reduced,
+    (
+      way_within (table_of c.args.junction) c.args.table.now c.requires.reduced c.in_order-a.result.0 c.in_order-a.result.1 c.ways_on-ways.result.var (these_within c.args.x c.args.y c.in_order-a.result.0 c.in_order-a.result.1 (length c.args.table.now + 2) c.in_order-a.ensures c.requires.x c.requires.y).0 (these_within c.args.x c.args.y c.in_order-a.result.0 c.in_order-a.result.1 (length c.args.table.now + 2) c.in_order-a.ensures c.requires.x c.requires.y).1 c.ways_on-ways.ensures.lowest
+          c.combine.new.table c.in_ok-low.ensures.grows.keeps true c.in_order-a.result.0 c.ways_on-ways.result.first.1 (these_within c.args.x c.args.y c.in_order-a.result.0 c.in_order-a.result.1 (length c.args.table.now + 2) c.in_order-a.ensures c.requires.x c.requires.y).0 c.ways_on-ways.ensures.first_high,
+      way_within (table_of c.args.junction) c.args.table.now c.requires.reduced c.in_order-a.result.0 c.in_order-a.result.1 c.ways_on-ways.result.var (these_within c.args.x c.args.y c.in_order-a.result.0 c.in_order-a.result.1 (length c.args.table.now + 2) c.in_order-a.ensures c.requires.x c.requires.y).0 (these_within c.args.x c.args.y c.in_order-a.result.0 c.in_order-a.result.1 (length c.args.table.now + 2) c.in_order-a.ensures c.requires.x c.requires.y).1 c.ways_on-ways.ensures.lowest
+          c.combine.new.table c.in_ok-low.ensures.grows.keeps true c.in_order-a.result.1 c.ways_on-ways.result.second.1 (these_within c.args.x c.args.y c.in_order-a.result.0 c.in_order-a.result.1 (length c.args.table.now + 2) c.in_order-a.ensures c.requires.x c.requires.y).1 c.ways_on-ways.ensures.second_high,
+    ),
+  ),
+)
 
 pub returns-in_err-high-clause-grows : goal.returns-in_err-high-clause-grows
 returns-in_err-high-clause-grows t c = grows_both c.args.table.now c.combine.new.table c.combine-2.new.table c.in_ok-low.ensures.grows c.in_err-high.ensures.grows
