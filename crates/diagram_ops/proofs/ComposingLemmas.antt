@@ -23,7 +23,7 @@ pub rises : (operand : Operand) (v w : ℕ) → v < w → position operand v < p
 rises First v w h = omega arith
 rises Second v w h = omega arith
 
-composition_kept : (xs ys old : List Branch) → IsReduced old → (new : List Branch) → IsReduced new → Keeps old new → (x y r : ℕ) → IsComposition xs ys old x y r → IsComposition xs ys new x y r
+pub composition_kept : (xs ys old : List Branch) → IsReduced old → (new : List Branch) → IsReduced new → Keeps old new → (x y r : ℕ) → IsComposition xs ys old x y r → IsComposition xs ys new x y r
 composition_kept xs ys old whole new other k x y r c = stands_kept old whole new other k r (IsComposed xs ys x y) (ComesBeforeBoth xs ys x y) c
 
 false_constant : (nodes : List Branch) (r : ℕ) (bits : ℕ → Bool) → r ≡ 0 → value_at nodes r bits ≡ false

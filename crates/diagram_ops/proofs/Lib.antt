@@ -15,3 +15,8 @@ mod VariableLemmas
 mod ShortCutLemmas
 pub mod CallerLemmas
 mod ScratchLemmas
+mod MadeLemmas
+mod KeptResultLemmas
+mod UnitingLemmas
+mod OwnCompositionLemmas
+mod TableCopyLemmas

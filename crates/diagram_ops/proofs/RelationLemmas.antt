@@ -10,6 +10,7 @@ use Rattle.diagram_store.specs.Meaning.{value_at}
 use Rattle.diagram_store.proofs.CallerLemmas.{value_agrees}
 use Rattle.diagram_ops.specs.declared.composing.Operand.TheVariants.{First, Second}
 use Rattle.diagram_ops.specs.Relations.{of_states, relates, RelatesThrough}
+use Rattle.diagram_ops.specs.NodeTables.{leads_at}
 use Rattle.diagram_ops.specs.private.Composing.{position, IsComposed}
 
 apart : (k m : ℕ) → (k ≡ m → ⊥) → nat_eq k m ≡ false
@@ -62,28 +63,34 @@ spread_between old middle new i =
     let is : (4 * i + 1) / 4 ≡ i = omega arith in
     cond-true (nat_eq ((4 * i + 1) % 2) 1) (middle ((4 * i + 1) / 4)) (of_states old new ((4 * i + 1) / 2)) (eq-eqb ((4 * i + 1) % 2) 1 odd) ∙ ap middle is
 
--- the result, made of scratch nodes
-pub relates_composed : (a b : Diagram) (nodes : List Branch) (r : ℕ) → ((bits : ℕ → Bool) → IsComposed a.nodes b.nodes a.root b.root bits (value_at nodes r bits))
-    → (d : Diagram) → ((bits : ℕ → Bool) → meaning d bits ≡ value_at nodes r bits) → (old new : ℕ → Bool) → IsTrue (relates d old new) ↔ RelatesThrough a b old new
-relates_composed a b nodes r means d dr old new = (
+-- the composition of two references as one of relations between states
+pub leads_composed : (xs ys : List Branch) → IsReduced xs → IsReduced ys → (x y : ℕ) (nodes : List Branch) (r : ℕ) → ((bits : ℕ → Bool) → IsComposed xs ys x y bits (value_at nodes r bits))
+    → (old new : ℕ → Bool) → IsTrue (leads_at nodes r old new) ↔ ((middle : ℕ → Bool) × IsTrue (leads_at xs x old middle) × IsTrue (leads_at ys y middle new))
+leads_composed xs ys wholex wholey x y nodes r means old new = (
   λ yes.
-      let o = (means (of_states old new)).0 (sym (dr (of_states old new)) ∙ yes) in
+      let o = (means (of_states old new)).0 yes in
       let middle : ℕ → Bool = λ k. o.0 (4 * k + 1) in
       let f = first_bits old middle new o.0 o.1 (λ k. refl) in
       let g = second_bits old middle new o.0 o.1 (λ k. refl) in (
         middle,
-        sym (same_bits a.nodes a.is_canonical.reduced a.root (λ v. o.0 (position First v)) (of_states old middle) f) ∙ o.2,
-        sym (same_bits b.nodes b.is_canonical.reduced b.root (λ v. o.0 (position Second v)) (of_states middle new) g) ∙ o.3,
+        sym (same_bits xs wholex x (λ v. o.0 (position First v)) (of_states old middle) f) ∙ o.2,
+        sym (same_bits ys wholey y (λ v. o.0 (position Second v)) (of_states middle new) g) ∙ o.3,
       ),
   λ m.
       let all : ℕ → Bool = spread old m.0 new in
       let f = first_bits old m.0 new all (spread_stays old m.0 new) (spread_between old m.0 new) in
       let g = second_bits old m.0 new all (spread_stays old m.0 new) (spread_between old m.0 new) in
-      dr (of_states old new)
-      ∙ (means (of_states old new)).1 (
+      (means (of_states old new)).1 (
         all,
         spread_stays old m.0 new,
-        same_bits a.nodes a.is_canonical.reduced a.root (λ v. all (position First v)) (of_states old m.0) f ∙ m.1,
-        same_bits b.nodes b.is_canonical.reduced b.root (λ v. all (position Second v)) (of_states m.0 new) g ∙ m.2,
+        same_bits xs wholex x (λ v. all (position First v)) (of_states old m.0) f ∙ m.1,
+        same_bits ys wholey y (λ v. all (position Second v)) (of_states m.0 new) g ∙ m.2,
       ),
 )
+
+-- the result, made of scratch nodes
+pub relates_composed : (a b : Diagram) (nodes : List Branch) (r : ℕ) → ((bits : ℕ → Bool) → IsComposed a.nodes b.nodes a.root b.root bits (value_at nodes r bits))
+    → (d : Diagram) → ((bits : ℕ → Bool) → meaning d bits ≡ value_at nodes r bits) → (old new : ℕ → Bool) → IsTrue (relates d old new) ↔ RelatesThrough a b old new
+relates_composed a b nodes r means d dr old new =
+    let leads = leads_composed a.nodes b.nodes a.is_canonical.reduced b.is_canonical.reduced a.root b.root nodes r means old new in
+    (λ yes. leads.0 (sym (dr (of_states old new)) ∙ yes), λ m. dr (of_states old new) ∙ leads.1 m)

@@ -1,4 +1,5 @@
 pub mod Quantifying
 pub mod Relations
 pub mod Renaming
+pub mod NodeTables
 pub mod private

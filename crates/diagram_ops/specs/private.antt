@@ -6,3 +6,8 @@ pub mod Applying
 pub mod Images
 pub mod Composing
 pub mod ShortCuts
+pub mod TableNodes
+pub mod KeptResults
+pub mod Tables
+pub mod Uniting
+pub mod TableCopying

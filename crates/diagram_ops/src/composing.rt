@@ -165,8 +165,8 @@ fn place_of(operand: Operand, found: Option<Branch>) -> Option<u64>
     }
 }
 
-// The place of a variable of a relation: those of old, middle and new values of a number follow one another.
-fn position(operand: Operand, var: u32) -> u64
+/// The place of a variable of a relation: those of old, middle and new values of a number follow one another.
+pub(crate) fn position(operand: Operand, var: u32) -> u64
     ensures position { result ≡ composing.position operand var }
     ensures of_variable { result / 2 < 2 ^ 32 }
 {

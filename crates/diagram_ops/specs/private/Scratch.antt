@@ -3,10 +3,7 @@ use Rattle.std.specs.Prelude.{◌≡◌, ℕ, ◌+◌, ◌<◌, Bool, List, leng
 use Rattle.diagram_store.specs.declared.branch.Branch.{Branch}
 use Rattle.diagram_store.specs.Nodes.{node_at, IsAbove, IsReduced}
 use Rattle.diagram_store.specs.Meaning.{value_at}
-
--- each reference keeps its node
-pub record Keeps (old new : List Branch) : Type 0 where
-  pub each : (r : ℕ) (n : Branch) → node_at old r ≡ Some n → node_at new r ≡ Some n
+pub use Rattle.diagram_ops.specs.NodeTables.{Keeps}
 
 -- a node that may stand behind these, none of which it is
 pub record IsNext (nodes : List Branch) (n : Branch) : Type 0 where
