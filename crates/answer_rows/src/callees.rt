@@ -6,6 +6,7 @@ use config_patterns::Pattern;
 use cost_weights::Cost;
 use pushdown_rules::{RuleFault, System};
 use query_answers::Values;
+use weight_tables::PlainWeigher;
 use row_systems::{A, B, C, D, Items, pattern_over};
 use std::alloc::Global;
 use std::sync::Wait;
@@ -53,9 +54,10 @@ fn cost_among(
     if tos.len() > MOST {
         return Err(Fail::new("too many queries"));
     }
+    let weigher = PlainWeigher::new(rt.alloc(), system);
     let mut values = match two {
-        false => Values::new(system, side, 1),
-        true => Values::new(system, side, 2),
+        false => Values::new(system, side, 1, weigher),
+        true => Values::new(system, side, 2, weigher),
     };
     let costs = values.values_from(rt, rt.alloc(), &from, &tos, &OpenGate)?;
     match costs.last() {

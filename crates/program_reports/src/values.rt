@@ -15,6 +15,7 @@ use crate::asked::Asked;
 use crate::lines::point_line;
 use boolean_programs::Point;
 use config_patterns::Pattern;
+use node_weigher::NodeWeigher;
 use pushdown_rules::answers_are_greatest_below;
 use query_answers::Values;
 use relation_weights::{Relation, Relations};
@@ -78,7 +79,8 @@ pub(crate) fn lines_by_values<H: Threads + Wait + Sync, G: Gate>(
 {
     let points = asked.program.queries.as_slice();
     let (by, workers) = (asked.options.by, asked.options.workers);
-    let mut values = Values::new(&asked.lowering.system, by, workers);
+    let weigher = NodeWeigher::new(alloc, &asked.lowering.system)?;
+    let mut values = Values::new(&asked.lowering.system, by, workers, weigher);
     let from = asked.entry_pattern(alloc)?;
     let ends = ends_of(alloc, asked, points)?;
     let found = values.values_from(rt, alloc, &from, &ends, gate)?;

@@ -13,21 +13,20 @@ use semiring_laws::Semiring;
 use std::alloc::Global;
 use value_search::{aim, closed_enters_are_sums, closed_pops_are_sums, open, turn, turn_to_target};
 use value_walk::walk;
-use weight_tables::{PlainWeigher, Tables};
+use weight_tables::{Tables, Weigher};
 use wpds_base::{Gate, OutOfMemory};
 
-/// The tables of the plain search, with the semiring's own weights.
-pub(crate) type PlainTables<'s, S> = Tables<'s, S, PlainWeigher<'s, S>>;
-
 // What leads from control to control, which is searched to its end.
-fn close_controls<'s, S: Semiring, G: Gate>(
+fn close_controls<'s, S: Semiring, M: Weigher<S>, G: Gate>(
     alloc: Global,
     system: &'s System<S>,
+    weigher: M,
     gate: &G,
-) -> Result<PlainTables<'s, S>, OutOfMemory>
+) -> Result<Tables<'s, S, M>, OutOfMemory>
+    requires { M.pushdown weigher ≡ system.now }
     ensures { IfOk result (IsClosedOver S.operations system.now) }
 {
-    let mut tables = Tables::new(alloc, system, PlainWeigher::new(alloc, system));
+    let mut tables = Tables::new(alloc, system, weigher);
     open(&mut tables)?;
     'turns: loop {
         if !turn(&mut tables)? {
@@ -38,8 +37,8 @@ fn close_controls<'s, S: Semiring, G: Gate>(
 }
 
 // What leads to a pattern, which is searched to its end.
-fn close_to<S: Semiring, G: Gate>(
-    tables: &mut PlainTables<'_, S>,
+fn close_to<S: Semiring, M: Weigher<S>, G: Gate>(
+    tables: &mut Tables<'_, S, M>,
     to: &Pattern,
     gate: &G,
 ) -> Result<(), OutOfMemory>
@@ -60,8 +59,8 @@ fn close_to<S: Semiring, G: Gate>(
 }
 
 // The value of the answer to one query.
-fn value_to<S: Semiring, G: Gate>(
-    tables: &mut PlainTables<'_, S>,
+fn value_to<S: Semiring, M: Weigher<S>, G: Gate>(
+    tables: &mut Tables<'_, S, M>,
     from: &Pattern,
     to: &Pattern,
     gate: &G,
@@ -78,9 +77,9 @@ fn value_to<S: Semiring, G: Gate>(
 }
 
 // The values of the answers to queries that begin at one pattern, over what leads from control to control.
-fn values_over<S: Semiring, G: Gate>(
+fn values_over<S: Semiring, M: Weigher<S>, G: Gate>(
     alloc: Global,
-    tables: &mut PlainTables<'_, S>,
+    tables: &mut Tables<'_, S, M>,
     from: &Pattern,
     tos: &[Pattern],
     gate: &G,
@@ -98,39 +97,47 @@ fn values_over<S: Semiring, G: Gate>(
 }
 
 // The tables that are kept, or new ones.
-fn kept_or_new<'s, S: Semiring, G: Gate>(
+fn kept_or_new<'s, S: Semiring, M: Weigher<S>, G: Gate>(
     alloc: Global,
     system: &'s System<S>,
-    kept: &mut Option<PlainTables<'s, S>>,
+    weigher: &M,
+    kept: &mut Option<Tables<'s, S, M>>,
     gate: &G,
-) -> Result<PlainTables<'s, S>, OutOfMemory>
-    requires { IfSome kept.old (IsClosedOver S.operations system.now) }
+) -> Result<Tables<'s, S, M>, OutOfMemory>
+    requires weigher { M.pushdown weigher.now ≡ system.now }
+    requires kept { IfSome kept.old (IsClosedOver S.operations system.now) }
     ensures closed { IfOk result (IsClosedOver S.operations system.now) }
     ensures kept { kept.new ≡ None }
 {
     match kept.take() {
         Some(tables) => Ok(tables),
-        None => close_controls(alloc, system, gate),
+        None => {
+            let fresh = weigher.renewed()?;
+            close_controls(alloc, system, fresh, gate)
+        }
     }
 }
 
 /// The values of the answers to queries that begin at one pattern, backwards: one for each pattern where runs end, in order. What
 /// leads from control to control is found once, and kept for the queries to come; what leads to a pattern is found for one at a time.
-/// The gate is called once for each transition that is taken. Refused only when out of memory, and then nothing is kept.
-pub(crate) fn backward_values<'s, S: Semiring, G: Gate>(
+/// The gate is called once for each transition that is taken, and another like the given object makes the weights. Refused only when out
+/// of memory, and then nothing is kept.
+pub(crate) fn backward_values<'s, S: Semiring, M: Weigher<S>, G: Gate>(
     alloc: Global,
     system: &'s System<S>,
-    kept: &mut Option<PlainTables<'s, S>>,
+    weigher: &M,
+    kept: &mut Option<Tables<'s, S, M>>,
     from: &Pattern,
     tos: &[Pattern],
     gate: &G,
 ) -> Result<Vec<S::W>, OutOfMemory>
-    requires { IfSome kept.old (IsClosedOver S.operations system.now) }
+    requires weigher { M.pushdown weigher.now ≡ system.now }
+    requires kept { IfSome kept.old (IsClosedOver S.operations system.now) }
     ensures kept { IfSome kept.new (IsClosedOver S.operations system.now) }
     ensures values { let are = AreAnswered S.operations system.now from.now tos.now in
         IfOk result (λ vs. are vs.items) }
 {
-    let mut tables = kept_or_new(alloc, system, kept, gate)?;
+    let mut tables = kept_or_new(alloc, system, weigher, kept, gate)?;
     let values = values_over(alloc, &mut tables, from, tos, gate)?;
     *kept = Some(tables);
     Ok(values)

@@ -13,20 +13,22 @@ use pushdown_rules::System;
 use semiring_laws::Semiring;
 use std::alloc::Global;
 use value_tails::make_tails;
-use weight_tables::{PlainWeigher, Tables, Weigher};
+use weight_tables::{Tables, Weigher};
 use wpds_base::{Gate, OutOfMemory};
 
 // What runs from a pattern come to, which is searched to its end.
-fn close_from<'s, S: Semiring, G: Gate>(
+fn close_from<'s, S: Semiring, M: Weigher<S>, G: Gate>(
     alloc: Global,
     system: &'s System<S>,
+    weigher: M,
     from: &Pattern,
     gate: &G,
-) -> Result<Tables<'s, S, PlainWeigher<'s, S>>, OutOfMemory>
+) -> Result<Tables<'s, S, M>, OutOfMemory>
+    requires { M.pushdown weigher ≡ system.now }
     ensures system { IfOk result (λ t. t.system ≡ system.now) }
     ensures finished { IfOk result (IsFinished S.operations system.now from.now) }
 {
-    let mut tables = Tables::new(alloc, system, PlainWeigher::new(alloc, system));
+    let mut tables = Tables::new(alloc, system, weigher);
     open(&mut tables, from)?;
     'turns: loop {
         if !turn(&mut tables, from)? {
@@ -93,19 +95,22 @@ fn value_to<'s, S: Semiring, M: Weigher<S>>(
 
 /// The values of the answers to queries that begin at one pattern, forwards: one for each pattern where runs end, in order. The runs
 /// from the first pattern are searched once for all of them, and the ways down from where they begin are summed up once where
-/// at least two patterns end in any number of any symbols. The gate is called once for each transition that is taken. Refused
-/// only when out of memory.
-pub(crate) fn forward_values<S: Semiring, G: Gate>(
+/// at least two patterns end in any number of any symbols. The gate is called once for each transition that is taken, and another like the
+/// given object makes the weights. Refused only when out of memory.
+pub(crate) fn forward_values<S: Semiring, M: Weigher<S>, G: Gate>(
     alloc: Global,
     system: &System<S>,
+    weigher: &M,
     from: &Pattern,
     tos: &[Pattern],
     gate: &G,
 ) -> Result<Vec<S::W>, OutOfMemory>
+    requires { M.pushdown weigher.now ≡ system.now }
     ensures { let are = AreAnswered S.operations system.now from.now tos.now in
         IfOk result (λ vs. are vs.items) }
 {
-    let mut tables = close_from(alloc, system, from, gate)?;
+    let fresh = weigher.renewed()?;
+    let mut tables = close_from(alloc, system, fresh, from, gate)?;
     let by_tails = share_tails(system, from, tos);
     prepare(&mut tables, from, by_tails)?;
     let mut values = Vec::new(alloc);

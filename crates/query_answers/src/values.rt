@@ -8,7 +8,7 @@ ghost use Rattle.worker_pool.specs.Workers.{IsWorkerCount};
 ghost use Rattle.query_answers.specs.Answering.{AreValues, IsAnswer};
 ghost use Rattle.query_answers.specs.Values.{ValuesOf};
 
-use crate::backward::{PlainTables, backward_values};
+use crate::backward::backward_values;
 use crate::book::book_values;
 use crate::forward::forward_values;
 use crate::joint::joint_values;
@@ -20,6 +20,7 @@ use std::alloc::Global;
 use std::marker::Model;
 use std::sync::Wait;
 use std::thread::Threads;
+use weight_tables::{PlainWeigher, Tables, Weigher};
 use witness_graph::Side;
 use wpds_base::{Gate, OutOfMemory};
 
@@ -27,15 +28,17 @@ use wpds_base::{Gate, OutOfMemory};
 /// leads from control to control is kept for the queries to come. With two and more, these have a thread each, and share one
 /// locked book for the queries that are asked together.
 #[derive(Drop)]
-pub struct Values<'s, S: Semiring> {
+pub struct Values<'s, S: Semiring, M: Weigher<S>> {
     system: &'s System<S>,
     side: Side,
     workers: u32,
+    // The plain search makes its weights by others like this.
+    weigher: M,
     // Backwards with one worker: what leads from control to control, closed.
-    closed: Option<PlainTables<'s, S>>,
+    closed: Option<Tables<'s, S, M>>,
 }
 
-impl<'s, S: Semiring> Model for Values<'s, S> {
+impl<'s, S: Semiring, M: Weigher<S>> Model for Values<'s, S, M> {
     ghost use Rattle.std.specs.Prelude.{◌≡◌, IfSome};
     ghost use Rattle.query_answers.specs.private.Closed.{IsClosedOver};
     ghost use Rattle.query_answers.specs.Values.{ValuesOf};
@@ -46,25 +49,36 @@ impl<'s, S: Semiring> Model for Values<'s, S> {
     ghost view = { λ v. record { system = v.system.now; side = v.side; workers = v.workers } };
 
     ghost invariant = { λ v. IsWorkerCount v.workers
+        × (M.pushdown v.weigher ≡ v.system.now)
         × IfSome v.closed (IsClosedOver S.operations v.system.now) };
 }
 
-impl<'s, S: Semiring> Values<'s, S> {
-    /// Over a system, by a direction and so many workers. Nothing is found yet, and no memory is taken.
-    pub fn new(system: &'s System<S>, side: Side, workers: u32) -> Values<'s, S>
-        requires { IsWorkerCount workers }
+impl<'s, S: Semiring, M: Weigher<S>> Values<'s, S, M> {
+    /// Over a system, by a direction and so many workers. One worker's search makes its weights by others like the given object.
+    /// Nothing is found yet, and no memory is taken.
+    pub fn new(
+        system: &'s System<S>,
+        side: Side,
+        workers: u32,
+        weigher: M,
+    ) -> Values<'s, S, M>
+        requires workers { IsWorkerCount workers }
+        requires weigher { M.pushdown weigher ≡ system.now }
         ensures { result ≡ record { system = system.now; side = side; workers = workers } }
     {
         Values {
             system,
             side,
             workers,
+            weigher,
             closed: None,
         }
     }
 }
 
-impl<'s, S: Semiring<W: Send + Sync, Ret: Send + Sync> + Send + Sync> Values<'s, S> {
+impl<'s, S: Semiring<W: Send + Sync, Ret: Send + Sync> + Send + Sync, M: Weigher<S>>
+    Values<'s, S, M>
+{
     /// The values of the answers to queries that begin at one pattern: one for each pattern where runs end, in order. Each worker
     /// calls the gate once for each transition that it takes. Refused only when out of memory.
     pub fn values_from<H: Threads + Wait + Sync, G: Gate>(
@@ -89,10 +103,13 @@ impl<'s, S: Semiring<W: Send + Sync, Ret: Send + Sync> + Send + Sync> Values<'s,
         system.semiring();
         match self.side {
             Side::Pre if workers == 1 => {
-                backward_values(alloc, system, &mut self.closed, from, tos, gate)
+                let (weigher, closed) = (&self.weigher, &mut self.closed);
+                backward_values(alloc, system, weigher, closed, from, tos, gate)
             }
             Side::Pre => joint_values(rt, alloc, system, workers, from, tos, gate),
-            Side::Post if workers == 1 => forward_values(alloc, system, from, tos, gate),
+            Side::Post if workers == 1 => {
+                forward_values(alloc, system, &self.weigher, from, tos, gate)
+            }
             Side::Post => book_values(rt, alloc, system, workers, from, tos, gate),
         }
     }
@@ -119,7 +136,8 @@ pub fn value<
     ensures { let asked = IsAnswer S.operations system.now side workers from.now to.now in
         IfOk result (IsValueOf asked) }
 {
-    let mut values = Values::new(system, side, workers);
+    let weigher = PlainWeigher::new(alloc, system);
+    let mut values = Values::new(system, side, workers, weigher);
     let mut found = values.values_from(rt, alloc, from, std::slice::from_ref(to), gate)?;
     match found.pop() {
         Some(value) => Ok(value),

@@ -1,6 +1,6 @@
 -- What crates above may cite.
 pub use Rattle.relation_laws.proofs.BuildingLemmas.{parts_same, turn_kept}
-pub use Rattle.relation_laws.proofs.StateLemmas.{agree_same, each_from, each_gives, each_same, new_of_states, old_of_states}
+pub use Rattle.relation_laws.proofs.StateLemmas.{agree_same, each_from, each_gives, each_same, new_of_states, old_of_states, states_agree, states_of_bits}
 pub use Rattle.relation_laws.proofs.StateLemmas.{same_bit_is, same_bit_itself, same_truth, some_gives, some_of}
 pub use Rattle.relation_laws.proofs.PairLemmas.{FitsIn, ReadsSource, combined, extended, nothing, stay}
 pub use Rattle.relation_laws.proofs.PairLemmas.{fits_below, identity_reads, is_relation_of, leads_of, leads_reads, parts_are}

@@ -4,3 +4,4 @@ mod ActionLemmas
 mod ReturnLemmas
 mod OperationLemmas
 mod PairLemmas
+mod NodeLemmas

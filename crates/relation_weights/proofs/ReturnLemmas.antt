@@ -11,7 +11,8 @@ use Rattle.relation_weights.specs.declared.rel_map.Slot.{Slot}
 use Rattle.relation_weights.specs.declared.rel_map.Slot.TheVariants.{Caller, Callee}
 use Rattle.relation_weights.specs.Actions.{frame_pairs}
 use Rattle.relation_weights.specs.Relations.{slot_bit, source_of}
-use Rattle.relation_weights.specs.private.Moves.{moves_bit, keeps_bit, far_bit, moved, kept, is_caller, is_own, ListsOthers}
+use Rattle.relation_weights.specs.Moves.{moves_bit, keeps_bit, moved, kept}
+use Rattle.relation_weights.specs.private.Moves.{far_bit, is_caller, is_own, ListsOthers}
 
 abbrev slot : List Slot → ℕ → Slot
 slot slots v = slice_index_or slots v Caller

@@ -3,3 +3,4 @@ pub mod Diagrams
 pub mod Frames
 pub mod Moves
 pub mod Steps
+pub mod KeptNodes

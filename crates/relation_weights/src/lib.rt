@@ -6,6 +6,7 @@ mod actions;
 mod expressions;
 mod frames;
 mod laws;
+mod nodes;
 mod rel_map;
 mod relation;
 mod relations;
@@ -14,6 +15,7 @@ mod returns;
 
 pub use actions::Value;
 pub use laws::{actions_are_sets_of_pairs, weights_are_sets_of_pairs};
+pub use nodes::{RelationNodes, ReturnNodes};
 pub use rel_map::{RelMap, Slot};
 pub use relation::Relation;
 pub use relations::Relations;

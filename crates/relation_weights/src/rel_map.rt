@@ -5,8 +5,8 @@ ghost use Rattle.std.specs.Prelude.{◌≡◌, ◌↔◌, IsTrue};
 pub enum Slot {
     /// The value from before the call.
     Caller,
-    /// The callee's value of this number.
-    Callee(u32),
+    /// The callee's value of this number. There are at most 24, so a byte holds it, and a map takes 48 bytes.
+    Callee(u8),
 }
 
 /// What a return map makes of the relation of a call.

@@ -72,6 +72,14 @@ impl Relations {
         }
     }
 
+    /// How many bits a state has.
+    pub fn bits(&self) -> u32
+        ensures bits { result ≡ self.now }
+        ensures few { result ≤ most_related }
+    {
+        self.n
+    }
+
     /// The assignment of these targets. All values are taken in the old state, and the other numbers stay.
     pub fn assign(&self, alloc: Global, targets: &[(u32, Value)]) -> Result<Relation, OutOfMemory>
         requires { AreTargets self.now targets.now }

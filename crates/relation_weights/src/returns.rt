@@ -3,7 +3,8 @@ ghost use Rattle.diagram_store.specs.Diagrams.{IsOver};
 ghost use Rattle.diagram_ops.specs.Relations.{relates};
 ghost use Rattle.relation_weights.specs.Relations.{after_of, map_fits, relation_fits, slot_fits};
 ghost use Rattle.relation_weights.specs.private.Diagrams.{HasPairs};
-ghost use Rattle.relation_weights.specs.private.Moves.{moved, kept, far_bit, ListsOthers};
+ghost use Rattle.relation_weights.specs.Moves.{moved, kept};
+ghost use Rattle.relation_weights.specs.private.Moves.{far_bit, ListsOthers};
 ghost use Rattle.relation_weights.specs.private.Moves as spec;
 ghost use Rattle.relation_weights.specs.declared.rel_map.RelMap.TheVariants.{Slots};
 
@@ -44,8 +45,13 @@ pub(crate) fn returned(
     Relation::new(alloc, made)
 }
 
-// The pairs in which the bits that come from the callee do. The numbers that don't have the callee's own bit are freed.
-fn moves(alloc: Global, n: u32, slots: &[Slot], freed: &[u32]) -> Result<Diagram, OutOfMemory>
+/// The pairs in which the bits that come from the callee do. The numbers that don't have the callee's own bit are freed.
+pub(crate) fn moves(
+    alloc: Global,
+    n: u32,
+    slots: &[Slot],
+    freed: &[u32],
+) -> Result<Diagram, OutOfMemory>
     requires n { n ≤ 24 }
     requires slots { length slots.now ≡ 24 }
     requires fits { IsTrue (map_fits n (Slots slots.now)) }
@@ -60,8 +66,8 @@ fn moves(alloc: Global, n: u32, slots: &[Slot], freed: &[u32]) -> Result<Diagram
     Ok(made)
 }
 
-// The pairs in which the caller's bits stay.
-fn stays(alloc: Global, n: u32, slots: &[Slot]) -> Result<Diagram, OutOfMemory>
+/// The pairs in which the caller's bits stay.
+pub(crate) fn stays(alloc: Global, n: u32, slots: &[Slot]) -> Result<Diagram, OutOfMemory>
     requires n { n ≤ 24 }
     requires slots { length slots.now ≡ 24 }
     ensures pairs { IfOk result (λ d. HasPairs d (kept n slots.now)) }
@@ -89,8 +95,8 @@ fn with_move(
     ensures variables { IfOk result (λ d. IsOver (2 * n) d) }
 {
     match slot {
-        Slot::Callee(from) if from != number => {
-            let old = old_bit(alloc, n, from)?;
+        Slot::Callee(from) if u32::from(from) != number => {
+            let old = old_bit(alloc, n, u32::from(from))?;
             let new = new_bit(alloc, n, number)?;
             apply_table3(alloc, AND_SAME, &made, &new, &old)
         }
@@ -98,8 +104,12 @@ fn with_move(
     }
 }
 
-// The numbers whose slots are not the callee's of the same number.
-fn others_than_own(alloc: Global, n: u32, slots: &[Slot]) -> Result<Vec<u32>, OutOfMemory>
+/// The numbers whose slots are not the callee's of the same number.
+pub(crate) fn others_than_own(
+    alloc: Global,
+    n: u32,
+    slots: &[Slot],
+) -> Result<Vec<u32>, OutOfMemory>
     requires n { n ≤ length slots.now }
     ensures { IfOk result (λ v. ListsOthers spec.is_own n slots.now v.items) }
 {
@@ -117,7 +127,7 @@ fn is_own(number: u32, slot: Slot) -> bool
 {
     match slot {
         Slot::Caller => false,
-        Slot::Callee(from) => from == number,
+        Slot::Callee(from) => u32::from(from) == number,
     }
 }
 

@@ -23,6 +23,7 @@ use cost_weights::Cost;
 use document_forms::{Document, PatternText, QueryLine, WeightsLine};
 use document_systems::{DocumentWeights, Names, pattern_from, system_from};
 use genkill_weights::with_width;
+use node_weigher::NodeWeigher;
 use path_sum::Answer;
 use pushdown_rules::System;
 use query_answers::{Saturation, Values, answer_over, saturate};
@@ -32,6 +33,7 @@ use semiring_laws::Reach;
 use std::alloc::Global;
 use std::sync::Wait;
 use std::thread::Threads;
+use weight_tables::{PlainWeigher, Weigher};
 use witness_graph::Side;
 use wpds_base::OutOfMemory;
 use wpds_port::{Gate, Text};
@@ -221,6 +223,7 @@ fn lines_by_saturation<
 fn lines_at<
     H: Threads + Wait + Sync,
     S: DocumentWeights<W: Send + Sync, Ret: Send + Sync> + Send + Sync,
+    M: Weigher<S>,
     G: Gate,
 >(
     crew: &Crew<'_, H, G>,
@@ -230,7 +233,7 @@ fn lines_at<
     options: Options,
     place: usize,
     kept: &mut [Option<Text>],
-    values: &mut Values<'_, S>,
+    values: &mut Values<'_, S, M>,
 ) -> Result<Text, OutOfMemory>
     requires document { IsDocument document.now }
     requires system { system.now ≡ system_of S.kind system.now.semiring document.now }
@@ -268,18 +271,21 @@ fn nothing_kept(alloc: Global, count: usize) -> Result<Vec<Option<Text>>, OutOfM
     Ok(kept)
 }
 
-// The lines of all queries of a document, in order, over its system.
+// The lines of all queries of a document, in order, over its system. One worker's search makes its weights by others like the given object.
 fn lines_over<
     H: Threads + Wait + Sync,
     S: DocumentWeights<W: Send + Sync, Ret: Send + Sync> + Send + Sync,
+    M: Weigher<S>,
     G: Gate,
 >(
     crew: &Crew<'_, H, G>,
     alloc: Global,
     system: &System<S>,
+    weigher: M,
     document: &Document<Names>,
     options: Options,
 ) -> Result<Text, OutOfMemory>
+    requires weigher { M.pushdown weigher ≡ system.now }
     requires document { IsDocument document.now }
     requires system { system.now ≡ system_of S.kind system.now.semiring document.now }
     requires workers { IsWorkerCount options.workers }
@@ -287,7 +293,7 @@ fn lines_over<
 {
     let count = document.queries.len();
     let mut kept = nothing_kept(alloc, count)?;
-    let mut values = Values::new(system, options.by, options.workers);
+    let mut values = Values::new(system, options.by, options.workers, weigher);
     let mut text = Vec::new(alloc);
     for place in 0..count {
         let lines = lines_at(
@@ -323,7 +329,8 @@ fn report_over<
     ensures { IfOk result (IsReported S.kind options semiring document.now) }
 {
     let system = system_from(alloc, semiring, document)?;
-    lines_over(crew, alloc, &system, document, options)
+    let weigher = PlainWeigher::new(alloc, &system);
+    lines_over(crew, alloc, &system, weigher, document, options)
 }
 
 /// The costs up to a cap that a document names.
@@ -386,7 +393,9 @@ fn relations_report<H: Threads + Wait + Sync, G: Gate>(
 {
     let variables = document.items.len() as u32;
     let relations = Relations::keeping_results(alloc, variables);
-    report_over(crew, alloc, relations, document, options)
+    let system = system_from(alloc, relations, document)?;
+    let weigher = NodeWeigher::new(alloc, &system)?;
+    lines_over(crew, alloc, &system, weigher, document, options)
 }
 
 /// The report on a document, over the semiring that its weights name.

@@ -21,6 +21,7 @@ use semiring_laws::Semiring;
 use std::alloc::Global;
 use std::sync::Wait;
 use std::thread::Threads;
+use weight_tables::Weigher;
 use wpds_base::OutOfMemory;
 use wpds_port::{Gate, Text};
 
@@ -121,6 +122,7 @@ fn kind_computes<S: DocumentWeights>()
 pub(crate) fn lines_by_values<
     H: Threads + Wait + Sync,
     S: DocumentWeights<W: Send + Sync, Ret: Send + Sync> + Send + Sync,
+    M: Weigher<S>,
     G: Gate,
 >(
     crew: &Crew<'_, H, G>,
@@ -130,7 +132,7 @@ pub(crate) fn lines_by_values<
     options: Options,
     place: usize,
     kept: &mut [Option<Text>],
-    values: &mut Values<'_, S>,
+    values: &mut Values<'_, S, M>,
 ) -> Result<Text, OutOfMemory>
     requires document { IsDocument document.now }
     requires system { system.now ≡ system_of S.kind system.now.semiring document.now }

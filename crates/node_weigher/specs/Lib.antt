@@ -1,0 +1,3 @@
+pub mod NodeWeighers
+pub mod WeigherLaws
+pub mod private
