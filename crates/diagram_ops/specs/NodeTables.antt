@@ -1,5 +1,5 @@
 -- What stays as nodes are added to a table, and relations among its references.
-use Rattle.std.specs.Prelude.{◌≡◌, ℕ, Bool, List, Some}
+use Rattle.std.specs.Prelude.{◌≡◌, ℕ, Bool, IsTrue, List, Some}
 use Rattle.diagram_store.specs.declared.branch.Branch.{Branch}
 use Rattle.diagram_store.specs.Nodes.{node_at, HasVariablesBelow}
 use Rattle.diagram_store.specs.Meaning.{value_at}
@@ -16,3 +16,7 @@ KeepsLimits old new = (limit : ℕ) → HasVariablesBelow limit old → HasVaria
 -- whether the relation of a reference leads from the old state to the new one
 abbrev pub leads_at : List Branch → ℕ → (ℕ → Bool) → (ℕ → Bool) → Bool
 leads_at nodes r old new = value_at nodes r (of_states old new)
+
+-- the first reference leads from the old state to some state in the middle, and the second from there to the new one
+abbrev pub LeadsThrough : List Branch → ℕ → ℕ → (ℕ → Bool) → (ℕ → Bool) → Type 0
+LeadsThrough nodes a b old new = (middle : ℕ → Bool) × IsTrue (leads_at nodes a old middle) × IsTrue (leads_at nodes b middle new)

@@ -1,6 +1,6 @@
 ghost use Rattle.std.specs.Prelude.{◌≡◌, ◌↔◌, ◌+◌, ◌*◌, ◌/◌, ◌%◌, ◌<◌, ◌^◌, ℕ, Bool, true, false, IsTrue, IfOk, IfSome, length, option_map};
 ghost use Rattle.diagram_store.specs.Nodes.{IsAbove, IsReduced, HasVariablesBelow};
-ghost use Rattle.diagram_ops.specs.NodeTables.{Keeps, KeepsLimits, leads_at};
+ghost use Rattle.diagram_ops.specs.NodeTables.{Keeps, KeepsLimits, leads_at, LeadsThrough};
 ghost use Rattle.diagram_ops.specs.declared.composing.Operand.TheVariants.{First, Second};
 ghost use Rattle.diagram_ops.specs.private.Applying.{lower, place_in, cofactor_of};
 ghost use Rattle.diagram_ops.specs.private.Composing.{IsJoined};
@@ -126,9 +126,8 @@ impl NodeTable {
         ensures keeps { Keeps self.old self.new }
         ensures limits { KeepsLimits self.old self.new }
         ensures within { IfOk result (λ r. r < length self.new + 2) }
-        ensures leads { IfOk result (λ r. (old new : ℕ → Bool) → IsTrue (leads_at self.new r old new)
-            ↔ ((middle : ℕ → Bool) × IsTrue (leads_at self.new x old middle)
-            × IsTrue (leads_at self.new y middle new))) }
+        ensures leads { let nodes = self.new in IfOk result (λ r. (old new : ℕ → Bool) →
+            IsTrue (leads_at nodes r old new) ↔ LeadsThrough nodes x y old new) }
     {
         self.valid();
         let made = compose(self, x, y)?;

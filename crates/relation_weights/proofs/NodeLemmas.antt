@@ -7,7 +7,7 @@ use Rattle.diagram_store.specs.Nodes.{HasVariablesBelow, IsReduced}
 use Rattle.diagram_store.specs.Meaning.{value_at, TellsReferences}
 use Rattle.diagram_store.proofs.CallerLemmas.{reads_below, value_at_end}
 use Rattle.diagram_ops.specs.Relations.{of_states}
-use Rattle.diagram_ops.specs.NodeTables.{leads_at, Keeps}
+use Rattle.diagram_ops.specs.NodeTables.{leads_at, Keeps, LeadsThrough}
 use Rattle.diagram_ops.proofs.CallerLemmas.{keeps_value, keeps_within, same_bits}
 use Rattle.relation_laws.specs.Building.{Parts}
 use Rattle.relation_laws.specs.States.{old_state, new_state}
@@ -19,7 +19,7 @@ use Rattle.relation_weights.specs.declared.rel_map.Slot.{Slot}
 use Rattle.relation_weights.specs.declared.rel_map.RelMap.TheVariants.{Slots}
 use Rattle.relation_weights.specs.Relations.{after_of, map_fits, relation_operations, source_of}
 use Rattle.relation_weights.specs.RelationLaws.{source_reads}
-use Rattle.relation_weights.specs.RelationNodes.{NodesOf, AreRelations, HasMore, HasReturnParts, IsReference, IsReturnBy, LeadsThrough, relation_at}
+use Rattle.relation_weights.specs.RelationNodes.{NodesOf, AreRelations, HasMore, HasReturnParts, IsReference, IsReturnBy, relation_at}
 use Rattle.relation_weights.specs.private.KeptNodes.{AreKept}
 use Rattle.relation_weights.proofs.OperationLemmas.{composed}
 use Rattle.relation_weights.proofs.ReturnLemmas.{returned_is}

@@ -26,10 +26,6 @@ IsReference v r = r < length v.nodes + 2
 abbrev pub relation_at : NodesOf → ℕ → Parts
 relation_at v r = relation_of v.bits (leads_at v.nodes r)
 
--- the first reference leads from the old state to some state in the middle, and the second from there to the new one
-abbrev pub LeadsThrough : List Branch → ℕ → ℕ → (ℕ → Bool) → (ℕ → Bool) → Type 0
-LeadsThrough nodes a b old new = (middle : ℕ → Bool) × IsTrue (leads_at nodes a old middle) × IsTrue (leads_at nodes b middle new)
-
 -- Nodes are added: each reference is one still, and leads from and to the same states.
 pub record HasMore (old new : NodesOf) : Type 0 where
   pub bits : new.bits ≡ old.bits

@@ -3,11 +3,11 @@
 ghost use Rattle.std.specs.Prelude.{◌≡◌, ◌↔◌, ◌≤◌, ◌+◌, ◌*◌, ◌&&◌, ◌||◌, ℕ, Bool, List, IsTrue, IfOk, length};
 ghost use Rattle.wpds_base.specs.Limits.{most_related};
 ghost use Rattle.diagram_store.specs.Diagrams.{IsOver};
-ghost use Rattle.diagram_ops.specs.NodeTables.{leads_at};
+ghost use Rattle.diagram_ops.specs.NodeTables.{leads_at, LeadsThrough};
 ghost use Rattle.diagram_ops.specs.Relations.{relates};
 ghost use Rattle.semiring_laws.specs.Semiring.{Fits, FitsMap};
 ghost use Rattle.relation_weights.specs.Relations.{after_of, relation_operations};
-ghost use Rattle.relation_weights.specs.RelationNodes.{AreRelations, HasMore, HasReturnParts, IsReference, IsReturnBy, LeadsThrough, relation_at};
+ghost use Rattle.relation_weights.specs.RelationNodes.{AreRelations, HasMore, HasReturnParts, IsReference, IsReturnBy, relation_at};
 ghost use Rattle.relation_weights.specs.private.KeptNodes.{AreKept};
 ghost use Rattle.relation_weights.specs.declared.rel_map.RelMap.{RelMap as RelMapValue};
 ghost use Rattle.relation_weights.specs.declared.rel_map.Slot.{Slot as SlotValue};
