@@ -12,6 +12,7 @@ use crate::rules::{RuleReturn, RuleWeight};
 use key_rows::KeyedList;
 use pushdown_rules::System;
 use relation_weights::{RelMap, Relation, RelationNodes, Relations, ReturnNodes};
+use semiring_laws::Semiring;
 use std::alloc::Global;
 use std::marker::Model;
 use weight_tables::Weigher;
