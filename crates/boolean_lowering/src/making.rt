@@ -190,8 +190,8 @@ impl<'p> Making<'p> {
         ensures { result ≡ map_slot (program_in self.now) targets.now variable }
     {
         match place_among(self.layout, targets, variable) {
-            Some(place) => Slot::Callee((self.layout.globals as usize + place) as u32),
-            None if variable < self.layout.globals => Slot::Callee(variable),
+            Some(place) => Slot::Callee((self.layout.globals as usize + place) as u8),
+            None if variable < self.layout.globals => Slot::Callee(variable as u8),
             None => Slot::Caller,
         }
     }

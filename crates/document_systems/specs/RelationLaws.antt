@@ -61,7 +61,7 @@ relation_weights_fit n (Number k) = (relation_laws n).fits-one
 relation_weights_fit n (Facts ss) = (relation_laws n).fits-one
 relation_weights_fit n (Forms ps) = (relation_laws n).fits-one
 
-moved_below : (n : ℕ) (ms : List Move) → AllByRecursion (λ k. k < n) (map (λ m. m.from) ms) → (v : ℕ) → v < n → moved_from ms v < n
+pub moved_below : (n : ℕ) (ms : List Move) → AllByRecursion (λ k. k < n) (map (λ m. m.from) ms) → (v : ℕ) → v < n → moved_from ms v < n
 moved_below n [] all v low = low
 moved_below n (m ∷ ms) all v low = go (nat_eq m.to v) (moved_below n ms all.1 v low)
   where

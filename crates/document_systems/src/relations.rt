@@ -1,12 +1,12 @@
 //! Relations between variables as weights of a document.
 
-ghost use Rattle.std.specs.Prelude.{◌≡◌, ◌%◌, [], fold, map, All, IfOk, codes, nat_eq, if◌then◌else◌, refl};
+ghost use Rattle.std.specs.Prelude.{◌≡◌, ◌<◌, ◌%◌, [], fold, map, All, IfOk, codes, nat_eq, if◌then◌else◌, refl};
 ghost use Rattle.std.specs.List.{range_with_len};
 ghost use Rattle.wpds_base.specs.Limits.{most_related};
 ghost use Rattle.semiring_laws.specs.Semiring.{Fits};
 ghost use Rattle.relation_laws.specs.Relations.{relation_of};
 ghost use Rattle.relation_weights.specs.Relations.{relation_operations};
-ghost use Rattle.document_forms.specs.Lawful.{IsAction};
+ghost use Rattle.document_forms.specs.Lawful.{AreBelow, IsAction};
 ghost use Rattle.document_systems.specs.RelationWeights as spec;
 ghost use Rattle.document_systems.specs.RelationWeights.{relation_kind, value_of, target_of, allowed, and_then};
 ghost use Rattle.document_systems.specs.RelationLaws.{relation_weights_fit, relation_maps_fit, relation_tells, relation_zero};
@@ -102,16 +102,19 @@ fn moved_from(moves: &[Move], variable: u32) -> u32
 
 // Where a variable comes from behind a call.
 fn slot_of(text: &MapText, variable: u32) -> Slot
+    requires moves { AreBelow most_related (map (λ m. m.from) text.now.moves) }
+    requires variable { variable < most_related }
     ensures { result ≡ spec.slot_of text.now variable }
 {
     if text.restore.as_slice().contains(&variable) {
         return Slot::Caller;
     }
-    Slot::Callee(moved_from(text.moves.as_slice(), variable))
+    Slot::Callee(moved_from(text.moves.as_slice(), variable) as u8)
 }
 
 // Where each variable comes from.
 fn slots_of(text: &MapText) -> [Slot; 24]
+    requires { AreBelow most_related (map (λ m. m.from) text.now.moves) }
     ensures { result ≡ map (spec.slot_of text.now) (range_with_len 0 most_related) }
 {
     let mut slots = [Slot::Caller; 24];
@@ -188,6 +191,7 @@ impl DocumentWeights for Relations {
     }
 
     fn map_of(&self, _alloc: Global, text: &MapText) -> Result<RelMap, OutOfMemory> {
+        let _bits = self.bits();
         Ok(RelMap::Slots(slots_of(text)))
     }
 

@@ -23,7 +23,7 @@ fn slot_at(map: &RelMap, variable: u32) -> Slot
     ensures { result ≡ slot_at map.now variable }
 {
     match map {
-        RelMap::Plain => Slot::Callee(variable),
+        RelMap::Plain => Slot::Callee(variable as u8),
         RelMap::Slots(slots) => slots[variable as usize],
     }
 }
@@ -45,7 +45,7 @@ fn bits_back(
     let mut wanted = Vec::with_capacity(alloc, n as usize)?;
     for k in 0..n {
         if let Slot::Callee(from) = slot_at(map, k) {
-            wanted.push((from, behind[k as usize]))?;
+            wanted.push((u32::from(from), behind[k as usize]))?;
         }
     }
     Ok(wanted)
