@@ -13,7 +13,8 @@ returns-in_ok-new-in-Callee-clause-pairs c =
     h (of_states x y)
     ∙ moved_value (relates c.args.made x y) (relates c.in_ok-new-in-Callee.new x y) (relates c.in_ok-old-in-Callee.old x y)
     (y c.args.number) (x c.in-Callee.from) (nat_eq c.in-Callee.from c.args.number)
-    (c.in_ok-new-in-Callee.ensures.value x y) (c.in_ok-old-in-Callee.ensures.value x y ∙ ap x c.from-in-Callee.ensures) (ne_eqb c.in-Callee.from c.args.number c.if-from-number.true)
+    (c.in_ok-new-in-Callee.ensures.value x y) (c.in_ok-old-in-Callee.ensures.value x y ∙ ap x c.from-in-Callee.ensures)
+    (ne_eqb c.in-Callee.from c.args.number (λ e. c.if-from-number.true (c.from.ensures ∙ e)))
     ∙ ap (λ s. relates c.args.made x y && far_bit c.args.number s x (y c.args.number)) (sym c.in-Callee.is)) c.apply_table3.ensures.value
 
 pub returns-in_ok-new-in-Callee-clause-variables : goal.returns-in_ok-new-in-Callee-clause-variables
