@@ -1,5 +1,5 @@
 -- The header of a text, and its lines behind it.
-use Rattle.std.proofs.Common.{◌≡◌, ◌≤◌, ℕ, ◌+◌, Bool, true, false, not, List, [], ◌∷◌, length, map, Option, None, Some, sym, ap, ap₂, ◌∙◌, arith}
+use Rattle.std.proofs.Common.{◌≡◌, ◌≤◌, ℕ, ◌+◌, Bool, true, false, not, List, ◌∷◌, length, map, Option, None, Some, sym, ap, ap₂, ◌∙◌, arith}
 use Rattle.std.specs.Prelude.{nat_lt, Result, Ok, Err}
 use Rattle.std.proofs.lemmas.Bool.{false_from_ne_true, ltb-true}
 use Rattle.wpds_base.specs.Faults.{first_fault}
@@ -31,15 +31,6 @@ pub header_refused : (after : ℕ) (bytes : List ℕ) (h : Said) (ls : List Said
 unfolding by_header
 header_refused after bytes h ls k e f = ap (lines_refusal after) e ∙ ap (by_header after h ls) f
 
-behind : List Said → List Said
-behind [] = []
-behind (h ∷ ls) = ls
-
--- what is behind a header does not depend on who went there
-pub same_behind : (bytes : List ℕ) (a b : Left) → IsBehindHeader bytes a → IsBehindHeader bytes b → map said a.lines ≡ map said b.lines
-unfolding behind
-same_behind bytes a b p q = ap behind (sym p.split ∙ q.split)
-
 by_length : List ℕ → Bool → Option Refusal
 by_length bytes b = elim b [ false ↦ Some (refusal 0 TooLong) | true ↦ lines_refusal (length (lines bytes) + 1) (said_lines bytes) ]
 
@@ -59,6 +50,16 @@ is_program bytes rest few p found =
     ap (by_refusal (said_lines bytes)) (ap (by_length bytes) (short bytes few) ∙ ap (lines_refusal after) p.split ∙ ap (by_header after p.header ls) p.kind
     ∙ ap (λ n. found_in n rest.lines) (sym p.after) ∙ found)
     ∙ ap (λ k. Ok (program_of (stated (body k)))) p.split
+
+-- and one with a refusal in its lines is refused so
+pub is_refused : (bytes : List ℕ) (rest : Left) (r : Refusal) → length bytes ≤ most_bytes → IsBehindHeader bytes rest
+    → found_in rest.after rest.lines ≡ Some r → read_as bytes ≡ Err r
+unfolding by_header by_length by_refusal
+is_refused bytes rest r few p found =
+    let ls = map said rest.lines in
+    let after = length (lines bytes) + 1 in
+    ap (by_refusal (said_lines bytes)) (ap (by_length bytes) (short bytes few) ∙ ap (lines_refusal after) p.split ∙ ap (by_header after p.header ls) p.kind
+    ∙ ap (λ n. found_in n rest.lines) (sym p.after) ∙ found)
 
 pub same_program : (ls : List Stated) (names : List (List ℕ)) (r : Reading) → names ≡ (whole ls).globals → HasRead (whole ls) ls r
     → program_now names r ≡ program_of ls

@@ -1,5 +1,5 @@
 -- The second walk over the lines.
-use Rattle.std.proofs.Common.{◌≡◌, ℕ, ◌+◌, cond, List, [], ◌∷◌, ◌++◌, map, Option, None, Some, refl, sym, ap, ◌∙◌, append_assoc, append-nil, arith}
+use Rattle.std.proofs.Common.{◌≡◌, ℕ, suc, ◌+◌, ◌<◌, cond, List, [], ◌∷◌, ◌++◌, length, drop, drop-cons, get_or, add-one, map, Option, None, Some, refl, sym, ap, subst, ◌∙◌, append_assoc, append-nil, arith}
 use Rattle.std.specs.Prelude.{option_map, Ok, Err}
 use Rattle.wpds_base.specs.Faults.{first_fault}
 use Rattle.wpds_port.specs.declared.Kind.{Kind}
@@ -12,6 +12,8 @@ use Rattle.program_forms.specs.Places.{Place, said, at_top, Stated, Judged, judg
 use Rattle.program_forms.specs.Declared.{Whole, whole}
 use Rattle.program_forms.specs.Above.{is_proc}
 use Rattle.program_forms.specs.FirstRefusal.{kind_below, first_refused, end_conditions}
+use Rattle.program_tables.specs.Judging.{IsStated, IsRefused, AreJudged}
+use Rattle.program_tables.specs.declared.walk.StatedLine.{StatedLine}
 use Rattle.boolean_syntax.specs.private.Found.{judged_lines, stated_lines, found_in, IsOnTheWay}
 use Rattle.boolean_syntax.proofs.MoreLemmas.{count_more}
 
@@ -112,3 +114,48 @@ found_at_end w after all p left above k s h o e =
   where
     found_with : Whole → Option Refusal → List Stated → Option Refusal
     found_with v x ls = elim x [ Some r ↦ Some r | None ↦ option_map (refusal after) (first_fault (end_conditions v ls)) ]
+
+-- ---- what the first walk kept
+
+pub next_kept : {X : Type 0} (xs : List X) (k : ℕ) (x : X) → k < length xs → x ≡ get_or xs k x → drop k xs ≡ x ∷ drop (k + 1) xs
+next_kept xs k x h e =
+    drop-cons xs k x h ∙ ap (λ z. z ∷ drop (suc k) xs) (sym e) ∙ ap (λ j. x ∷ drop j xs) (sym (add-one k))
+
+-- the first that is kept is the first of the lines that are left
+pub first_kept : (p : Place) (left : List Line) (ts below : List StatedLine) (r : Option Refusal) (t : StatedLine)
+    → ts ≡ t ∷ below → AreJudged p left ts r
+    → (l : Line) × (rest : List Line) × (left ≡ l ∷ rest) × IsStated p l t × AreJudged (place_behind p (judged p (said l))) rest below r
+first_kept p left ts below r t e h = go left (subst (λ us. AreJudged p left us r) e h)
+  where
+    no : t ∷ below ≡ [] → ⊥
+    no n = cc
+
+    go : (ls : List Line) → AreJudged p ls (t ∷ below) r
+        → (l : Line) × (rest : List Line) × (ls ≡ l ∷ rest) × IsStated p l t × AreJudged (place_behind p (judged p (said l))) rest below r
+    go [] g = absurd (no g.0)
+    go (l ∷ ls) g = (l, ls, refl, g.0, g.1)
+
+-- where none is kept and none was refused, none is left
+pub none_kept : (p : Place) (left : List Line) (ts : List StatedLine) (r : Option Refusal)
+    → ts ≡ [] → r ≡ None → AreJudged p left ts r → left ≡ []
+none_kept p left ts r e n h = go left (subst (λ us. AreJudged p left us r) e h)
+  where
+    no : (x : Refusal) → r ≡ Some x → ⊥
+    no x s = cc
+
+    go : (ls : List Line) → AreJudged p ls [] r → ls ≡ []
+    go [] g = refl
+    go (l ∷ ls) g = absurd (no (refusal l.number g.kind) g.told)
+
+-- where none is kept and one was refused, it is the first that is left
+pub refusal_kept : (p : Place) (left : List Line) (ts : List StatedLine) (r : Option Refusal) (x : Refusal)
+    → ts ≡ [] → r ≡ Some x → AreJudged p left ts r
+    → (l : Line) × (rest : List Line) × (left ≡ l ∷ rest) × IsRefused p l (Some x)
+refusal_kept p left ts r x e s h = go left (subst (λ us. AreJudged p left us r) e h)
+  where
+    no : r ≡ None → ⊥
+    no n = cc
+
+    go : (ls : List Line) → AreJudged p ls [] r → (l : Line) × (rest : List Line) × (ls ≡ l ∷ rest) × IsRefused p l (Some x)
+    go [] g = absurd (no g.1)
+    go (l ∷ ls) g = (l, ls, refl, subst (λ o. IsRefused p l o) s g)

@@ -5,20 +5,21 @@ ghost use Rattle.wpds_base.specs.Faults.{first_fault};
 ghost use Rattle.wpds_port.specs.declared.Refusal.{Refusal as RefusalValue};
 ghost use Rattle.wpds_port.specs.Refusals.{refusal};
 ghost use Rattle.wpds_port.specs.Words.{text_words};
-ghost use Rattle.document_forms.specs.Lines.{lines, is_text as is_text_as};
+ghost use Rattle.document_forms.specs.Lines.{Line as LineValue, lines, is_text as is_text_as};
 ghost use Rattle.program_forms.specs.Declared.{Whole, whole};
 ghost use Rattle.program_forms.specs.FirstRefusal.{lines_refusal, said_lines, header_conditions};
 ghost use Rattle.program_forms.specs.Places.{Said, said, Stated};
 ghost use Rattle.program_forms.specs.Programs.{read_as};
+ghost use Rattle.program_tables.specs.Judging.{IsStated};
 ghost use Rattle.program_tables.specs.Tables.{AreTablesOf};
-ghost use Rattle.boolean_syntax.specs.private.Found.{stated_lines, found_in, IsBehindHeader};
+ghost use Rattle.boolean_syntax.specs.private.Found.{stated_lines, found_in, IsBehindHeader, AreWalked};
 ghost use Rattle.boolean_syntax.specs.private.Readings.{HasRead, IsGone, end_kind_of, program_now};
 
 use crate::body::take_line;
 use crate::reading::Reading;
 use boolean_programs::{Program, ProgramQueries};
-use document_reader::{Line, Lines, is_first_version, is_text};
-use program_tables::{Place, Tables, judge, read_tables};
+use document_reader::{Lines, is_first_version, is_text};
+use program_tables::{Place, StatedLine, StatedLines, Tables, read_tables};
 use std::alloc::Global;
 use wpds_base::OutOfMemory;
 use wpds_port::{Kind, ReadFault, Refusal, Words};
@@ -40,9 +41,8 @@ pub fn read_program(alloc: Global, bytes: &[u8]) -> Result<Program, ReadFault>
         return Err(refused(0, Kind::TooLong));
     }
     let header = read_header(bytes)?;
-    let tables = read_tables(alloc, header)?;
-    let lines = read_header(bytes)?;
-    let reading = read_body(alloc, &tables, lines)?;
+    let (tables, stated) = read_tables(alloc, header)?;
+    let reading = read_body(alloc, &tables, stated, Lines::new(bytes))?;
     Ok(program(alloc, tables, reading)?)
 }
 
@@ -83,27 +83,24 @@ fn read_header<'t>(bytes: &'t [u8]) -> Result<Lines<'t>, ReadFault>
     }
 }
 
-// Reads a line at a place, and goes behind it; or tells the kind by which it is refused.
+// Reads a line that may stand at a place, and goes behind it; or tells the kind by which it is
+// refused below those above it.
 fn read_line<'t>(
     alloc: Global,
     tables: &Tables<'t>,
     place: &mut Place,
     reading: &mut Reading<'t>,
-    line: Line<'t>,
+    line: &StatedLine<'t>,
 ) -> Result<Option<Kind>, OutOfMemory>
-    ensures { (w : Whole) (above : List Stated) → AreTablesOf w tables.now
-        → HasRead w above reading.old → IfOk result (IsGone w above place.old place.new
-        (record { number = line.entry.number; bytes = line.entry.bytes.now }) reading.new) }
+    ensures { (w : Whole) (above : List Stated) (l : LineValue) → AreTablesOf w tables.now
+        → HasRead w above reading.old → IsStated place.old l line.now
+        → IfOk result (IsGone w above place.old place.new l reading.new) }
 {
-    let text = match judge(alloc, place, line.bytes)? {
-        Ok(text) => text,
-        Err(kind) => return Ok(Some(kind)),
-    };
     let number = u32::try_from(line.number).map_err(|_| OutOfMemory)?;
-    if let Some(kind) = take_line(alloc, tables, place, reading, number, &text)? {
+    if let Some(kind) = take_line(alloc, tables, place, reading, number, &line.text)? {
         return Ok(Some(kind));
     }
-    place.advance(&text)?;
+    place.advance(&line.text)?;
     Ok(None)
 }
 
@@ -124,27 +121,32 @@ fn end_kind(tables: &Tables<'_>, begun: u32, reading: &Reading<'_>) -> Option<Ki
     None
 }
 
-// Reads the lines behind the header.
+// Reads what the first walk over the lines behind the header kept of them, and lets it go. The
+// number of the line after the last is that of all lines.
 fn read_body<'t>(
     alloc: Global,
     tables: &Tables<'t>,
-    mut lines: Lines<'t>,
+    stated: StatedLines<'t>,
+    lines: Lines<'_>,
 ) -> Result<Reading<'t>, ReadFault>
-    ensures read { AreTablesOf (whole (stated_lines lines.entry.lines)) tables.now → IfOk result
-        (HasRead (whole (stated_lines lines.entry.lines)) (stated_lines lines.entry.lines)) }
-    ensures whole { AreTablesOf (whole (stated_lines lines.entry.lines)) tables.now
-        → IfOk result (λ _. found_in lines.entry.after lines.entry.lines ≡ None) }
-    ensures refused { (r : RefusalValue)
-        → AreTablesOf (whole (stated_lines lines.entry.lines)) tables.now
+    ensures read { (ls : List LineValue) → AreWalked ls tables.now stated.entry
+        → IfOk result (HasRead (whole (stated_lines ls)) (stated_lines ls)) }
+    ensures whole { (ls : List LineValue) → AreWalked ls tables.now stated.entry
+        → IfOk result (λ _. found_in lines.entry.after ls ≡ None) }
+    ensures refused { (ls : List LineValue) (r : RefusalValue)
+        → AreWalked ls tables.now stated.entry
         → result ≡ Err (ReadFault.Refused r)
-        → found_in lines.entry.after lines.entry.lines ≡ Some r }
+        → found_in lines.entry.after ls ≡ Some r }
 {
     let mut reading = Reading::new(alloc, tables)?;
     let mut place = Place::at_top(alloc);
-    while let Some(line) = lines.next() {
+    for line in &stated.lines {
         if let Some(kind) = read_line(alloc, tables, &mut place, &mut reading, line)? {
             return Err(refused(line.number, kind));
         }
+    }
+    if let Some(refusal) = stated.refused {
+        return Err(ReadFault::Refused(refusal));
     }
     match end_kind(tables, place.begun(), &reading) {
         Some(kind) => Err(refused(lines.after(), kind)),

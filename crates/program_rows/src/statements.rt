@@ -16,7 +16,7 @@ const NONE: [bool; 6] = [false; 6];
 // What is amiss with a statement below the program's first procedure, by the numbers of kinds: 5, 6,
 // 7, 9, 11, 13.
 fn faults(alloc: Global, line: &[u8]) -> Result<[bool; 6], OutOfMemory> {
-    let tables = read_tables(alloc, Lines::new(PROGRAM))?;
+    let (tables, _) = read_tables(alloc, Lines::new(PROGRAM))?;
     let scope = Scope {
         names: tables.globals.copy(alloc)?,
         returns: 2,

@@ -4,7 +4,7 @@ use document_reader::Lines;
 use program_tables::{Block, Place, judge, read_tables};
 use std::alloc::Global;
 use wpds_base::OutOfMemory;
-use wpds_port::Kind;
+use wpds_port::{Kind, Refusal};
 
 // The lines of a program, one after the other, each with the kind by which it is refused for itself
 // or for its place.
@@ -97,7 +97,7 @@ const PROGRAM: &[u8] = b"global a b a\n\
 
 #[test]
 fn tables_have_what_stands_first(rt: HostRuntime) -> Result<(), OutOfMemory> {
-    let tables = read_tables(rt.alloc(), Lines::new(PROGRAM))?;
+    let (tables, _) = read_tables(rt.alloc(), Lines::new(PROGRAM))?;
     let globals: [&[u8]; 4] = [b"a", b"b", b"c", b"d"];
     let numbers = [Some(0), Some(1), None, Some(2)];
     assert_eq!(rt; tables.globals.len(), 3);
@@ -122,5 +122,21 @@ fn tables_have_what_stands_first(rt: HostRuntime) -> Result<(), OutOfMemory> {
         let row = tables.label(name);
         assert_eq!(rt; row.map(|row| (row.line, row.begun, row.asserts)), wanted);
     }
+    Ok(())
+}
+
+#[test]
+fn lines_are_kept_up_to_the_first_that_is_refused(rt: HostRuntime) -> Result<(), OutOfMemory> {
+    let (_, kept) = read_tables(rt.alloc(), Lines::new(PROGRAM))?;
+    assert_eq!(rt; kept.lines.len(), 5);
+    assert_eq!(rt; kept.lines.last().map(|line| line.number), Some(5));
+    let refused = Refusal {
+        line: 6,
+        kind: Kind::Form,
+    };
+    assert_eq!(rt; kept.refused, Some(refused));
+    let (_, kept) = read_tables(rt.alloc(), Lines::new(b"global a\n\nproc f()\nend\n"))?;
+    assert_eq!(rt; kept.lines.last().map(|line| line.number), Some(4));
+    assert_eq!(rt; kept.refused, None);
     Ok(())
 }

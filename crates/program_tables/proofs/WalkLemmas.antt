@@ -1,18 +1,21 @@
 -- What lines declare, with a line more.
-use Rattle.std.proofs.Common.{◌≡◌, ℕ, max, Bool, cond, List, [], ◌∷◌, ◌++◌, length, map, Some, refl, sym, ap, ◌∙◌, append_assoc}
-use Rattle.std.specs.Prelude.{option_map, unwrap_or, bytes_eq, flat_map, Ok, Err}
+use Rattle.std.proofs.Common.{◌≡◌, ℕ, max, Bool, cond, List, [], ◌∷◌, ◌++◌, length, map, Some, refl, sym, ap, ◌∙◌, append_assoc, append-nil, Option, None, subst}
+use Rattle.std.specs.Prelude.{option_map, is_some, unwrap_or, bytes_eq, flat_map, Ok, Err}
 use Rattle.wpds_port.specs.declared.Kind.{Kind}
+use Rattle.wpds_port.specs.declared.Refusal.{Refusal}
 use Rattle.document_forms.specs.Lines.{Line}
 use Rattle.document_forms.specs.Names.{once}
 use Rattle.document_reader.proofs.CallerLemmas.{once_again}
 use Rattle.program_forms.specs.Forms.{StatementForm, LineForm, GlobalForm, ProcForm, Stating}
-use Rattle.program_forms.specs.Places.{Place, said, Stated, Judged, judged, judged_from, stated, place_behind, next_place}
+use Rattle.program_forms.specs.Places.{Place, said, at_top, Stated, Judged, judged, judged_from, stated, place_behind, next_place}
 use Rattle.program_forms.specs.Declared.{globals_on, procs_on, labels_on, ProcHead, LabelLine, is_assert, globals, procs, labels, whole, most_returns, proc_named, label_named}
-use Rattle.program_tables.specs.private.Walks.{HasWalked}
+use Rattle.program_tables.specs.private.Walks.{HasWalked, AreJudgedAbove}
+use Rattle.program_tables.specs.Judging.{IsStated, IsRefused, AreJudged}
 use Rattle.program_tables.specs.Tables.{proc_row, label_row, at_name, AreTablesOf}
 use Rattle.program_tables.specs.declared.tables.ProcRow.{ProcRow}
 use Rattle.program_tables.specs.declared.tables.LabelRow.{LabelRow}
 use Rattle.program_tables.specs.declared.tables.Tables.{Tables}
+use Rattle.program_tables.specs.declared.walk.StatedLine.{StatedLine}
 use Rattle.program_tables.proofs.TableLemmas.{flat_with, flat_same, most_more, row_more}
 
 abbrev row_with : ℕ → ℕ → ℕ → ProcRow
@@ -152,3 +155,40 @@ pub walked_refused : (done : List Stated) (p : Place) (l : Line) (r : ℕ × Kin
     → AreTablesOf (whole done) t → HasWalked done p p l t
 walked_refused done p l r t e h =
     record { lines = done; tables = h; rest = λ ls. ap (λ k. done ++ k) (walk_refused p l ls r e) }
+
+-- ---- what is kept of the lines
+
+pub none_judged : (all : List Line) (p : Place) → p ≡ at_top → AreJudgedAbove all p all [] None
+none_judged all p e = λ below r h. subst (λ q. AreJudged q all below r) e h
+
+-- a line that may stand is kept, if none above was refused
+pub keeps_stated : (all left : List Line) (p q : Place) (l : Line) (t : StatedLine) (old new : List StatedLine) (o n : Option Refusal)
+    → IsStated p l t → q ≡ place_behind p (judged p (said l)) → new ≡ cond (is_some o) old (old ++ t ∷ []) → n ≡ o
+    → AreJudgedAbove all p (l ∷ left) old o → AreJudgedAbove all q left new n
+keeps_stated all left p q l t old new o n s e m k h =
+    subst (λ x. AreJudgedAbove all q left new x) (sym k) (subst (λ ts. AreJudgedAbove all q left ts o) (sym m) (go o h))
+  where
+    go : (x : Option Refusal) → AreJudgedAbove all p (l ∷ left) old x → AreJudgedAbove all q left (cond (is_some x) old (old ++ t ∷ [])) x
+    go None g = λ below r j.
+        subst (λ ts. AreJudged at_top all ts r) (sym (append_assoc old (t ∷ []) below))
+        (g (t ∷ below) r (s, subst (λ place. AreJudged place left below r) e j))
+    go (Some r) g = g
+
+-- the first refusal is kept
+pub keeps_refused : (all left : List Line) (p q : Place) (l : Line) (r : Refusal) (old new : List StatedLine) (o n : Option Refusal)
+    → IsRefused p l (Some r) → new ≡ old → n ≡ cond (is_some o) o (Some r)
+    → AreJudgedAbove all p (l ∷ left) old o → AreJudgedAbove all q left new n
+keeps_refused all left p q l r old new o n s m k h =
+    subst (λ x. AreJudgedAbove all q left new x) (sym k) (subst (λ ts. AreJudgedAbove all q left ts (cond (is_some o) o (Some r))) (sym m) (go o h))
+  where
+    go : (x : Option Refusal) → AreJudgedAbove all p (l ∷ left) old x → AreJudgedAbove all q left old (cond (is_some x) x (Some r))
+    go None g = subst (λ ts. AreJudged at_top all ts (Some r)) (append-nil old) (g [] (Some r) s)
+    go (Some x) g = g
+
+pub all_judged : (all left : List Line) (p : Place) (above : List StatedLine) (o : Option Refusal)
+    → left ≡ [] → AreJudgedAbove all p left above o → AreJudged at_top all above o
+all_judged all left p above o e h = go o (subst (λ ls. AreJudgedAbove all p ls above o) e h)
+  where
+    go : (x : Option Refusal) → AreJudgedAbove all p [] above x → AreJudged at_top all above x
+    go None g = subst (λ ts. AreJudged at_top all ts None) (append-nil above) (g [] None (refl, refl))
+    go (Some r) g = g

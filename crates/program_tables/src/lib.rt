@@ -9,4 +9,4 @@ mod walk;
 pub use judging::judge;
 pub use place::{Block, Place};
 pub use tables::{LabelRow, ProcRow, Tables};
-pub use walk::read_tables;
+pub use walk::{StatedLine, StatedLines, read_tables};

@@ -8,6 +8,10 @@ use Rattle.program_forms.specs.Places.{Place, Said, said, at_top, Stated, Judged
 use Rattle.program_forms.specs.Declared.{Whole, whole}
 use Rattle.program_forms.specs.Above.{begun}
 use Rattle.program_forms.specs.FirstRefusal.{said_lines, header_conditions, first_refused, body_refusal}
+use Rattle.program_tables.specs.Judging.{AreJudged}
+use Rattle.program_tables.specs.Tables.{AreTablesOf}
+use Rattle.program_tables.specs.declared.tables.Tables.{Tables}
+use Rattle.program_tables.specs.declared.walk.StatedLines.{StatedLines}
 
 -- the lines behind the header, each with its place or its kind
 abbrev pub judged_lines : List Line → List Judged
@@ -34,3 +38,8 @@ pub record IsOnTheWay (w : Whole) (all : List Line) (place : Place) (left : List
   pub stated : stated_lines all ≡ above ++ stated (judged_from place (map said left))
   pub refused : first_refused w [] (judged_lines all)
       ≡ first_refused w above (judged_from place (map said left))
+
+-- The first walk over these lines gave these tables, and kept this of them.
+pub record AreWalked (ls : List Line) (tables : Tables) (kept : StatedLines) : Type 0 where
+  pub declared : AreTablesOf (whole (stated_lines ls)) tables
+  pub judged : AreJudged at_top ls kept.lines.items kept.refused
