@@ -18,7 +18,7 @@ loop-k-preserved c =
           let u = w.in-Callee.from in
           let b = get_or behind k false in
           let is : slot_at h k ≡ Callee u = sym w.in-Callee.ensures in
-          let new : c.match-slot_at.wanted.items ≡ old ++ (u, b) ∷ [] = ap (λ (v : Vec (ℕ × Bool) Global). v.items) w.wanted-is ∙ w.in_ok-push.ensures.items in record {
+          let new : c.match-slot_at.wanted.items ≡ old ++ (u, b) ∷ [] = ap (λ (v : Vec (ℕ × Bool) Global). v.items) w.wanted-is ∙ w.in_ok-push.ensures.items ∙ ap (λ v. old ++ (v, b) ∷ []) w.from.ensures in record {
             below = subst (AreBitsBelow n) (sym new) (below_push n old u b (slot_below n h c.requires.map k u c.loop-k-test.true is) c.loop-k.invariant.below);
             bits = λ y.
                 subst (λ (l : List (ℕ × Bool)). HasBits l y ↔ ComeBack h behind (k + 1) y) (sym new)
