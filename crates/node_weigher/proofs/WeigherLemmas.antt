@@ -52,26 +52,37 @@ module _ (p : Pushdown ℕ Parts RelMap) (old new : NodesOf) (bits : old.bits �
 
   return_stays : (map : RelMap) (by : ReturnNodes) → IsReturnBy (nodes_of before) map by → IsReturnBy (nodes_of after) map by
   return_stays map Same is = is
-  return_stays map (Both moves stays) is = let parts = is.3 in (is.0, is.1, is.2, record {
-    moves_within = more.within moves parts.moves_within;
-    stays_within = more.within stays parts.stays_within;
-    moves_lead = λ x y. more.stays moves parts.moves_within x y ∙ parts.moves_lead x y;
-    stays_lead = λ x y. more.stays stays parts.stays_within x y ∙ parts.stays_lead x y;
-  })
+  return_stays map (Both moves stays) is = let parts = is.3 in (
+    is.0,
+    is.1,
+    is.2,
+    record {
+      moves_within = more.within moves parts.moves_within;
+      stays_within = more.within stays parts.stays_within;
+      moves_lead = λ x y. more.stays moves parts.moves_within x y ∙ parts.moves_lead x y;
+      stays_lead = λ x y. more.stays stays parts.stays_within x y ∙ parts.stays_lead x y;
+    },
+  )
 
   weights_stay : (ws : List RuleWeight) → AllByRecursion (IsRuleWeight before) ws → AllByRecursion (IsRuleWeight after) ws
   weights_stay [] all = tt
-  weights_stay (w ∷ ws) all = (record {
-    within = more.within w.weight all.0.within;
-    is = λ r there. worth_stays w.weight all.0.within ∙ all.0.is r there;
-  }, weights_stay ws all.1)
+  weights_stay (w ∷ ws) all = (
+    record {
+      within = more.within w.weight all.0.within;
+      is = λ r there. worth_stays w.weight all.0.within ∙ all.0.is r there;
+    },
+    weights_stay ws all.1,
+  )
 
   returns_stay : (bs : List RuleReturn) → AllByRecursion (IsRuleReturn before) bs → AllByRecursion (IsRuleReturn after) bs
   returns_stay [] all = tt
-  returns_stay (b ∷ bs) all = (record {
-    some = (all.0.some.0, return_stays all.0.some.0 b.by all.0.some.1);
-    is = λ r map there with_map. return_stays map b.by (all.0.is r map there with_map);
-  }, returns_stay bs all.1)
+  returns_stay (b ∷ bs) all = (
+    record {
+      some = (all.0.some.0, return_stays all.0.some.0 b.by all.0.some.1);
+      is = λ r map there with_map. return_stays map b.by (all.0.is r map there with_map);
+    },
+    returns_stay bs all.1,
+  )
 
   pub rules_stay : (ws : List RuleWeight) (bs : List RuleReturn) → AreKnownRules before ws bs → AreKnownRules after ws bs
   rules_stay ws bs are = record { of_weights = weights_stay ws are.of_weights; of_returns = returns_stay bs are.of_returns }

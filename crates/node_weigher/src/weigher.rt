@@ -1,4 +1,4 @@
-ghost use Rattle.std.specs.Prelude.{◌≡◌, ◌<◌, ℕ, Some, IfOk, IfSome, length, slice_get};
+ghost use Rattle.std.specs.Prelude.{◌≡◌, ◌↔◌, ◌<◌, ℕ, Some, IfOk, IfSome, IsTrue, length, slice_get};
 ghost use Rattle.pushdown_rules.specs.declared.rule.Rule.{Rule as RuleValue};
 ghost use Rattle.relation_laws.specs.Building.{Parts};
 ghost use Rattle.semiring_laws.specs.Semiring.{Fits, FitsMap};
@@ -100,6 +100,15 @@ impl<'s> NodeWeigher<'s> {
             spec.worth self.new r ≡ s.combine (spec.worth self.old a) (spec.worth self.old b)) }
     {
         self.nodes.union(a, b)
+    }
+
+    // Whether two relations are equal.
+    fn same(&self, a: u32, b: u32) -> bool
+        requires left { spec.Knows self.now a }
+        requires right { spec.Knows self.now b }
+        ensures { IsTrue result ↔ (spec.worth self.now a ≡ spec.worth self.now b) }
+    {
+        self.nodes.is_same(a, b)
     }
 
     // The reference of a relation.
@@ -272,7 +281,7 @@ impl<'s> Weigher<Relations> for NodeWeigher<'s> {
 
     fn lowered(&mut self, old: &u32, weight: &u32) -> Result<Option<u32>, OutOfMemory> {
         let sum = self.united(*old, *weight)?;
-        if self.nodes.is_same(sum, *old) {
+        if self.same(sum, *old) {
             return Ok(None);
         }
         Ok(Some(sum))
