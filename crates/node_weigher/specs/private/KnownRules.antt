@@ -21,5 +21,5 @@ pub record IsRuleReturn (m : WeigherOf) (b : RuleReturn) : Type 0 where
 
 -- The references of weights and return maps that are known already.
 pub record AreKnownRules (m : WeigherOf) (weights : List RuleWeight) (returns : List RuleReturn) : Type 0 where
-  pub weights : AllByRecursion (IsRuleWeight m) weights
-  pub returns : AllByRecursion (IsRuleReturn m) returns
+  pub of_weights : AllByRecursion (IsRuleWeight m) weights
+  pub of_returns : AllByRecursion (IsRuleReturn m) returns
