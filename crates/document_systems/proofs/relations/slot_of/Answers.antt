@@ -11,4 +11,5 @@ overflow_cast-result c =
     let moves = c.args.text.now.moves in
     let v = c.args.variable in
     let low = moved_below most_related moves (recursion_from_All (λ k. k < most_related) (map (λ m. m.from) moves) c.requires.moves) v c.requires.variable in
-    omega (arith, low, c.moved_from.ensures)
+    let here = subst (λ ms. moved_from ms v < most_related) (sym c.as_slice-2.ensures) low in
+    omega (arith, here, c.moved_from.ensures)
