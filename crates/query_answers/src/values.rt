@@ -56,12 +56,7 @@ impl<'s, S: Semiring, M: Weigher<S>> Model for Values<'s, S, M> {
 impl<'s, S: Semiring, M: Weigher<S>> Values<'s, S, M> {
     /// Over a system, by a direction and so many workers. One worker's search makes its weights by others like the given object.
     /// Nothing is found yet, and no memory is taken.
-    pub fn new(
-        system: &'s System<S>,
-        side: Side,
-        workers: u32,
-        weigher: M,
-    ) -> Values<'s, S, M>
+    pub fn new(system: &'s System<S>, side: Side, workers: u32, weigher: M) -> Values<'s, S, M>
         requires workers { IsWorkerCount workers }
         requires weigher { M.pushdown weigher ≡ system.now }
         ensures { result ≡ record { system = system.now; side = side; workers = workers } }
@@ -76,9 +71,11 @@ impl<'s, S: Semiring, M: Weigher<S>> Values<'s, S, M> {
     }
 }
 
-impl<'s, S: Semiring<W: Send + Sync, Ret: Send + Sync> + Send + Sync, M: Weigher<S>>
-    Values<'s, S, M>
-{
+impl<'s, S: Semiring<W: Send + Sync, Ret: Send + Sync> + Send + Sync, M: Weigher<S>> Values<
+    's,
+    S,
+    M,
+> {
     /// The values of the answers to queries that begin at one pattern: one for each pattern where runs end, in order. Each worker
     /// calls the gate once for each transition that it takes. Refused only when out of memory.
     pub fn values_from<H: Threads + Wait + Sync, G: Gate>(
