@@ -6,12 +6,12 @@ use config_patterns::Pattern;
 use cost_weights::Cost;
 use pushdown_rules::{RuleFault, System};
 use query_answers::Values;
-use weight_tables::PlainWeigher;
 use row_systems::{A, B, C, D, Items, pattern_over};
 use std::alloc::Global;
 use std::sync::Wait;
 use std::test::Fail;
 use std::thread::Threads;
+use weight_tables::PlainWeigher;
 use witness_graph::Side;
 use wpds_base::OpenGate;
 
