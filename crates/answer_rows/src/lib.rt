@@ -7,3 +7,5 @@ mod answers;
 mod callees;
 #[cfg(test)]
 mod ends;
+#[cfg(test)]
+mod renewed;
