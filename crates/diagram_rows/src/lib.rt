@@ -6,6 +6,8 @@ mod diagrams;
 #[cfg(test)]
 mod operations;
 #[cfg(test)]
+mod tables;
+#[cfg(test)]
 mod triples;
 #[cfg(test)]
 mod truth;
