@@ -1,5 +1,6 @@
 pub mod CallerLemmas
 mod BlockLemmas
 mod JudgingLemmas
+mod RowLemmas
 mod TableLemmas
 mod WalkLemmas

@@ -3,6 +3,7 @@
 
 mod judging;
 mod place;
+mod rows;
 mod tables;
 mod walk;
 

@@ -1,17 +1,17 @@
-ghost use Rattle.std.specs.Prelude.{◌≡◌, ◌+◌, ℕ, List, [], ◌∷◌, ◌++◌, length, bytes_eq, if◌then◌else◌, Some, unwrap_or, option_map, IfOk};
+ghost use Rattle.std.specs.Prelude.{◌≡◌, ◌+◌, ℕ, List, [], ◌∷◌, ◌++◌, length, Some, option_map, IfOk};
 ghost use Rattle.wpds_port.specs.Words.{word_of};
 ghost use Rattle.document_reader.specs.NameLines.{names_in};
 ghost use Rattle.program_forms.specs.Declared.{Whole, whole, proc_named, label_named, is_assert as is_assert_of};
 ghost use Rattle.program_forms.specs.Forms.{StatementForm, ProcForm, Stating, params_of};
 ghost use Rattle.program_forms.specs.Places.{Stated};
 ghost use Rattle.program_lines.specs.Texts.{label_said, statement_said, line_said};
-ghost use Rattle.program_tables.specs.Tables.{proc_row, label_row, at_name, AreTablesOf};
+ghost use Rattle.program_tables.specs.Tables.{proc_row, label_row, AreTablesOf};
 
+use crate::rows::NamedRows;
 use document_reader::add_names;
 use program_lines::{LineText, StatementText};
 use rule_reader::NameTable;
 use std::alloc::Global;
-use std::collections::BTreeMap;
 use wpds_base::OutOfMemory;
 use wpds_port::{Lexeme, Words};
 
@@ -42,38 +42,10 @@ pub struct LabelRow {
 #[derive(Drop)]
 pub struct Tables<'t> {
     pub globals: NameTable<'t>,
-    procs: BTreeMap<&'t [u8], ProcRow>,
-    labels: BTreeMap<&'t [u8], LabelRow>,
+    procs: NamedRows<'t, ProcRow>,
+    labels: NamedRows<'t, LabelRow>,
     /// How many values a procedure returns at most.
     pub slots: u32,
-}
-
-// The procedure of a name: the one that is there, or else this one, which is there from then on.
-fn first_proc<'t>(
-    procs: &mut BTreeMap<&'t [u8], ProcRow>,
-    name: &'t [u8],
-    row: ProcRow,
-) -> Result<ProcRow, OutOfMemory>
-    ensures row { IfOk result (λ first. first ≡ unwrap_or (at_name procs.old name.now) row) }
-    ensures procs { IfOk result (λ first. (f : List ℕ) → at_name procs.new f
-        ≡ (if bytes_eq name.now f then Some first else at_name procs.old f)) }
-{
-    let first = procs.entry(name)?.or_insert(row);
-    Ok(*first)
-}
-
-// The label of a name: the one that is there, or else this one, which is there from then on.
-fn first_label<'t>(
-    labels: &mut BTreeMap<&'t [u8], LabelRow>,
-    name: &'t [u8],
-    row: LabelRow,
-) -> Result<LabelRow, OutOfMemory>
-    ensures row { IfOk result (λ first. first ≡ unwrap_or (at_name labels.old name.now) row) }
-    ensures labels { IfOk result (λ first. (x : List ℕ) → at_name labels.new x
-        ≡ (if bytes_eq name.now x then Some first else at_name labels.old x)) }
-{
-    let first = labels.entry(name)?.or_insert(row);
-    Ok(*first)
 }
 
 // The count with a word more, if that is a name.
@@ -114,8 +86,8 @@ impl<'t> Tables<'t> {
     {
         Tables {
             globals: NameTable::new(alloc),
-            procs: BTreeMap::new(alloc),
-            labels: BTreeMap::new(alloc),
+            procs: NamedRows::new(alloc),
+            labels: NamedRows::new(alloc),
             slots: 0,
         }
     }
@@ -125,7 +97,7 @@ impl<'t> Tables<'t> {
         ensures { (w : Whole) → AreTablesOf w self.now
             → result ≡ option_map proc_row (proc_named w.procs name.now) }
     {
-        self.procs.get(name).copied()
+        self.procs.get(name)
     }
 
     /// The label of a name.
@@ -133,7 +105,7 @@ impl<'t> Tables<'t> {
         ensures { (w : Whole) → AreTablesOf w self.now
             → result ≡ option_map label_row (label_named w.labels name.now) }
     {
-        self.labels.get(name).copied()
+        self.labels.get(name)
     }
 
     // Takes a procedure that is the next behind so many.
@@ -154,7 +126,7 @@ impl<'t> Tables<'t> {
             params: count_names(params)?,
             returns,
         };
-        first_proc(&mut self.procs, name, row)?;
+        self.procs.add(name, row)?;
         self.slots = self.slots.max(returns);
         Ok(())
     }
@@ -177,7 +149,7 @@ impl<'t> Tables<'t> {
             begun,
             asserts: is_assert(statement),
         };
-        first_label(&mut self.labels, name, row)?;
+        self.labels.add(name, row)?;
         Ok(())
     }
 

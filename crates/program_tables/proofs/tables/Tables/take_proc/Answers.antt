@@ -6,6 +6,6 @@ use Rattle.program_tables.proofs.tables.Tables.take_proc.Goals as goal
 pub returns : goal.returns
 returns c = λ ls l ps h p e b.
     let count = c.in_ok-count_names.ensures ∙ ap length (params_names c.args.params.now ps p) in
-    takes_proc ls l c.args.self.now _ c.args.name.now ps c.args.returns _ c.in_ok-first_proc.field-0 h e
+    takes_proc ls l c.args.self.now _ c.args.name.now ps c.args.returns _ _ h e
     (same_row l c.args.begun c.in_ok-count_names.field-0 c.args.returns ps b count)
-    c.in_ok-first_proc.ensures.row c.in_ok-first_proc.ensures.procs refl refl c.max-self.ensures
+    refl c.in_ok-add.ensures refl refl c.max-self.ensures
