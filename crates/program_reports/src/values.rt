@@ -5,7 +5,10 @@ ghost use Rattle.std.specs.Prelude.{◌≡◌, ◌+◌, ◌<◌, ◌≤◌, ◌^
 ghost use Rattle.pattern_openings.specs.PatternOpenings.{IsOver};
 ghost use Rattle.program_laws.specs.ReadPrograms.{IsPoint};
 ghost use Rattle.lowering_laws.specs.Queries.{point_pattern};
+ghost use Rattle.wpds_base.specs.Limits.{most_queries};
+ghost use Rattle.relation_weights.specs.Relations.{relation_operations};
 ghost use Rattle.worker_pool.specs.Workers.{IsWorkerCount};
+ghost use Rattle.query_answers.specs.Answering.{AreValues};
 ghost use Rattle.report_text.specs.Reports.{ByQuery, IsBrief};
 ghost use Rattle.program_reports.specs.ProgramReports.{TellsPoint};
 ghost use Rattle.program_reports.specs.private.Asked.{IsAsked, IsValueFor, program_in, values_in};
@@ -16,13 +19,14 @@ use crate::lines::point_line;
 use boolean_programs::Point;
 use config_patterns::Pattern;
 use node_weigher::NodeWeigher;
-use pushdown_rules::answers_are_greatest_below;
+use pushdown_rules::{System, answers_are_greatest_below};
 use query_answers::Values;
 use relation_weights::{Relation, Relations};
 use semiring_laws::Semiring;
 use std::alloc::Global;
 use std::sync::Wait;
 use std::thread::Threads;
+use witness_graph::Side;
 use wpds_base::{Gate, OutOfMemory, Text};
 
 /// The line of the query for a point with a number, by its value.
@@ -62,6 +66,30 @@ fn ends_of(alloc: Global, asked: &Asked<'_>, points: &[Point]) -> Result<Vec<Pat
     Ok(ends)
 }
 
+// The values of the answers to queries that begin at one pattern, over relations. One worker's search has them as references into one
+// table.
+fn found_values<H: Threads + Wait + Sync, G: Gate>(
+    rt: &H,
+    alloc: Global,
+    system: &System<Relations>,
+    by: Side,
+    workers: u32,
+    from: &Pattern,
+    tos: &[Pattern],
+    gate: &G,
+) -> Result<Vec<Relation>, OutOfMemory>
+    requires from { IsOver system.now.controls system.now.symbols from.now }
+    requires tos { let p = system.now in All (IsOver p.controls p.symbols) tos.now }
+    requires few { length tos.now ≤ most_queries }
+    requires workers { IsWorkerCount workers }
+    ensures { let are = AreValues relation_operations system.now by workers from.now tos.now in
+        IfOk result (λ vs. are vs.items) }
+{
+    let weigher = NodeWeigher::new(alloc, system)?;
+    let mut values = Values::new(system, by, workers, weigher);
+    values.values_from(rt, alloc, from, tos, gate)
+}
+
 /// The lines of all queries, in order, where values alone are told: all runs begin at main's first line, and the values of all
 /// queries are found together.
 pub(crate) fn lines_by_values<H: Threads + Wait + Sync, G: Gate>(
@@ -79,11 +107,10 @@ pub(crate) fn lines_by_values<H: Threads + Wait + Sync, G: Gate>(
 {
     let points = asked.program.queries.as_slice();
     let (by, workers) = (asked.options.by, asked.options.workers);
-    let weigher = NodeWeigher::new(alloc, &asked.lowering.system)?;
-    let mut values = Values::new(&asked.lowering.system, by, workers, weigher);
+    let system = &asked.lowering.system;
     let from = asked.entry_pattern(alloc)?;
     let ends = ends_of(alloc, asked, points)?;
-    let found = values.values_from(rt, alloc, &from, &ends, gate)?;
+    let found = found_values(rt, alloc, system, by, workers, &from, &ends, gate)?;
     let mut text = Vec::new(alloc);
     for (place, point) in points.iter().enumerate() {
         let line = value_line(alloc, asked, place as u64 + 1, *point, &found[place])?;

@@ -1,13 +1,10 @@
-use Rattle.std.proofs.Common.{◌≡◌, ℕ, ◌+◌, ◌++◌, ◌<◌, ◌≤◌, List, get_or, length, take, sym, ap, ◌∙◌, subst, arith}
+use Rattle.std.proofs.Common.{◌≡◌, ◌+◌, ◌++◌, ◌<◌, ◌≤◌, List, get_or, length, take, sym, ap, ◌∙◌, subst, arith}
 use Rattle.std.specs.Prelude.{All}
 use Rattle.std.proofs.lemmas.List.{length-map}
 use Rattle.std.proofs.lemmas.Option.{slice_get-get_or}
-use Rattle.relation_laws.specs.Building.{Parts}
-use Rattle.relation_weights.specs.declared.rel_map.RelMap.{RelMap}
 use Rattle.relation_weights.specs.Relations.{relation_operations}
 use Rattle.boolean_programs.specs.declared.point.Point.{Point}
 use Rattle.query_answers.specs.Answering.{AreValues}
-use Rattle.query_answers.specs.Values.{ValuesOf}
 use Rattle.report_text.specs.Reports.{ByQuery}
 use Rattle.lowering_laws.specs.Queries.{point_pattern}
 use Rattle.program_laws.specs.ReadPrograms.{IsPoint}
@@ -29,7 +26,7 @@ pub index-requires : goal.index-requires
 index-requires g c =
     let a = c.args.asked.now in
     let points = c.as_slice-points.result.now in
-    let are = c.in_ok-found.ensures.values in
+    let are = c.in_ok-found.ensures in
     let ends = ap length c.in_ok-ends.ensures.value ∙ length-map points (point_pattern (program_in a)) in
     omega (arith, c.loop-place-test.true, are.count, ap length c.deref.ensures.value, ends)
 
@@ -50,7 +47,7 @@ value_line-requires-clause-value g c =
     let values = c.in_ok-found.found.items in
     let place = c.loop-place.place in
     let from = c.in_ok-from.from in
-    let found = subst (λ (v : ValuesOf ℕ Parts RelMap). AreValues relation_operations v.system v.side v.workers from c.deref.result.now values) c.new-values.ensures c.in_ok-found.ensures.values in
+    let found = c.in_ok-found.ensures in
     let are : AreValues relation_operations a.lowering.system a.options.by a.options.workers from ends values =
     subst (λ xs. AreValues relation_operations a.lowering.system a.options.by a.options.workers from xs values) c.deref.ensures.value found in
     value_for a points from ends values place none_there c.index.result.now c.in_ok-from.ensures.value c.in_ok-ends.ensures.value are c.loop-place-test.true c.index.ensures
