@@ -23,7 +23,7 @@ use Rattle.path_sum.specs.declared.answer.Answer.{Answer}
 use Rattle.path_sum.specs.Results.{IsSumOver, IsSumOf}
 use Rattle.prestar_laws.specs.Ways.{pre_way}
 use Rattle.walk_pairs.specs.Answering.{IsAnswered}
-use Rattle.query_answers.specs.Answering.{opened_of, summed_of, forward_way, ShowsAnswer, IsGrownFromBook, IsSaturatedFrom, IsSaturated, IsAnswer}
+use Rattle.query_answers.specs.Answering.{opened_of, summed_of, forward_way, backward_from, forward_from, ShowsAnswer, IsGrownFromBook, IsSaturatedFrom, IsSaturated, IsAnswer}
 
 -- what the law on openings says
 abbrev pub OpeningsReadMembers : Type 0
@@ -44,10 +44,10 @@ members_are_opened law pattern controls below d = (there, back)
     back both = (law pattern controls below d both.1).0 both.0
 
 -- a sum over a finished saturation by a side shows the answer, and is grown that way
-module _ {S W Map D : Type 0} (operations : S → Operations W Map) (way : Way S W Map D) where
+module _ {S W Map D : Type 0} (operations : S → Operations W Map) (way : Way S W Map D) (direction_from : PatternValue → D) where
   record IsShown (p : Pushdown S W Map) (side : Side) (workers : ℕ) (from to : PatternValue) (a : Answer S W Map) : Type 0 where
     shows : ShowsAnswer operations p from to side a
-    grown : IsGrownFromBook operations way p side workers from to a
+    grown : IsGrownFromBook operations way direction_from p side workers from to a
 
   -- the answers between two patterns, by the side
   between : (s : Operations W Map) (p : Pushdown S W Map) (side : Side) (from to : PatternValue) (v : W) (runs : List (List ℕ))
@@ -57,7 +57,7 @@ module _ {S W Map D : Type 0} (operations : S → Operations W Map) (way : Way S
   between s p Forward from to v runs answers = answers
 
   shown : OpeningsReadMembers → (p : Pushdown S W Map) (side : Side) (workers : ℕ) (from to : PatternValue) → (opened_of side from to).control < p.controls → (b : BookValue S W Map D) (a : Answer S W Map)
-      → (way.tables b.direction p).side ≡ side → IsSaturatedFrom operations way p workers (opened_of side from to) b → IsSumOf operations way b (summed_of side from to) a → IsShown p side workers from to a
+      → (way.tables b.direction p).side ≡ side → IsSaturatedFrom operations way direction_from p workers (opened_of side from to) b → IsSumOf operations way b (summed_of side from to) a → IsShown p side workers from to a
   shown law p side workers from to below b a goes saturated summed =
       let near = summed_of side from to in
       let opened = opened_of side from to in
@@ -88,7 +88,7 @@ module _ {S W Map : Type 0} (operations : S → Operations W Map) (law : Opening
       → IsSaturated operations p side workers (opened_of side from to) (BackwardOf b) → IsAnswer operations p side workers from to a
   backward_is b a summed Forward workers from to sums below same saturated = absurd saturated
   backward_is b a summed Backward workers from to sums below same saturated =
-      let x = shown operations (pre_way operations) law p Backward workers from to below b a refl saturated (subst (λ q. IsSumOf operations (pre_way operations) b q a) (sym same) sums) in
+      let x = shown operations (pre_way operations) backward_from law p Backward workers from to below b a refl saturated (subst (λ q. IsSumOf operations (pre_way operations) b q a) (sym same) sums) in
       record { shows = x.shows; grown = x.grown }
 
   pub forward_is : (b : BookValue S W Map Post) (a : Answer S W Map) (summed : PatternValue) (side : Side) (workers : ℕ) (from to : PatternValue)
@@ -96,7 +96,7 @@ module _ {S W Map : Type 0} (operations : S → Operations W Map) (law : Opening
       → IsSaturated operations p side workers (opened_of side from to) (ForwardOf b) → IsAnswer operations p side workers from to a
   forward_is b a summed Backward workers from to sums below same saturated = absurd saturated
   forward_is b a summed Forward workers from to sums below same saturated =
-      let x = shown operations (forward_way operations) law p Forward workers from to below b a refl saturated (subst (λ q. IsSumOf operations (forward_way operations) b q a) (sym same) sums) in
+      let x = shown operations (forward_way operations) forward_from law p Forward workers from to below b a refl saturated (subst (λ q. IsSumOf operations (forward_way operations) b q a) (sym same) sums) in
       record { shows = x.shows; grown = x.grown }
 
   pub backward_answers : {E : Type 0} (b : BookValue S W Map Pre) (r : Result (Answer S W Map) E) (summed : PatternValue) (side : Side) (workers : ℕ) (from to : PatternValue)
@@ -113,7 +113,7 @@ module _ {S W Map : Type 0} (operations : S → Operations W Map) (law : Opening
 
   -- the value of a sum over a book forwards, which lists nothing, answers
   pub forward_answered : (b : BookValue S W Map Post) (v : W) (workers : ℕ) (from to : PatternValue) → IsValueOf (IsSumOf operations (forward_way operations) b to) v → from.control < p.controls
-      → IsSaturatedFrom operations (forward_way operations) p workers from b → IsAnswered (operations p.semiring) p from to v
+      → IsSaturatedFrom operations (forward_way operations) forward_from p workers from b → IsAnswered (operations p.semiring) p from to v
   forward_answered b v workers from to (a, sums, value) below saturated =
       let is = forward_is b a to Forward workers from to sums below refl saturated in
       let runs = listed_runs a.listing in

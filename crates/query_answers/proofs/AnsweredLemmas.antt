@@ -123,7 +123,7 @@ module _ {S W Map : Type 0} (operations : S → Operations W Map) (law : Opening
       let a = pre_sums c.0 from c.1.book c.1.closed (subst (λ (q : Pushdown S W Map). from.control < q.controls) (sym c.1.base.system) over.control) in (
         a.0,
         backward_is operations law p c.0 a.0 from Backward workers from to a.1 over_to.control refl
-            (record { system = c.1.base.system; opening = c.1.base.opening; book = c.1.book; closed = c.1.closed; seats = c.1.seats workers some; alone = λ _. c.1.alone }),
+            (record { system = c.1.base.system; direction = c.1.base.direction; opening = c.1.base.opening; book = c.1.book; closed = c.1.closed; seats = c.1.seats workers some; alone = λ _. c.1.alone }),
       )
   answer_exists Forward to over_to =
       let o = opening_of p.controls from in
@@ -133,7 +133,7 @@ module _ {S W Map : Type 0} (operations : S → Operations W Map) (law : Opening
       let a = post_sums c.0 to c.1.book c.1.closed (subst (λ (q : Pushdown S W Map). to.control < q.controls) (sym c.1.base.system) over_to.control) in (
         a.0,
         forward_is operations law p c.0 a.0 to Forward workers from to a.1 over.control refl
-            (record { system = c.1.base.system; opening = c.1.base.opening; book = c.1.book; closed = c.1.closed; seats = c.1.seats workers some; alone = λ _. c.1.alone }),
+            (record { system = c.1.base.system; direction = c.1.base.direction; opening = c.1.base.opening; book = c.1.book; closed = c.1.closed; seats = c.1.seats workers some; alone = λ _. c.1.alone }),
       )
 
   -- what answers the query is its value

@@ -47,10 +47,11 @@ module _ {S W Map : Type 0} (operations : S → Operations W Map) (p : Pushdown 
     -- no part of the listing leaves the value of its set as it was
     pub tight : IfSome a.listing (λ l. IsTight s (value_of s p) l.side l.nodes)
 
-module _ {S W Map D : Type 0} (operations : S → Operations W Map) (way : Way S W Map D) (p : Pushdown S W Map) where
+module _ {S W Map D : Type 0} (operations : S → Operations W Map) (way : Way S W Map D) (direction_from : PatternValue → D) (p : Pushdown S W Map) where
   -- The book is a finished saturation of the system from a pattern: so many workers have made its steps, in some order. One worker has one order.
   pub record IsSaturatedFrom (workers : ℕ) (pattern : PatternValue) (b : BookValue S W Map D) : Type 0 where
     pub system : b.system ≡ p
+    pub direction : b.direction ≡ direction_from pattern
     pub opening : b.opening ≡ opening_of p.controls pattern
     pub book : IsBook operations way b
     pub closed : IsClosed b
@@ -70,6 +71,14 @@ module _ {S W Map D : Type 0} (operations : S → Operations W Map) (way : Way S
 abbrev pub forward_way : {S W Map : Type 0} → (S → Operations W Map) → Way S W Map Post
 forward_way operations = post_way (λ d. d.items) operations
 
+-- The direction of a saturation from a pattern. Backwards it is one for all patterns,
+abbrev pub backward_from : PatternValue → Pre
+backward_from pattern = record {}
+
+-- and forwards it knows how many items the pattern has.
+abbrev pub forward_from : PatternValue → Post
+forward_from pattern = record { items = length pattern.items }
+
 -- the system over which a saturation is
 abbrev pub saturated_system : {S W Map : Type 0} → Saturation S W Map → Pushdown S W Map
 saturated_system (BackwardOf b) = b.system
@@ -83,14 +92,14 @@ IsFinished (ForwardOf b) = IsClosed b
 module _ {S W Map : Type 0} (operations : S → Operations W Map) (p : Pushdown S W Map) where
   -- It is a finished saturation of the system from a pattern, by the direction of this side and so many workers.
   abbrev pub IsSaturated : Side → ℕ → PatternValue → Saturation S W Map → Type 0
-  IsSaturated Backward workers pattern (BackwardOf b) = IsSaturatedFrom operations (pre_way operations) p workers pattern b
-  IsSaturated Forward workers pattern (ForwardOf b) = IsSaturatedFrom operations (forward_way operations) p workers pattern b
+  IsSaturated Backward workers pattern (BackwardOf b) = IsSaturatedFrom operations (pre_way operations) backward_from p workers pattern b
+  IsSaturated Forward workers pattern (ForwardOf b) = IsSaturatedFrom operations (forward_way operations) forward_from p workers pattern b
   IsSaturated _ workers pattern _ = ⊥
 
   -- the answer is grown from a book of the direction of this side
   abbrev pub IsGrownBy : Side → ℕ → PatternValue → PatternValue → Answer S W Map → Type 0
-  IsGrownBy Backward workers from to a = IsGrownFromBook {D = Pre} operations (pre_way operations) p Backward workers from to a
-  IsGrownBy Forward workers from to a = IsGrownFromBook {D = Post} operations (forward_way operations) p Forward workers from to a
+  IsGrownBy Backward workers from to a = IsGrownFromBook operations (pre_way operations) backward_from p Backward workers from to a
+  IsGrownBy Forward workers from to a = IsGrownFromBook operations (forward_way operations) forward_from p Forward workers from to a
 
   -- The answer to a query by a side and so many workers: what it shows, and that it is grown that way.
   pub record IsAnswer (side : Side) (workers : ℕ) (from to : PatternValue) (a : Answer S W Map) : Type 0 where

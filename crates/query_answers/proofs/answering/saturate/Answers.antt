@@ -1,4 +1,4 @@
-use Rattle.std.proofs.Common.{sym, ◌∙◌, subst}
+use Rattle.std.proofs.Common.{sym, ap, ◌∙◌, subst}
 use Rattle.witness_graph.specs.declared.node.Side.{Side}
 use Rattle.query_answers.specs.Answering.{IsSaturated}
 use Rattle.query_answers.specs.declared.saturation.Saturation.TheVariants.{Backward, Forward}
@@ -10,7 +10,7 @@ returns-in_ok-saturate-in-Pre-clause-saturated g c =
     let kept = c.in_ok-saturate-in-Pre.ensures in
     let begun = c.in_ok-book-in-Pre.ensures in
     subst (λ (side : Side). IsSaturated g.S.Semiring.operations c.args.system.now side c.args.workers c.args.opened.now (Backward b)) (sym c.in-Pre.is)
-    (record { system = kept.base.system ∙ begun.system; opening = kept.base.opening ∙ begun.opening; book = kept.book; closed = kept.closed; seats = kept.seats; alone = kept.alone })
+    (record { system = kept.base.system ∙ begun.system; direction = kept.base.direction; opening = kept.base.opening ∙ begun.opening; book = kept.book; closed = kept.closed; seats = kept.seats; alone = kept.alone })
 
 pub returns-in_ok-saturate-in-Post-clause-saturated : goal.returns-in_ok-saturate-in-Post-clause-saturated
 returns-in_ok-saturate-in-Post-clause-saturated g c =
@@ -18,4 +18,4 @@ returns-in_ok-saturate-in-Post-clause-saturated g c =
     let kept = c.in_ok-saturate-in-Post.ensures in
     let begun = c.in_ok-book-in-Post.ensures in
     subst (λ (side : Side). IsSaturated g.S.Semiring.operations c.args.system.now side c.args.workers c.args.opened.now (Forward b)) (sym c.in-Post.is)
-    (record { system = kept.base.system ∙ begun.system; opening = kept.base.opening ∙ begun.opening; book = kept.book; closed = kept.closed; seats = kept.seats; alone = kept.alone })
+    (record { system = kept.base.system ∙ begun.system; direction = kept.base.direction ∙ ap (λ n. record { items = n }) begun.direction; opening = kept.base.opening ∙ begun.opening; book = kept.book; closed = kept.closed; seats = kept.seats; alone = kept.alone })

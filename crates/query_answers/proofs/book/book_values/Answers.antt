@@ -1,4 +1,4 @@
-use Rattle.std.proofs.Common.{◌+◌, ◌<◌, [], take, sym, ◌∙◌, subst, arith}
+use Rattle.std.proofs.Common.{◌+◌, ◌<◌, [], take, sym, ap, ◌∙◌, subst, arith}
 use Rattle.std.proofs.lemmas.List.{take_all}
 use Rattle.pushdown_rules.specs.Pushdown.{Pushdown}
 use Rattle.pattern_openings.specs.PatternOpenings.{IsOver}
@@ -29,7 +29,7 @@ loop-to-preserved g c =
     let kept = c.in_ok-book.ensures in
     let begun = c.in_ok-opened.ensures in
     let is = forward_answered operations c.openings_read_members.ensures p c.in_ok-book.book v c.args.workers from c.to-item.result c.in_ok-sum_value.ensures c.requires.from.control
-    (record { system = kept.base.system ∙ begun.system; opening = kept.base.opening ∙ begun.opening; book = kept.book; closed = kept.closed; seats = kept.seats; alone = kept.alone }) in
+    (record { system = kept.base.system ∙ begun.system; direction = kept.base.direction ∙ ap (λ n. record { items = n }) begun.direction; opening = kept.base.opening ∙ begun.opening; book = kept.book; closed = kept.closed; seats = kept.seats; alone = kept.alone }) in
     let one = subst (λ t. IsAnswered (operations p.semiring) p from t v) c.to-item.is is in
     subst (AreAnswered operations p from (take (i + 1) tos)) (sym c.in_ok-push.ensures.items)
     (next_answered operations p from tos i c.to-item.result c.loop-to.values.items v c.loop-to-test.true c.loop-to.invariant one)
