@@ -1,6 +1,10 @@
--- Texts of a part for each query, for the crates above.
+-- Texts of a part for each query, for crates above.
 use Rattle.std.proofs.Common.{◌≡◌, ℕ, ◌+◌, List, [], ◌∷◌, ◌++◌, length, refl, sym, ap, ap₂, subst, ◌∙◌, append-nil, append_assoc, arith}
-use Rattle.report_text.specs.Reports.{ByQuery}
+use Rattle.std.specs.Prelude.{Option, if◌then◌else◌}
+use Rattle.report_text.specs.Listings.{query_line}
+use Rattle.report_text.specs.Reports.{ByQuery, IsBrief, shown, shown_runs, traced, query_text}
+use Rattle.report_text.specs.declared.options.Options.{Options}
+use Rattle.witness_graph.specs.declared.listing.Listing.{Listing}
 
 -- what follows of each part follows of the text
 pub of_each : {Query : Type 0} {P Q : ℕ → Query → List ℕ → Type 0} → ((i : ℕ) (q : Query) (part : List ℕ) → P i q part → Q i q part)
@@ -29,3 +33,9 @@ pub same_parts : {Query : Type 0} {holds says : ℕ → Query → List ℕ → T
 same_parts same i [] text other h k = h ∙ sym k
 same_parts same i (q ∷ qs) text other (part, rest, is, here, later) (part', rest', is', here', later') =
     is ∙ ap₂ (λ x y. x ++ y) (same i q part part' here here') (same_parts same (i + 1) qs rest rest' later later') ∙ sym is'
+
+-- without listings the text of a query has its value alone
+pub brief_text : (i : ℕ) (options : Options) (value : List ℕ) (listing : Option Listing) → IsBrief options → query_text i options value listing ≡ query_line i value ++ []
+brief_text i options value listing is =
+    ap (λ b. query_line i value ++ ((if b then [] else shown listing) ++ traced options listing)) is.0
+    ∙ ap (λ b. query_line i value ++ (if b then shown_runs listing else [])) is.1

@@ -2,8 +2,6 @@ mod GroupLemmas
 mod InputLemmas
 mod KeptLemmas
 mod LadderLemmas
-mod QueryLemmas
 mod ReplyLemmas
-mod ReportLemmas
 mod ReportingLemmas
 mod RequestLemmas

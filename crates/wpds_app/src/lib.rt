@@ -5,7 +5,6 @@ mod alike;
 mod crew;
 mod generate;
 mod input;
-mod laws;
 mod program;
 mod reply;
 mod report;
@@ -15,9 +14,5 @@ mod texts;
 mod together;
 
 pub use input::Input;
-pub use laws::{
-    brief_reports_agree, costs_are_the_cheapest, reports_tell_costs, reports_tell_feasibility,
-    reports_tell_reachability, unreachable_where_infeasible,
-};
 pub use program::run;
 pub use status::Status;

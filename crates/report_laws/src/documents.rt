@@ -11,7 +11,9 @@ ghost use Rattle.document_forms.specs.Lawful.{IsDocument};
 ghost use Rattle.document_forms.specs.declared.weight.WeightsLine.TheVariants.{Reach as ReachLine, Cost as CostLine};
 ghost use Rattle.report_text.specs.declared.options.Options.{Options as OptionsValue};
 ghost use Rattle.report_text.specs.Reports.{ByQuery, IsBrief};
-ghost use Rattle.wpds_app.specs.Reports.{IsReport, IsReported, IsQueryText, TellsFeasibility, TellsFeasibilityOver, TellsReachability, TellsCost, TellsCosts};
+ghost use Rattle.wpds_app.specs.Reports.{IsReport, IsReported, IsQueryText};
+ghost use Rattle.report_laws.specs.Telling.{TellsFeasibility, TellsFeasibilityOver, TellsReachability, TellsCost, TellsCosts};
+ghost use Rattle.report_laws.specs.Agreement.{ByBoth, TellOneValue, TellOneValueOver};
 
 use copy_weights::CopyConst;
 use cost_weights::{Cost, below_is_no_dearer};
@@ -112,6 +114,35 @@ pub fn brief_reports_agree()
     brief_reports_over_agree::<GenKill<16>>();
     brief_reports_over_agree::<CopyConst>();
     brief_reports_over_agree::<Relations>();
+}
+
+// Over one semiring the texts of two reports begin with the lines of the same values, whatever their directions.
+fn reports_over_tell_one_value<S: DocumentWeights>()
+    ensures { (s : S) (d : Document) (one other : OptionsValue) (report text : List ℕ)
+        → S.kind.named s → IsDocument d → AreTaken S.kind s d
+        → IsReported S.kind one s d report → IsReported S.kind other s d text
+        → ByBoth (λ i q. TellOneValueOver S.kind s d i) 1 d.queries report text }
+{
+    answers_agree::<S>();
+    documents_are_systems::<S>();
+}
+
+/// Two reports on a document have the same values, listings or none, by either direction and any number of workers: of each query
+/// both texts begin with the line of one value.
+pub fn reports_tell_one_value()
+    ensures { (d : Document) (one other : OptionsValue) (report text : List ℕ)
+        → IsDocument d → IsReport one d report → IsReport other d text
+        → ByBoth (TellOneValue d) 1 d.queries report text }
+{
+    reports_over_tell_one_value::<Reach>();
+    reports_over_tell_one_value::<Cost>();
+    reports_over_tell_one_value::<GenKill<1>>();
+    reports_over_tell_one_value::<GenKill<2>>();
+    reports_over_tell_one_value::<GenKill<4>>();
+    reports_over_tell_one_value::<GenKill<8>>();
+    reports_over_tell_one_value::<GenKill<16>>();
+    reports_over_tell_one_value::<CopyConst>();
+    reports_over_tell_one_value::<Relations>();
 }
 
 /// The report on a document with `weights cost CAP` says of each query that no run leads there, or the cost of a

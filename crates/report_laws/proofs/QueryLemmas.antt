@@ -18,7 +18,7 @@ use Rattle.document_systems.specs.Weights.{cost_text}
 use Rattle.report_text.specs.Listings.{query_line}
 use Rattle.report_text.specs.declared.options.Options.{Options}
 use Rattle.report_text.specs.Reports.{shown, shown_runs, below, query_text}
-use Rattle.wpds_app.specs.Reports.{IsCheapest, TellsCost}
+use Rattle.report_laws.specs.Telling.{IsCheapest, TellsCost}
 
 -- ---- a line tells its value
 

@@ -25,8 +25,9 @@ use Rattle.document_systems.specs.Systems.{rule_of, system_of, side_of}
 use Rattle.path_sum.specs.Answers.{listed_runs}
 use Rattle.report_text.specs.declared.options.Options.{Options}
 use Rattle.report_text.specs.Reports.{ByQuery, below, query_text}
-use Rattle.wpds_app.specs.Reports.{IsQueryText, BySemiring, IsReported, IsReport, LeadsOn, IsReachable, TellsReachability}
-use Rattle.wpds_app.proofs.QueryLemmas.{unlisted_line}
+use Rattle.wpds_app.specs.Reports.{IsQueryText, BySemiring, IsReported, IsReport}
+use Rattle.report_laws.specs.Telling.{LeadsOn, IsReachable, TellsReachability}
+use Rattle.report_laws.proofs.QueryLemmas.{unlisted_line}
 use Rattle.report_text.proofs.CallerLemmas.{of_each}
 
 -- ---- with reachability a run has the value one exactly where each of its rules has

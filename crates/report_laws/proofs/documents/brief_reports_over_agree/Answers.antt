@@ -4,9 +4,8 @@ use Rattle.document_systems.specs.Systems.{system_of, side_of}
 use Rattle.path_sum.specs.Answers.{listed_runs}
 use Rattle.query_answers.specs.Answering.{IsAnswer}
 use Rattle.report_text.specs.Listings.{query_line}
-use Rattle.report_text.proofs.CallerLemmas.{same_parts}
-use Rattle.wpds_app.proofs.ReportingLemmas.{brief_text}
-use Rattle.wpds_app.proofs.laws.brief_reports_over_agree.Goals as goal
+use Rattle.report_text.proofs.CallerLemmas.{same_parts, brief_text}
+use Rattle.report_laws.proofs.documents.brief_reports_over_agree.Goals as goal
 
 pub returns : goal.returns
 returns g c = λ s d one other report text named is taken brief brief' reported told.

@@ -3,8 +3,8 @@ use Rattle.config_patterns.specs.Membership.{has_member}
 use Rattle.path_sum.specs.Answers.{listed_runs}
 use Rattle.report_text.specs.Listings.{query_line}
 use Rattle.query_answers.specs.Answering.{IsAnswer}
-use Rattle.wpds_app.proofs.QueryLemmas.{told_unreachable, unlisted_line}
-use Rattle.wpds_app.proofs.laws.unreachable_where_infeasible.Goals as goal
+use Rattle.report_laws.proofs.QueryLemmas.{told_unreachable, unlisted_line}
+use Rattle.report_laws.proofs.documents.unreachable_where_infeasible.Goals as goal
 
 pub returns : goal.returns
 returns g c = λ p items i from to options text named system is.

@@ -1,7 +1,7 @@
 use Rattle.config_patterns.specs.Membership.{has_member}
 use Rattle.path_sum.specs.Answers.{listed_runs}
-use Rattle.wpds_app.proofs.QueryLemmas.{cheapest, told_cost}
-use Rattle.wpds_app.proofs.laws.costs_are_the_cheapest.Goals as goal
+use Rattle.report_laws.proofs.QueryLemmas.{cheapest, told_cost}
+use Rattle.report_laws.proofs.documents.costs_are_the_cheapest.Goals as goal
 
 pub returns : goal.returns
 returns c = λ p items i from to options text system is.

@@ -5,7 +5,7 @@ use Rattle.pushdown_rules.specs.Answers.{HasNoFeasibleRun}
 use Rattle.document_systems.specs.Systems.{system_of, side_of}
 use Rattle.report_text.specs.Listings.{query_line}
 use Rattle.report_text.proofs.CallerLemmas.{of_each}
-use Rattle.wpds_app.proofs.laws.reports_over_tell_feasibility.Goals as goal
+use Rattle.report_laws.proofs.documents.reports_over_tell_feasibility.Goals as goal
 
 pub returns : goal.returns
 returns g c = λ s d options report named is taken reported.

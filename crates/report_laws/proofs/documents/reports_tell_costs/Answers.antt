@@ -5,7 +5,7 @@ use Rattle.document_systems.specs.Systems.{system_of, side_of}
 use Rattle.document_systems.proofs.CallerLemmas.{all_taken}
 use Rattle.wpds_app.specs.Reports.{BySemiring, IsReported}
 use Rattle.report_text.proofs.CallerLemmas.{of_each}
-use Rattle.wpds_app.proofs.laws.reports_tell_costs.Goals as goal
+use Rattle.report_laws.proofs.documents.reports_tell_costs.Goals as goal
 
 pub returns : goal.returns
 returns c = λ d cap options report costs is reported.

@@ -1,0 +1,5 @@
+mod AgreementLemmas
+mod QueryLemmas
+mod ReachabilityLemmas
+mod ReportingLemmas
+mod WeightsLemmas
