@@ -81,6 +81,10 @@ pub fn run<H: Threads + Wait + Sync, R: Source, W: Sink, G: Gate>(
     ensures write_fault { result ≡ Status.WriteFault
         → Rose (W.faults sink.old) (W.faults sink.new) }
 
+    // A fault of reading comes only where the words have a document read.
+    ensures reading { result ≡ Status.ReadFault
+        → (o : Options) × IsCheck (map string_bytes words.now) o }
+
     // What is written: all of the outcome, a beginning of it, or nothing.
     ensures replied { result ≢ Status.ReadFault → result ≢ Status.WriteFault
         → result ≢ Status.OutOfMemory
