@@ -22,8 +22,8 @@ impl<'t, R: Copy + Drop> Keyed<&'t [u8]> for NamedRow<'t, R> {
 
 /// Rows that are looked up by their names. Of a name that is added twice the first row counts.
 ///
-/// They are found by a hash whose chains are made anew where one grows long, so no choice of names
-/// makes a look-up slow.
+/// They are found by a hash whose chains are made anew where one grows long. Names that are chosen to
+/// collide are tried by `tools/hostile-documents`; no clause says how long a look-up takes.
 #[derive(Drop)]
 pub(crate) struct NamedRows<'t, R: Copy + Drop> {
     pub(crate) rows: KeyedList<&'t [u8], NamedRow<'t, R>>,

@@ -26,7 +26,7 @@ pub enum FirstTrace {
 ///
 /// `TooLong` exactly where the runs up to and with that one are over the limit together, each
 /// counted with its rules and one more. No run behind it is made, and none whose rules are more
-/// than what is left of the limit, so memory is linear in the listing, the limit and the trace.
+/// than what is left of the limit: that keeps memory small, of which no clause speaks.
 pub fn first_trace(
     alloc: Global,
     program: &Program,

@@ -12,8 +12,8 @@ use wpds_port::Text;
 /// The names of one class, in the order in which they are declared. A name's number is its place,
 /// from 0.
 ///
-/// They are looked up by a hash whose chains are made anew where one grows long, so no choice of names makes
-/// a look-up slow.
+/// They are looked up by a hash whose chains are made anew where one grows long. Names that are chosen to collide are
+/// tried by `tools/hostile-documents`; no clause says how long a look-up takes.
 #[derive(Drop)]
 pub struct NameTable<'t> {
     // Each is found by itself.
