@@ -6,3 +6,5 @@ pub use Rattle.document_forms.proofs.RuleLemmas.{IsOwn, weight_own}
 pub use Rattle.document_forms.proofs.WrittenWordLemmas.{OneCutting}
 pub use Rattle.document_forms.proofs.WrittenLineLemmas.{lawful_is_text}
 pub use Rattle.document_forms.proofs.LimitLemmas.{names_few, facts_limit, variables_limit}
+pub use Rattle.document_forms.proofs.LowestLemmas.{rises}
+pub use Rattle.document_forms.proofs.RefusedLemmas.{first_found}

@@ -15,7 +15,7 @@ use Rattle.document_forms.specs.Words.{is_return}
 use Rattle.wpds_port.specs.declared.Kind.TheVariants.{NotText, Form, Count, NothingAsked}
 use Rattle.document_forms.specs.Above.{weights_line, item_class, declared, Above, above_of, with_line, is_query}
 use Rattle.document_forms.specs.Kinds.{Conditions, has_unlawful_cap, weights_conditions, conditions}
-use Rattle.document_forms.specs.FirstRefusal.{Counted, counted, counted_lines, forms, all_symbols, by_form, missing, AreAccepted}
+use Rattle.document_forms.specs.FirstRefusal.{Counted, counted, counted_lines, forms, all_symbols, by_form, document_format, missing, AreAccepted}
 use Rattle.document_forms.specs.Documents.{Document, rules_on, queries_on, rule_value, query_value, gathered, body, document_of, reads_as}
 use Rattle.document_forms.specs.Lawful.{IsRuleLine, IsQueryLine, IsDocument}
 use Rattle.document_forms.proofs.NameLemmas.{declared_once}
@@ -26,7 +26,7 @@ use Rattle.document_forms.proofs.LimitLemmas.{cap_lawful, Within, within_more, w
 use Rattle.document_forms.proofs.GrowthLemmas.{rule_with_more, query_with_more}
 use Rattle.document_forms.proofs.WrittenWordLemmas.{OneCutting}
 use Rattle.document_forms.proofs.SaidFormLemmas.{IsSaid, AreSaid, said_form, names_declared, maps_said, sets_said, some_query}
-use Rattle.document_forms.proofs.RefusalLemmas.{AcceptedFrom, first_accepted, further_accepted}
+use Rattle.document_forms.proofs.RefusedLemmas.{AcceptedFrom, first_accepted, further_accepted}
 
 -- ---- more is said with each line
 
@@ -170,12 +170,12 @@ form_accepted : (test : LineForm → Conditions) (t : Bool) (o : Option LineForm
 form_accepted test t None h = let k = first_false t NotText ((true, Form) ∷ []) h in let no : first_fault ((true, Form) ∷ []) ≡ None = k.1 in cc
 form_accepted test t (Some f) h = (f, refl, (first_false t NotText (test f) h).1)
 
-accepted_forms : (all : ℕ) (h w : Counted) (us rest : List Counted) → HaveForms rest → AcceptedFrom all (h ∷ w ∷ us) rest → AcceptedForms all (forms (w ∷ us)) (forms rest)
+accepted_forms : (all : ℕ) (h w : Counted) (us rest : List Counted) → HaveForms rest → AcceptedFrom (document_format all) (h ∷ w ∷ us) rest → AcceptedForms all (forms (w ∷ us)) (forms rest)
 accepted_forms all h w us [] m a = tt
 accepted_forms all h w us (l ∷ rest) m a =
-    let none = first_accepted all (h ∷ w ∷ us) rest l a in
+    let none = first_accepted (document_format all) (h ∷ w ∷ us) rest l a in
     let k = form_accepted (conditions all (above_of (forms (w ∷ us)))) (not l.text) l.form none in
-    let more = accepted_forms all h w (us ++ l ∷ []) rest m.1 (further_accepted all (h ∷ w ∷ us) rest l a) in
+    let more = accepted_forms all h w (us ++ l ∷ []) rest m.1 (further_accepted (document_format all) (h ∷ w ∷ us) rest l a) in
     subst (λ fs. AcceptedForms all (forms (w ∷ us)) fs) (sym (forms_first l k.0 rest k.1))
     (m.0 k.0 k.1, k.2, subst (λ pre. AcceptedForms all pre (forms rest)) (forms_more (w ∷ us) l k.0 k.1) more)
 
@@ -190,17 +190,17 @@ lawful_lines : (all : ℕ) (ls : List Counted) → HaveForms ls → all ≡ all_
 lawful_lines all [] m s a e = cc
 lawful_lines all (h ∷ []) m s a e = cc
 lawful_lines all (h ∷ w ∷ rest) m s a e =
-    let behind = further_accepted all [] (w ∷ rest) h a in
-    let none = first_accepted all (h ∷ []) rest w behind in
+    let behind = further_accepted (document_format all) [] (w ∷ rest) h a in
+    let none = first_accepted (document_format all) (h ∷ []) rest w behind in
     let k = form_accepted weights_conditions (not w.text) w.form none in
     let x = second_is_weights k.0 k.2 in
     let form : w.form ≡ Some (OfWeights x.0) = k.1 ∙ ap Some x.1 in
-    let more = accepted_forms all h w [] rest m.1.1 (further_accepted all (h ∷ []) rest w behind) in
+    let more = accepted_forms all h w [] rest m.1.1 (further_accepted (document_format all) (h ∷ []) rest w behind) in
     let fs = subst (λ pre. AcceptedForms all pre (forms rest)) (forms_first w (OfWeights x.0) [] form) more in
     let asks : list_any is_query (forms rest) ≡ true = subst (λ l. list_any is_query l ≡ true) (forms_first w (OfWeights x.0) rest form) (nothing_missing (list_any is_query (forms (w ∷ rest))) e) in
     subst (λ l. IsDocument (document_of l)) (sym (forms_first w (OfWeights x.0) rest form)) (lawful_body all x.0 (forms rest) x.2 s asks fs)
   where
-    nothing_missing : (t : Bool) → (if t then None else Some NothingAsked) ≡ None → t ≡ true
+    nothing_missing : (t : Bool) → (if not t then Some NothingAsked else None) ≡ None → t ≡ true
     nothing_missing true k = refl
     nothing_missing false k = cc
 

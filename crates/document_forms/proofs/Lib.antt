@@ -13,6 +13,8 @@ mod GrowthLemmas
 mod LimitLemmas
 mod SaidFormLemmas
 mod DocumentLemmas
+mod LowestLemmas
+mod RefusedLemmas
 mod KindLemmas
 mod RefusalLemmas
 mod WrittenWordLemmas

@@ -20,7 +20,7 @@ use Rattle.document_forms.specs.Kinds.{has_unlawful_cap, is_deep, rule_weight, i
 use Rattle.document_forms.specs.Documents.{rules_on, queries_on, gathered}
 use Rattle.document_forms.specs.Lawful.{IsWeightsLine}
 use Rattle.document_forms.proofs.NameLemmas.{declared_once, once_joined}
-use Rattle.document_forms.proofs.KindLemmas.{none_in}
+use Rattle.document_forms.proofs.LowestLemmas.{none_in}
 use Rattle.document_forms.proofs.RuleLemmas.{first_false}
 
 -- ---- caps

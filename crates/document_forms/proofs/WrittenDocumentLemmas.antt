@@ -21,14 +21,14 @@ use Rattle.document_forms.specs.Forms.{WeightsForm, ReachWeights, CostWeights, G
 use Rattle.document_forms.specs.FormWords.{class_word, form_words, is_some_list, is_form}
 use Rattle.document_forms.specs.Above.{weights_line, item_class, has_class, most_names, is_query, Above, above_of, class_names, with_line, declared}
 use Rattle.document_forms.specs.Kinds.{weights_conditions, names_conditions, conditions}
-use Rattle.document_forms.specs.FirstRefusal.{Counted, counted_lines, forms, all_symbols, by_form, missing, AreAccepted}
+use Rattle.document_forms.specs.FirstRefusal.{Counted, counted_lines, forms, all_symbols, by_form, document_format, missing, AreAccepted}
 use Rattle.document_forms.specs.Documents.{Document, rules_on, queries_on, gathered, body, document_of, reads_as}
 use Rattle.document_forms.specs.Writing.{spaced, weights_text, names_lines, item_word, rule_text, query_text, written}
 use Rattle.document_forms.specs.Lawful.{IsName, IsWeightText, IsWeightsLine, HasSets, HasMap, AreNames, IsRuleOf, IsQueryOf, IsDocument}
 use Rattle.document_forms.proofs.NameLemmas.{twice_is_once, once_joined}
 use Rattle.document_forms.proofs.FormLemmas.{one_form}
 use Rattle.document_forms.proofs.AboveLemmas.{line_more}
-use Rattle.document_forms.proofs.RefusalLemmas.{AcceptedFrom, none_split, accepted_more}
+use Rattle.document_forms.proofs.RefusedLemmas.{AcceptedFrom, none_split, accepted_more}
 use Rattle.document_forms.proofs.DocumentLemmas.{forms_first, forms_more}
 use Rattle.document_forms.proofs.WrittenWordLemmas.{OneCutting, Says, says_words, says_word, says_apart, says_spaced, say_more}
 use Rattle.document_forms.proofs.WrittenLineLemmas.{LinesSay, said_lines, lines_said}
@@ -114,14 +114,14 @@ module _ (all : ℕ) (w : WeightsForm) where
       ap (λ xs. g (now ls) f ++ xs)
       (gathered_is g (ls ++ f ∷ []) b ts fs (next ls b t ts f fs h) ∙ ap (λ x. collected g x fs) (line_more all w ls f h.2))
 
-  accepted_rest : (x y : Counted) (us : List Counted) (ls : List LineForm) → forms (y ∷ us) ≡ OfWeights w ∷ ls → (n : ℕ) (b : Above) (ts : List (List ℕ)) (fs : List LineForm) → AreWritten all (now ls) ts fs b → AcceptedFrom all (x ∷ y ∷ us) (said_lines n (map form_words fs))
+  accepted_rest : (x y : Counted) (us : List Counted) (ls : List LineForm) → forms (y ∷ us) ≡ OfWeights w ∷ ls → (n : ℕ) (b : Above) (ts : List (List ℕ)) (fs : List LineForm) → AreWritten all (now ls) ts fs b → AcceptedFrom (document_format all) (x ∷ y ∷ us) (said_lines n (map form_words fs))
   accepted_rest x y us ls e n b [] [] h = λ above l below s k has. none_split above l below s
   accepted_rest x y us ls e n b [] (f ∷ fs) h = absurd h
   accepted_rest x y us ls e n b (t ∷ ts) [] h = absurd h
   accepted_rest x y us ls e n b (t ∷ ts) (f ∷ fs) h =
       let form = form_again t f h.0 h.1 in
       let l = line_at n f in
-      accepted_more all (x ∷ y ∷ us) (said_lines (n + 1) (map form_words fs)) l
+      accepted_more (document_format all) (x ∷ y ∷ us) (said_lines (n + 1) (map form_words fs)) l
       (ap₂ (λ o gs. first_fault (by_form (conditions all (above_of gs)) o)) form e ∙ h.2)
       (accepted_rest x y (us ++ l ∷ []) (ls ++ f ∷ []) (forms_more (y ∷ us) l f form ∙ ap (λ gs. gs ++ f ∷ []) e) (n + 1) b ts fs (next ls b t ts f fs h))
 
@@ -471,15 +471,15 @@ module _ (d : Document) (h : IsDocument d) (write : (w : WeightText) → IsWeigh
 
     accepted_again : AreAccepted all (header_line ∷ weights_counted ∷ counted_body)
     accepted_again =
-        accepted_more all [] (weights_counted ∷ counted_body) header_line refl
-        (accepted_more all (header_line ∷ []) counted_body weights_counted
+        accepted_more (document_format all) [] (weights_counted ∷ counted_body) header_line refl
+        (accepted_more (document_format all) (header_line ∷ []) counted_body weights_counted
         (ap (λ o. first_fault (by_form weights_conditions o)) weights_form_again ∙ weights_accepted d.weights h.weights)
         (accepted_rest all weights header_line weights_counted [] [] (forms_first weights_counted (OfWeights weights) [] weights_form_again) 3 last body_texts body_forms body_at))
 
     whole_again : missing (header_line ∷ weights_counted ∷ counted_body) ≡ None
     whole_again =
-        ap (λ fs. if list_any is_query fs then None else Some NothingAsked) all_forms_again
-        ∙ ap (λ t. if t then None else Some NothingAsked) (any_right (OfWeights weights ∷ (all_names ++ all_rules)) (query_forms d.queries) (some_query_form d.queries h.asked))
+        ap (λ fs. if not (list_any is_query fs) then Some NothingAsked else None) all_forms_again
+        ∙ ap (λ t. if not t then Some NothingAsked else None) (any_right (OfWeights weights ∷ (all_names ++ all_rules)) (query_forms d.queries) (some_query_form d.queries h.asked))
 
     pub read_back : length (written d) ≤ most_bytes → reads_as (written d) d
     read_back l = record {

@@ -1,19 +1,19 @@
 -- The first refusal of a document: of the lines that count the first that has a kind below those
 -- above it, and of its kinds the lowest.
-use Rattle.std.specs.Prelude.{◌≡◌, ◌⊎◌, IsTrue, IsFalse, ℕ, ◌+◌, ◌≤◌, Bool, true, false, not, nat_lt, if◌then◌else◌, List, [], ◌∷◌, ◌++◌, length, drop, filter, filter_map, map, Option, Some, None, option_map, option_and_then, unwrap_or}
+use Rattle.std.specs.Prelude.{ℕ, ◌+◌, Bool, true, false, not, List, [], ◌∷◌, length, drop, filter, filter_map, map, Option, Some, None, option_map, option_and_then, unwrap_or}
 use Rattle.std.specs.List.{list_any}
 use Rattle.wpds_base.specs.Faults.{first_fault}
-use Rattle.wpds_base.specs.Limits.{most_bytes}
-use Rattle.wpds_base.specs.Lists.{IsIn}
 use Rattle.wpds_port.specs.declared.Word.{Word}
 use Rattle.document_forms.specs.Lines.{Line, lines, numbered, counts, is_text}
 use Rattle.document_forms.specs.Forms.{Symbols, LineForm, form_of, line_words, is_header}
 use Rattle.wpds_port.specs.declared.Kind.{Kind}
-use Rattle.wpds_port.specs.declared.Kind.TheVariants.{TooLong, NotText, Header, Form, NothingAsked}
+use Rattle.wpds_port.specs.declared.Kind.TheVariants.{NotText, Header, Form, NothingAsked}
 use Rattle.wpds_port.specs.declared.Refusal.{Refusal}
-use Rattle.wpds_port.specs.Refusals.{kind_number, refusal}
 use Rattle.document_forms.specs.Above.{declared, is_query, above_of}
 use Rattle.document_forms.specs.Kinds.{Conditions, weights_conditions, conditions}
+use Rattle.document_forms.specs.Refused
+use Rattle.document_forms.specs.Refused.{Format}
+pub use Rattle.document_forms.specs.Refused.{is_short}
 
 -- ---- the lines that count
 
@@ -66,79 +66,58 @@ conditions_below all (h ∷ w ∷ above) l =
 abbrev pub line_conditions : ℕ → List Counted → Counted → Conditions
 line_conditions all above l = (not l.text, NotText) ∷ conditions_below all above l
 
+-- What may be missing behind the last line: a header, or a query.
+abbrev pub end_conditions : List Counted → Conditions
+end_conditions [] = (true, Header) ∷ []
+end_conditions (h ∷ ls) = (not (list_any is_query (forms ls)), NothingAsked) ∷ []
+
+-- the format of documents that declare so many symbols
+abbrev pub document_format : ℕ → Format Counted
+document_format all = record {
+  number = λ l. l.number;
+  conditions = line_conditions all;
+  missing = end_conditions;
+}
+
 -- The line has this kind, where the document declares so many symbols.
 abbrev pub HasKind : ℕ → List Counted → Counted → Kind → Type 0
-HasKind all above l k = IsIn (true, k) (line_conditions all above l)
-
--- the kind that counts
-abbrev pub kind_below : ℕ → List Counted → Counted → Option Kind
-kind_below all above l = first_fault (line_conditions all above l)
+HasKind all above l k = Refused.HasKind (line_conditions all above l) k
 
 -- It is the lowest of the kinds that the line has.
-pub record IsLowest (all : ℕ) (above : List Counted) (l : Counted) (k : Kind) : Type 0 where
-  pub has : HasKind all above l k
-  pub lowest : (j : Kind) → HasKind all above l j → kind_number k ≤ kind_number j
+abbrev pub IsLowest : ℕ → List Counted → Counted → Kind → Type 0
+IsLowest all above l k = Refused.IsLowest (line_conditions all above l) k
 
 -- ---- the first refusal
 
 -- No line has a kind below those above it.
 abbrev pub AreAccepted : ℕ → List Counted → Type 0
-AreAccepted all ls =
-    (above : List Counted) (l : Counted) (below : List Counted) → ls ≡ above ++ l ∷ below
-    → (k : Kind) → HasKind all above l k → ⊥
-
--- Of these lines the first that has a kind is refused, with the lowest.
-pub record IsRefusedLine (all : ℕ) (ls : List Counted) (r : Refusal) : Type 0 where
-  pub above : List Counted
-  pub line : Counted
-  pub below : List Counted
-  pub split : ls ≡ above ++ line ∷ below
-  pub accepted : AreAccepted all above
-  pub kind : IsLowest all above line r.kind
-  pub number : r.line ≡ line.number
-
-abbrev pub is_short : List ℕ → Bool
-is_short bytes = not (nat_lt most_bytes (length bytes))
-
--- What is missing behind the last line: a header, or a query.
-abbrev pub missing : List Counted → Option Kind
-missing [] = Some Header
-missing (h ∷ ls) = if list_any is_query (forms ls) then None else Some NothingAsked
-
--- All lines are accepted, and something is missing on the line after the last.
-pub record IsRefusedEnd (bytes : List ℕ) (r : Refusal) : Type 0 where
-  pub accepted : AreAccepted (all_symbols (counted_lines bytes)) (counted_lines bytes)
-  pub kind : missing (counted_lines bytes) ≡ Some r.kind
-  pub number : r.line ≡ length (lines bytes) + 1
+AreAccepted all ls = Refused.AreAccepted (document_format all) ls
 
 -- The first refusal of the bytes.
 abbrev pub FirstRefusal : List ℕ → Refusal → Type 0
 FirstRefusal bytes r =
     let ls = counted_lines bytes in
-    (IsFalse (is_short bytes) × (r ≡ refusal 0 TooLong))
-    ⊎ (IsTrue (is_short bytes) × (IsRefusedLine (all_symbols ls) ls r ⊎ IsRefusedEnd bytes r))
+    Refused.FirstRefusal (document_format (all_symbols ls)) bytes ls r
 
 -- ---- found line by line
 
+-- the kind that counts
+abbrev pub kind_below : ℕ → List Counted → Counted → Option Kind
+kind_below all above l = first_fault (line_conditions all above l)
+
+-- what is missing behind the last line
+abbrev pub missing : List Counted → Option Kind
+missing ls = first_fault (end_conditions ls)
+
 -- the first of the lines that has a kind, below those above and one another
 abbrev pub first_refused : ℕ → (above ls : List Counted) → Option Refusal
-first_refused all above [] = None
-first_refused all above (l ∷ ls) = elim (kind_below all above l) [
-  | Some k ↦ Some (refusal l.number k)
-  | None ↦ first_refused all (above ++ l ∷ []) ls
-]
-
-abbrev pub end_refusal : List ℕ → List Counted → Option Refusal
-end_refusal bytes ls = option_map (refusal (length (lines bytes) + 1)) (missing ls)
+first_refused all above ls = Refused.first_refused (document_format all) above ls
 
 abbrev pub refusal_in : List ℕ → List Counted → Option Refusal
-refusal_in bytes ls = elim (first_refused (all_symbols ls) [] ls) [
-  | Some r ↦ Some r
-  | None ↦ end_refusal bytes ls
-]
+refusal_in bytes ls =
+    Refused.refusal_in (document_format (all_symbols ls)) (length (lines bytes) + 1) ls
 
 abbrev pub refusal_of : List ℕ → Option Refusal
-refusal_of bytes = elim (is_short bytes) [
-  | false ↦ Some (refusal 0 TooLong)
-  | true ↦ refusal_in bytes (counted_lines bytes)
-]
+refusal_of bytes =
+    let ls = counted_lines bytes in
+    Refused.refusal_of (document_format (all_symbols ls)) bytes ls

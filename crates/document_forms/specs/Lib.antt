@@ -10,6 +10,7 @@ pub mod Forms
 pub mod FormWords
 pub mod Above
 pub mod Kinds
+pub mod Refused
 pub mod FirstRefusal
 pub mod Documents
 pub mod Lawful
