@@ -11,15 +11,29 @@ ghost use Rattle.document_forms.specs.Lawful.{IsDocument};
 ghost use Rattle.document_forms.specs.declared.weight.WeightsLine.TheVariants.{Reach as ReachLine, Cost as CostLine};
 ghost use Rattle.report_text.specs.declared.options.Options.{Options as OptionsValue};
 ghost use Rattle.report_text.specs.Reports.{ByQuery, IsBrief};
+ghost use Rattle.wpds_port.specs.declared.refusal.Refusal.{Refusal};
+ghost use Rattle.wpds_app.specs.declared.input.Input.{Input as InputValue};
 ghost use Rattle.wpds_app.specs.Reports.{IsReport, IsReported, IsQueryText, TellsFeasibility, TellsFeasibilityOver, TellsReachability, TellsCost, TellsCosts};
+ghost use Rattle.wpds_app.specs.Running.{Means, IsRefused};
 
 use copy_weights::CopyConst;
 use cost_weights::{Cost, below_is_no_dearer};
+use document_forms::one_document_or_one_refusal;
 use document_systems::{DocumentWeights, documents_are_systems, unreachable_is_zero};
 use genkill_weights::GenKill;
+use program_laws::programs_are_refused_by_lines;
 use pushdown_rules::{answers_agree, answers_are_greatest_below, zero_where_infeasible};
 use relation_weights::Relations;
 use semiring_laws::Reach;
+
+/// No input is accepted and refused.
+pub fn no_input_is_accepted_and_refused()
+    ensures { (input : List ℕ) (meaning : InputValue) (r : Refusal)
+        → Means input meaning → IsRefused input r → ⊥ }
+{
+    one_document_or_one_refusal();
+    programs_are_refused_by_lines();
+}
 
 /// What is written for a query is `unreachable` exactly when no feasible run leads from its first pattern to its second,
 /// whatever its weights.
