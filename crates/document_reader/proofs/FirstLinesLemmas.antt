@@ -1,5 +1,5 @@
 -- The first two lines, and what is missing behind the last.
-use Rattle.std.proofs.Common.{◌≡◌, ◌≢◌, ℕ, true, false, cond, List, [], ◌∷◌, ◌++◌, length, Option, Some, None, refl, sym, ap, ◌∙◌, arith}
+use Rattle.std.proofs.Common.{◌≡◌, ◌≢◌, ℕ, true, false, not, cond, List, [], ◌∷◌, ◌++◌, length, Option, Some, None, refl, sym, ap, ◌∙◌, arith}
 use Rattle.std.specs.Prelude.{option_map, ◌==◌}
 use Rattle.std.specs.List.{list_any, cons_option}
 use Rattle.std.proofs.lemmas.Bool.{eqb-true}
@@ -53,11 +53,11 @@ some_asked pre (OfQuery p q ∷ fs) h = refl
 
 query_missing : (ls : List Counted) (w : LineForm) (fs : List LineForm) → body ls ≡ w ∷ fs → gathered queries_on [] (body ls) ≡ [] → missing ls ≡ Some NothingAsked
 query_missing [] w fs b h = cc
-query_missing (x ∷ ls) w fs b h = ap (λ t. cond t None (Some NothingAsked)) (none_asked [] (forms ls) h)
+query_missing (x ∷ ls) w fs b h = ap (λ t. cond (not t) (Some NothingAsked) None) (none_asked [] (forms ls) h)
 
 none_missing : (ls : List Counted) (w : LineForm) (fs : List LineForm) → body ls ≡ w ∷ fs → gathered queries_on [] (body ls) ≢ [] → missing ls ≡ None
 none_missing [] w fs b h = cc
-none_missing (x ∷ ls) w fs b h = ap (λ t. cond t None (Some NothingAsked)) (some_asked [] (forms ls) h)
+none_missing (x ∷ ls) w fs b h = ap (λ t. cond (not t) (Some NothingAsked) None) (some_asked [] (forms ls) h)
 
 -- what is found where a line is refused, and where none is
 pub found_in_line : (all after : ℕ) (ls : List Counted) (r : Refusal) → first_refused all [] ls ≡ Some r → found_first all after ls ≡ Some r

@@ -1,2 +1,3 @@
 mod LockProgram
 mod Rows
+mod RefusalExamples

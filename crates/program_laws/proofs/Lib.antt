@@ -13,4 +13,5 @@ pub mod StatementLemmas
 pub mod AskedLemmas
 pub mod CodeLemmas
 pub mod LawLemmas
+pub mod RefusalLemmas
 pub mod Examples

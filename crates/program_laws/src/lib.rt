@@ -3,4 +3,4 @@
 
 mod laws;
 
-pub use laws::{read_programs_are_lawful, rules_are_ways};
+pub use laws::{programs_are_refused_by_lines, read_programs_are_lawful, rules_are_ways};

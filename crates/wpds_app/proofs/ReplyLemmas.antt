@@ -14,7 +14,7 @@ use Rattle.wpds_app.specs.declared.reply.Reply.{Reply}
 use Rattle.wpds_port.specs.declared.refusal.ReadFault.{ReadFault as ReadFaultValue}
 use Rattle.wpds_port.specs.declared.refusal.ReadFault.TheVariants.{Refused}
 use Rattle.wpds_app.specs.Running.{IsInput, Means, IsRefused, IsUnread, IsReply, HasReply, IsDecided, IsDecidedBy}
-use Rattle.wpds_app.proofs.InputLemmas.{NeverBoth, accepted_not_refused}
+use Rattle.wpds_app.proofs.InputLemmas.{NeverBoth}
 
 -- a refusal's line is the answer to an input that it refuses
 pub refused_replies : {E : Type 0} (input : List ℕ) (options : Options) (refusal : Refusal) (r : Result Reply E) → IfOk r (λ x. x.status ≡ DocumentRefused)
@@ -25,10 +25,10 @@ refused_replies input options refusal (Err e) status text refused = tt
 decided : NeverBoth → (input : List ℕ) (options : Options) (text : List ℕ) (status : Status) → IsReply input options status text → IsDecidedBy input status
 decided both input options text Answered reply = record {
   answered = (λ _. (reply.0, reply.1), λ _. refl);
-  refused = (λ e. cc, λ r. absurd (accepted_not_refused both input reply.0 r.0 reply.1 r.1));
+  refused = (λ e. cc, λ r. absurd (both input reply.0 r.0 reply.1 r.1));
 }
 decided both input options text DocumentRefused reply = record {
-  answered = (λ e. cc, λ d. absurd (accepted_not_refused both input d.0 reply.0 d.1 reply.1));
+  answered = (λ e. cc, λ d. absurd (both input d.0 reply.0 d.1 reply.1));
   refused = (λ _. (reply.0, reply.1), λ _. refl);
 }
 decided both input options text WordsRefused reply = absurd reply

@@ -1,13 +1,14 @@
 -- What a run of the program reads and writes.
-use Rattle.std.specs.Prelude.{◌≡◌, ℕ, ◌+◌, ◌<◌, ◌≤◌, ◌⊎◌, ◌↔◌, IsTrue, List, [], ◌∷◌, ◌++◌, Option, None, Some, Ok, Err, length}
+use Rattle.std.specs.Prelude.{◌≡◌, ℕ, ◌+◌, ◌<◌, ◌≤◌, ◌⊎◌, ◌↔◌, IsTrue, List, [], ◌∷◌, ◌++◌, Option, None, Some, Ok, length}
 use Rattle.std.specs.Io.KnownBytes.{Appends, Consumes, IsAtEnd}
 use Rattle.wpds_port.specs.Writing.{AppendsPart}
 use Rattle.wpds_port.specs.Refusals.{refusal_text}
 use Rattle.wpds_port.specs.declared.refusal.Refusal.{Refusal}
 use Rattle.document_forms.specs.Documents.{reads_as}
-use Rattle.document_forms.specs.FirstRefusal.{FirstRefusal, is_short}
+use Rattle.document_forms.specs.FirstRefusal.{FirstRefusal as FirstSystemRefusal, is_short}
 use Rattle.document_forms.specs.Languages.{language_of}
 use Rattle.document_forms.specs.declared.language.Language.TheVariants.{Program as ProgramLanguage}
+use Rattle.program_forms.specs.FirstRefusal.{FirstRefusal as FirstProgramRefusal}
 use Rattle.program_forms.specs.Programs.{read_as}
 use Rattle.wpds_port.specs.declared.refusal.ReadFault.{ReadFault as ReadFaultValue}
 use Rattle.wpds_port.specs.declared.refusal.ReadFault.TheVariants.{Refused, Memory}
@@ -42,11 +43,11 @@ Means input (Program p) = IsProgram input × (read_as input ≡ Ok p)
 
 -- what is refused as a program
 abbrev pub IsRefusedProgram : List ℕ → Refusal → Type 0
-IsRefusedProgram input r = IsProgram input × (read_as input ≡ Err r)
+IsRefusedProgram input r = IsProgram input × FirstProgramRefusal input r
 
 -- what is refused as a system
 abbrev pub IsRefusedSystem : List ℕ → Refusal → Type 0
-IsRefusedSystem input r = (IsProgram input → ⊥) × FirstRefusal input r
+IsRefusedSystem input r = (IsProgram input → ⊥) × FirstSystemRefusal input r
 
 -- the refusal of an input
 abbrev pub IsRefused : List ℕ → Refusal → Type 0

@@ -6,6 +6,7 @@ use boolean_syntax::read_program;
 use document_forms::{Document, Language};
 use document_reader::{language, read_system};
 use document_systems::Names;
+use program_laws::programs_are_refused_by_lines;
 use std::alloc::Global;
 use wpds_port::ReadFault;
 
@@ -33,6 +34,7 @@ fn program_of(alloc: Global, input: &[u8]) -> Result<Input, ReadFault>
     requires { IsProgram input.now }
     ensures { MatchResult result (Means input.now) (IsUnread input.now) }
 {
+    programs_are_refused_by_lines();
     match read_program(alloc, input) {
         Ok(program) => Ok(Input::Program(program)),
         Err(fault) => Err(fault),

@@ -5,6 +5,7 @@ mod alike;
 mod crew;
 mod generate;
 mod input;
+mod laws;
 mod program;
 mod reply;
 mod report;
@@ -14,5 +15,6 @@ mod texts;
 mod together;
 
 pub use input::Input;
+pub use laws::no_input_is_accepted_and_refused;
 pub use program::run;
 pub use status::Status;

@@ -11,9 +11,9 @@ ghost use Rattle.wpds_app.specs.Commands.{IsCheck, IsCommand};
 
 use crate::Status;
 use crate::crew::Crew;
+use crate::laws::no_input_is_accepted_and_refused;
 use crate::request::reply_to_request;
 use command_words::read_words;
-use document_forms::one_document_or_one_refusal;
 use std::alloc::Global;
 use std::sync::Wait;
 use std::thread::Threads;
@@ -108,7 +108,7 @@ pub fn run<H: Threads + Wait + Sync, R: Source, W: Sink, G: Gate>(
         → R.left source.old ≡ Some bytes → IsDecided result
         → IsDecidedBy (take (most_bytes + 1) bytes) result }
 {
-    one_document_or_one_refusal();
+    no_input_is_accepted_and_refused();
     let request = match read_words(alloc, words) {
         Ok(request) => request,
         Err(OutOfMemory) => return Status::OutOfMemory,

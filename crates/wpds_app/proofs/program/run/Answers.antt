@@ -11,4 +11,4 @@ returns-in-Ok-reply_to_request-clause-words_accepted g c = λ unrefused unfaulte
 pub returns-in-Ok-reply_to_request-clause-exactly : goal.returns-in-Ok-reply_to_request-clause-exactly
 returns-in-Ok-reply_to_request-clause-exactly g c = λ options bytes check told done.
     answers (map string_bytes c.args.words.now) c.in-Ok.request c.in-Ok.ensures.request _ _ c.in-Ok-reply_to_request.reply.status c.finish.result c.in-Ok-reply_to_request.reply.text
-    c.in-Ok-reply_to_request.ensures.outcome c.finish.ensures.status c.one_document_or_one_refusal.ensures.never_both options bytes check told done
+    c.in-Ok-reply_to_request.ensures.outcome c.finish.ensures.status c.no_input_is_accepted_and_refused.ensures options bytes check told done
