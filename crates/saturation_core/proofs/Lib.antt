@@ -14,5 +14,6 @@ mod SettleBook
 mod TurnBook
 mod AllPush
 mod SeenLemmas
+mod TellLemmas
 mod Examples
 pub mod CallerLemmas

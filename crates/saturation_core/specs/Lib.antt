@@ -6,4 +6,5 @@ pub mod BookView
 pub mod Goals
 pub mod DoneValue
 pub mod Settled
+pub mod HandsOut
 pub mod private

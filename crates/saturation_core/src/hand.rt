@@ -124,7 +124,8 @@ impl<S: Semiring> Hand<S> {
     }
 
     /// Works out the jobs, and what they make of their goals as these were seen, without the book. It is refused only when out
-    /// of memory.
+    /// of memory. What is asked of the hand is what `take` says of each that it gives (its clause `works`), over the book's system
+    /// and in its direction. Of these `sums` holds since what the hand saw, and the inputs of its jobs, are transitions of the book.
     pub fn work<'s, D: Direction<S>>(
         self,
         alloc: Global,

@@ -23,5 +23,5 @@ pub use change::{changed_at, node_at, weight_now};
 pub use goals::GoalList;
 pub use hand::{Done, Hand, Lowered, SeatSet, SettleFault, Taken, WeightList, WorkFault};
 pub use journal::Journal;
-pub use laws::bits_are_seats;
+pub use laws::{bits_are_seats, hands_out_tell, hands_stay_out};
 pub use queued::{NumberedPlace, QueuedTransitions};
