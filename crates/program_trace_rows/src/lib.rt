@@ -4,6 +4,8 @@
 #[cfg(test)]
 mod checked;
 #[cfg(test)]
+mod lock;
+#[cfg(test)]
 mod rows;
 #[cfg(test)]
 mod texts;

@@ -72,8 +72,8 @@ fn are_rows(trace: &[State], rows: &[Row]) -> bool {
     true
 }
 
-// Whether each state but the first is a move of the one before.
-fn are_moves(program: &Program, trace: &[State]) -> bool
+/// Whether each state but the first is a move of the one before.
+pub(crate) fn are_moves(program: &Program, trace: &[State]) -> bool
     requires { IsRead (program_of program.now) }
 {
     for k in 1..trace.len() {

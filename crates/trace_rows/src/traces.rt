@@ -134,6 +134,44 @@ fn count(alloc: Global, listing: &Listing, limit: u64) -> Result<Option<usize>, 
     }
 }
 
+// Whether a run is these rules.
+fn is_run(run: &[u32], rules: &[u32]) -> bool {
+    if run.len() != rules.len() {
+        return false;
+    }
+    for k in 0..rules.len() {
+        if run[k] != rules[k] {
+            return false;
+        }
+    }
+    true
+}
+
+// Whether these are one run, of these rules.
+fn is_one_run(expanded: &Expanded, rules: &[u32]) -> bool {
+    match expanded {
+        Expanded::Runs(runs) => runs.len() == 1 && is_run(runs[0].as_slice(), rules),
+        Expanded::TooLong => false,
+    }
+}
+
+// A call that returns: one run of two rules, whose size is three.
+#[test]
+fn runs(rt: HostRuntime) -> Result<(), Fail> {
+    let alloc = rt.alloc();
+    let rows = [
+        (None, Some(1), None, None),
+        EMPTY,
+        (None, Some(0), Some(0), Some(1)),
+    ];
+    let listing = listing(alloc, Side::Pre, &rows)?;
+    let within = expand(alloc, &listing, 3)?;
+    assert!(rt; is_one_run(&within, &[0, 1]));
+    let over = expand(alloc, &listing, 2)?;
+    assert!(rt; matches!(over, Expanded::TooLong));
+    Ok(())
+}
+
 #[test]
 fn lines(rt: HostRuntime) -> Result<(), Fail> {
     let rows: [(Side, &[Row], &str); 7] = [
