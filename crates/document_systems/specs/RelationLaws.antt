@@ -37,8 +37,9 @@ use Rattle.document_forms.specs.declared.document.Move.{Move}
 use Rattle.document_forms.specs.declared.document.MapText.{MapText}
 use Rattle.document_forms.specs.Names.{name}
 use Rattle.document_forms.specs.Lawful.{AreNames}
-use Rattle.document_systems.specs.RelationWeights.{allowed, and_then, relation_weight, moved_from, slot_of, relation_map, IsRelationMap, label, node_text, diagram_text, relation_text, HasReferences, IsToldByRelation}
+use Rattle.document_systems.specs.RelationWeights.{allowed, and_then, relation_weight, moved_from, slot_of, relation_map, IsRelationMap, label, node_text, diagram_text, relation_text, IsToldByRelation}
 use Rattle.document_systems.specs.ValueTexts.{or_one}
+use Rattle.document_systems.specs.private.NodeCounts.{HasReferences, has_references}
 use Rattle.document_systems.specs.private.RowLaws.{Lacks, names_lack, or_one_tells}
 use Rattle.document_systems.specs.private.RowLaws.{parts_tell as fronts_tell}
 use Rattle.document_systems.specs.private.PartLaws.{IsFree, AreFree, free_test, free_append, marked, row_tells}
@@ -307,15 +308,16 @@ module _ (names : List (List ℕ)) (are : AreNames most_related names) where
 
 -- ---- the text of a relation tells the relation
 
-own_nodes : (limit : ℕ) (nodes : List Branch) → ((i : ℕ) (b : Branch) → slice_get nodes i ≡ Some b → b.var < limit) → AllByRecursion HasReferences nodes
-    → AllByRecursion (λ b. (b.var < limit) × HasReferences b) nodes
-own_nodes limit [] below held = tt
-own_nodes limit (b ∷ bs) below held = ((below 0 b refl, held.0), own_nodes limit bs (λ i c at. below (suc i) c at) held.1)
+own_nodes : (P : Branch → Type 0) (nodes : List Branch) → ((i : ℕ) (b : Branch) → slice_get nodes i ≡ Some b → P b) → AllByRecursion P nodes
+own_nodes P [] each = tt
+own_nodes P (b ∷ bs) each = (each 0 b refl, own_nodes P bs (λ i c at. each (suc i) c at))
 
 own_of : (n : ℕ) (names : List (List ℕ)) (w : Parts) → IsToldByRelation n names w → AllByRecursion (λ b. (b.var < 2 * length names) × HasReferences b) w.nodes
 own_of n names w told =
     let below = subst (λ m. HasVariablesBelow (2 * m) w.nodes) (sym told.all_named) told.below in
-    own_nodes (2 * length names) w.nodes (λ i b at. below (suc (suc i)) b at) (recursion_from_All HasReferences w.nodes told.references)
+    let few : n ≤ 24 = omega (arith, told.names.few, told.all_named) in
+    own_nodes (λ b. (b.var < 2 * length names) × HasReferences b) w.nodes
+    (λ i b at. (below (suc (suc i)) b at, has_references n w few told.canonical told.below i b at))
 
 some_root : (r : ℕ) → nat_eq r 0 ≡ false → r ≢ 0
 some_root r is e = true≢false (sym (eq-eqb r 0 e) ∙ is)

@@ -1,6 +1,6 @@
 -- Relations between variables as weights: what the weights of a document are worth over n variables, and how values are
 -- written.
-use Rattle.std.specs.Prelude.{◌≡◌, ℕ, ◌*◌, ◌/◌, ◌%◌, ◌^◌, ◌<◌, nat_eq, All, List, [], ◌∷◌, ◌++◌, fold, length, map, Option, None, Some, codes, decimal, if◌then◌else◌}
+use Rattle.std.specs.Prelude.{◌≡◌, ℕ, ◌*◌, ◌/◌, ◌%◌, nat_eq, List, [], ◌∷◌, ◌++◌, fold, length, map, Option, None, Some, codes, decimal, if◌then◌else◌}
 use Rattle.std.specs.List.{join_with_byte, range_with_len}
 use Rattle.wpds_base.specs.Limits.{most_related}
 use Rattle.truth_tables.specs.Formulas.{Formula}
@@ -92,10 +92,6 @@ diagram_text names nodes = codes "relation" ++ join_with_byte 59 (or_one (codes 
 abbrev pub relation_text : List (List ℕ) → Parts → List ℕ
 relation_text names w = if nat_eq w.root 0 then codes "unreachable" else diagram_text names w.nodes
 
--- references that 64 bits hold
-abbrev pub HasReferences : Branch → Type 0
-HasReferences b = (b.low < 2 ^ 64) × (b.high < 2 ^ 64)
-
 -- What a value's text tells: each variable has a name. A diagram fits exactly where it is canonical, over the variables'
 -- bits.
 pub record IsToldByRelation (n : ℕ) (variables : List (List ℕ)) (w : Parts) : Type 0 where
@@ -103,7 +99,6 @@ pub record IsToldByRelation (n : ℕ) (variables : List (List ℕ)) (w : Parts) 
   pub below : HasVariablesBelow (2 * n) w.nodes
   pub names : AreNames most_related variables
   pub all_named : length variables ≡ n
-  pub references : All HasReferences w.nodes
 
 abbrev pub relation_kind : Kind ℕ Parts RelMap
 relation_kind = record {

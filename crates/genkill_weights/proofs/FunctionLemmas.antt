@@ -95,10 +95,10 @@ nothing_kept : (b : Bool) → ((b && false) || false) ≡ false
 nothing_kept true = refl
 nothing_kept false = refl
 
-fact_of_all : (n f : ℕ) → f < 64 * n → fact (all_facts n) f ≡ true
+pub fact_of_all : (n f : ℕ) → f < 64 * n → fact (all_facts n) f ≡ true
 fact_of_all n f below = ap (λ w. has w (f % 64)) (word_tabulate n (λ i. 2 ^ 64 - 1) (f / 64) (omega (arith, below))) ∙ has_all (f % 64) (omega arith)
 
-fact_of_none : (n f : ℕ) → fact (no_facts n) f ≡ false
+pub fact_of_none : (n f : ℕ) → fact (no_facts n) f ≡ false
 fact_of_none n f = fact_tabulate n (λ i. 0) (λ i b. refl) f ∙ has_zero (f % 64)
 
 all_beyond : (n f : ℕ) → 64 * n ≤ f → fact (all_facts n) f ≡ false

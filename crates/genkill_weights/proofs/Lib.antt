@@ -1,6 +1,7 @@
 mod MakingLemmas
 mod FunctionLemmas
 mod EffectLemmas
+mod OperationLemmas
 mod FoldLemmas
 mod WidthLemmas
 pub mod CallerLemmas

@@ -1,15 +1,15 @@
--- What a weight does to each fact: it generates it, kills it, or keeps it.
+-- What the runs of a weight, one or several, do to each fact: they generate it, kill it, or neither.
 use Rattle.std.specs.Prelude.{ℕ, ◌*◌, Bool, false, not, ◌&&◌, ◌||◌, nat_lt}
 use Rattle.genkill_weights.specs.Masks.{fact}
 use Rattle.genkill_weights.specs.declared.weight.GenKillW.{GenKillW}
 use Rattle.genkill_weights.specs.declared.weight.GenKillW.TheVariants.{Zero, Map}
 
--- the fact holds after each run, whatever held before
+-- some run generates the fact: it holds after that run, whatever held before
 abbrev pub generates : (n : ℕ) → GenKillW n → ℕ → Bool
 generates n Zero f = false
 generates n (Map keep gens) f = fact gens f
 
--- the fact, one of the first 64 n, holds after no run
+-- each run kills the fact, one of the first 64 n: it holds after none of them, whatever held before
 abbrev pub kills : (n : ℕ) → GenKillW n → ℕ → Bool
 kills n Zero f = false
 kills n (Map keep gens) f = nat_lt f (64 * n) && not (fact keep f)

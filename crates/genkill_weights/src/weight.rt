@@ -25,8 +25,8 @@ impl<const N: usize> GenKillW<N> {
         }
     }
 
-    /// Whether a fact holds after these runs, whatever held before. Zero generates none, and none beyond the width is
-    /// generated.
+    /// Whether a fact holds after some of these runs, whatever held before. Zero generates none, and none beyond the width
+    /// is generated.
     pub fn generates(&self, fact: usize) -> bool
         ensures { result ≡ generates N self.now fact }
     {
@@ -36,7 +36,7 @@ impl<const N: usize> GenKillW<N> {
         }
     }
 
-    /// Whether a fact does not hold after these runs, whatever held before. Zero kills none, and none beyond the width is
+    /// Whether a fact holds after none of these runs, whatever held before. Zero kills none, and none beyond the width is
     /// killed.
     pub fn kills(&self, fact: usize) -> bool
         ensures { result ≡ kills N self.now fact }

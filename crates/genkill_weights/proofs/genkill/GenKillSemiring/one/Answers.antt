@@ -1,4 +1,4 @@
-use Rattle.std.proofs.Common.{◌-◌, ◌^◌, ap₂, sym}
+use Rattle.std.proofs.Common.{◌-◌, ◌^◌, ap₂}
 use Rattle.genkill_weights.specs.declared.weight.GenKillW.TheVariants.{Map}
 use Rattle.genkill_weights.specs.private.MaskLaws.{replicate_is}
 use Rattle.genkill_weights.proofs.genkill.GenKillSemiring.one.Goals as goal

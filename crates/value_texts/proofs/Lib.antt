@@ -1,0 +1,7 @@
+mod KeptLemmas
+mod AnswerLemmas
+mod RuleLemmas
+mod FactLemmas
+mod CopyLemmas
+mod RelationLemmas
+mod ToldLemmas
