@@ -7,3 +7,4 @@ mod ReplyLemmas
 mod ReportLemmas
 mod ReportingLemmas
 mod RequestLemmas
+mod TellingLemmas

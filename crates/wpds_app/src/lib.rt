@@ -16,8 +16,9 @@ mod together;
 
 pub use input::Input;
 pub use laws::{
-    brief_reports_agree, costs_are_the_cheapest, reports_tell_costs, reports_tell_feasibility,
-    reports_tell_reachability, unreachable_where_infeasible,
+    brief_reports_agree, costs_are_the_cheapest, reports_tell_constants, reports_tell_costs,
+    reports_tell_facts, reports_tell_feasibility, reports_tell_reachability,
+    reports_tell_relations, unreachable_where_infeasible,
 };
 pub use program::run;
 pub use status::Status;
