@@ -2,4 +2,5 @@ mod AgreementLemmas
 mod QueryLemmas
 mod ReachabilityLemmas
 mod ReportingLemmas
+mod TellingLemmas
 mod WeightsLemmas

@@ -1,12 +1,12 @@
 -- What the report on a document tells.
-use Rattle.std.specs.Prelude.{◌≡◌, ◌≢◌, ◌⊎◌, ◌↔◌, ℕ, ◌<◌, ◌≤◌, List, ◌++◌, Option, Some, IfSome, codes, decimal, slice_get}
+use Rattle.std.specs.Prelude.{◌≡◌, ◌≢◌, ◌⊎◌, ◌↔◌, ℕ, ◌<◌, ◌≤◌, List, ◌++◌, length, Option, Some, IfSome, codes, decimal, slice_get}
 use Rattle.std.specs.List.{AllByRecursion}
 use Rattle.semiring_laws.specs.declared.reach.NoMap.{NoMap}
 use Rattle.semiring_laws.specs.Reach.{reach_operations}
 use Rattle.cost_weights.specs.Cost.{cost_operations}
 use Rattle.pushdown_rules.specs.Pushdown.{Pushdown}
 use Rattle.pushdown_rules.specs.Values.{value_of}
-use Rattle.pushdown_rules.specs.Answers.{Leads, HasNoFeasibleRun}
+use Rattle.pushdown_rules.specs.Answers.{Leads, HasFeasibleRun, HasNoFeasibleRun}
 use Rattle.config_patterns.specs.Membership.{PatternValue, has_member}
 use Rattle.document_forms.specs.Documents.{Document}
 use Rattle.document_forms.specs.declared.document.QueryLine.{QueryLine}
@@ -15,6 +15,16 @@ use Rattle.document_systems.specs.Kinds.{Kind}
 use Rattle.document_systems.specs.Weights.{reach_kind, cost_kind}
 use Rattle.document_systems.specs.Systems.{system_of, side_of}
 use Rattle.report_text.specs.Listings.{query_line}
+use Rattle.semiring_laws.specs.Semiring.{Operations}
+use Rattle.genkill_weights.specs.GenKill.{genkill_operations}
+use Rattle.genkill_weights.specs.Widths.{width_for}
+use Rattle.copy_weights.specs.CopyConst.{copy_operations}
+use Rattle.relation_weights.specs.Relations.{relation_operations}
+use Rattle.pushdown_rules.specs.Configuration.{Configuration}
+use Rattle.document_systems.specs.CopyWeights.{copy_kind}
+use Rattle.document_systems.specs.FactWeights.{genkill_kind}
+use Rattle.document_systems.specs.RelationWeights.{relation_kind}
+use Rattle.value_texts.specs.Telling.{NamesFacts, GivesForms, WritesRelation}
 use Rattle.wpds_app.specs.Reports.{ByDocument}
 
 -- no feasible run leads from the query's first pattern to its second
@@ -64,3 +74,32 @@ TellsCost p i from to text =
 -- with costs up to this cap the text of a query of the document says so
 abbrev pub TellsCosts : ℕ → Document → ℕ → QueryLine → List ℕ → Type 0
 TellsCosts cap d i q text = TellsCost (system_of cost_kind cap d) i (side_of d q.from) (side_of d q.to) text
+
+-- ---- what values tell of runs
+
+-- The text says that no feasible run leads from the query's first pattern to its second, or begins with a value of whose text this holds, between these patterns and under the document's names.
+abbrev pub TellsRuns : {S W Map : Type 0} → Operations W Map → Pushdown S W Map → ((from to : Configuration → Bool) → (names : List (List ℕ)) → List ℕ → Type 0) → Document → ℕ → QueryLine → List ℕ → Type 0
+TellsRuns s p holds d i q text =
+    let from = has_member (side_of d q.from) in
+    let to = has_member (side_of d q.to) in
+    (HasNoFeasibleRun s p from to × (text ≡ query_line i (codes "unreachable")))
+    ⊎ (HasFeasibleRun s p from to × (value : List ℕ) × holds from to d.items value × (rest : List ℕ) × (text ≡ query_line i value ++ rest))
+
+-- with facts the value names those that some run generates, and those that each feasible run kills
+abbrev pub TellsFacts : Document → ℕ → QueryLine → List ℕ → Type 0
+TellsFacts d =
+    let n = width_for (length d.items) in
+    let p = system_of (genkill_kind n) (record {}) d in
+    TellsRuns (genkill_operations n) p (NamesFacts n p) d
+
+-- with copies it gives each variable a form, which says the meet of what the runs leave in it
+abbrev pub TellsConstants : Document → ℕ → QueryLine → List ℕ → Type 0
+TellsConstants d =
+    let p = system_of copy_kind (length d.items) d in
+    TellsRuns (copy_operations p.semiring) p (GivesForms p) d
+
+-- with relations it is the diagram of the pairs of states that some run relates
+abbrev pub TellsRelations : Document → ℕ → QueryLine → List ℕ → Type 0
+TellsRelations d =
+    let p = system_of relation_kind (length d.items) d in
+    TellsRuns (relation_operations p.semiring) p (WritesRelation p) d

@@ -8,11 +8,11 @@ ghost use Rattle.document_systems.specs.Weights.{cost_kind};
 ghost use Rattle.report_text.specs.Listings.{query_line};
 ghost use Rattle.document_forms.specs.Documents.{Document};
 ghost use Rattle.document_forms.specs.Lawful.{IsDocument};
-ghost use Rattle.document_forms.specs.declared.weight.WeightsLine.TheVariants.{Reach as ReachLine, Cost as CostLine};
+ghost use Rattle.document_forms.specs.declared.weight.WeightsLine.TheVariants.{Reach as ReachLine, Cost as CostLine, GenKill as GenKillLine, Copy as CopyLine, Relation as RelationLine};
 ghost use Rattle.report_text.specs.declared.options.Options.{Options as OptionsValue};
 ghost use Rattle.report_text.specs.Reports.{ByQuery, IsBrief};
 ghost use Rattle.wpds_app.specs.Reports.{IsReport, IsReported, IsQueryText};
-ghost use Rattle.report_laws.specs.Telling.{TellsFeasibility, TellsFeasibilityOver, TellsReachability, TellsCost, TellsCosts};
+ghost use Rattle.report_laws.specs.Telling.{TellsFeasibility, TellsFeasibilityOver, TellsReachability, TellsCost, TellsCosts, TellsFacts, TellsConstants, TellsRelations};
 ghost use Rattle.report_laws.specs.Agreement.{ByBoth, TellOneValue, TellOneValueOver};
 
 use copy_weights::CopyConst;
@@ -22,6 +22,7 @@ use genkill_weights::GenKill;
 use pushdown_rules::{answers_agree, answers_are_greatest_below, zero_where_infeasible};
 use relation_weights::Relations;
 use semiring_laws::Reach;
+use value_texts::{constants_are_of_runs, facts_are_of_runs, relations_are_of_runs};
 
 /// What is written for a query is `unreachable` exactly when no feasible run leads from its first pattern to its second,
 /// whatever its weights.
@@ -154,4 +155,40 @@ pub fn reports_tell_costs()
 {
     costs_are_the_cheapest();
     documents_are_systems::<Cost>();
+}
+
+/// The report on a document with `weights genkill` says of each query that no feasible run leads there, or names the facts
+/// that some run generates, and those that each feasible run kills.
+pub fn reports_tell_facts()
+    ensures { (d : Document) (options : OptionsValue) (report : List ℕ)
+        → d.weights ≡ GenKillLine → IsDocument d → IsReport options d report
+        → ByQuery (TellsFacts d) 1 d.queries report }
+{
+    facts_are_of_runs();
+}
+
+/// The report on a document with `weights copy` says of each query that no feasible run leads there, or gives each
+/// variable a form that says the meet of what the runs leave in it.
+pub fn reports_tell_constants()
+    ensures { (d : Document) (options : OptionsValue) (report : List ℕ)
+        → d.weights ≡ CopyLine → IsDocument d → IsReport options d report
+        → ByQuery (TellsConstants d) 1 d.queries report }
+{
+    constants_are_of_runs();
+    documents_are_systems::<CopyConst>();
+    answers_are_greatest_below::<CopyConst>();
+    unreachable_is_zero::<CopyConst>();
+}
+
+/// The report on a document with `weights relation` says of each query that no feasible run leads there, or has the
+/// diagram of the pairs of an old and a new state that some run relates.
+pub fn reports_tell_relations()
+    ensures { (d : Document) (options : OptionsValue) (report : List ℕ)
+        → d.weights ≡ RelationLine → IsDocument d → IsReport options d report
+        → ByQuery (TellsRelations d) 1 d.queries report }
+{
+    relations_are_of_runs();
+    documents_are_systems::<Relations>();
+    answers_are_greatest_below::<Relations>();
+    unreachable_is_zero::<Relations>();
 }

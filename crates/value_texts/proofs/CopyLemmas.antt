@@ -28,7 +28,7 @@ below_undefined Undefined = refl
 below_undefined (Number x) = refl
 below_undefined Varies = refl
 
-one_number : (x y : ℤ) → IsBelow (Number x) (Number y) → x ≡ y
+pub one_number : (x y : ℤ) → IsBelow (Number x) (Number y) → x ≡ y
 one_number x y low = elim (int_cases x y) [
   | inl is ↦ is
   | inr apart ↦ (let e : Varies ≡ Number x = sym (cond-false (int_eq x y) (Number x) Varies (int_apart x y apart)) ∙ low in cc)

@@ -1,3 +1,4 @@
+mod Examples
 mod KeptLemmas
 mod AnswerLemmas
 mod RuleLemmas
@@ -5,3 +6,5 @@ mod FactLemmas
 mod CopyLemmas
 mod RelationLemmas
 mod ToldLemmas
+mod SystemLemmas
+pub mod CallerLemmas
