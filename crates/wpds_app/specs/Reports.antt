@@ -126,7 +126,8 @@ TellsCosts cap d i q text = TellsCost (system_of cost_kind cap d) i (side_of d q
 
 -- ---- what values tell of runs
 
--- The text says that no feasible run leads from the query's first pattern to its second, or begins with a value of whose text this holds, between these patterns and under the document's names.
+-- The text says that no feasible run leads from the query's first pattern to its second, or begins with the text of a value, of
+-- which this holds between the two patterns and under the document's names.
 abbrev pub TellsRuns : {S W Map : Type 0} → Operations W Map → Pushdown S W Map → ((from to : Configuration → Bool) → (names : List (List ℕ)) → List ℕ → Type 0) → Document → ℕ → QueryLine → List ℕ → Type 0
 TellsRuns s p holds d i q text =
     let from = has_member (side_of d q.from) in
