@@ -69,7 +69,7 @@ abbrev pub IsBelow : Known → Known → Type 0
 IsBelow u v = either u v ≡ u
 
 module _ (p : Pushdown ℕ CopyW CopyMap) (from to : Configuration → Bool) where
-  -- what a run leaves in a variable, by what is known of the old values
+  -- what a run leaves in a variable, by what is known of the old values; after one that is not feasible nothing is defined
   abbrev pub left_by : List ℕ → (ℕ → Known) → ℕ → Known
   left_by run old k = values p.semiring (value_of (copy_operations p.semiring) p run) old k
 
