@@ -1,39 +1,39 @@
-ghost use Rattle.std.specs.Prelude.{◌≡◌, ◌<◌, ◌+◌, ◌-◌, ℕ, List, map, length, None, Some, is_some, IfOk, All, option_to_list, option_and_then, nat_eq};
-ghost use Rattle.std.specs.HashMap.{get};
+ghost use Rattle.std.specs.Prelude.{◌≡◌, ◌<◌, ◌+◌, ◌-◌, ℕ, List, map, length, None, Some, is_some, IfOk, All, option_to_list, option_and_then};
 ghost use Rattle.witness_graph.specs.declared.node.Node.{Node as NodeValue};
 ghost use Rattle.witness_graph.specs.Nodes.{AreNodes, IsListing, named, node_at};
 ghost use Rattle.witness_graph.specs.Order.{renamed, listing_of};
 ghost use Rattle.witness_graph.specs.Runs.{runs_of};
 ghost use Rattle.witness_graph.specs.declared.node.Side.{Side as SideValue};
 ghost use Rattle.witness_graph.specs.Order as order;
+ghost use Rattle.witness_graph.specs.private.Paging.{place_on};
 ghost use Rattle.witness_graph.specs.private.Walking.{KnowsPlaces, first_new};
 
 use crate::Node;
 use crate::parts::NodeParts;
+use crate::places::Places;
 use std::alloc::Global;
-use std::collections::HashMap;
 use wpds_base::OutOfMemory;
 
 // The numbers of nodes in the order of a walk, and the place there of each number that has one.
 #[derive(Drop)]
 struct Visited {
     order: Vec<u64>,
-    places: HashMap<u64, u64>,
+    places: Places,
 }
 
 // Where a number stands, if it does.
-fn place(places: &HashMap<u64, u64>, part: Option<u64>) -> Option<u64>
-    ensures { result ≡ option_and_then (λ j. get nat_eq places.now j) part }
+fn place(places: &Places, part: Option<u64>) -> Option<u64>
+    ensures { result ≡ option_and_then (place_on places.now) part }
 {
     match part {
-        Some(k) => places.get(&k).copied(),
+        Some(k) => places.get(k),
         None => None,
     }
 }
 
 // The part, unless it has a place.
-fn unplaced(places: &HashMap<u64, u64>, part: Option<u64>) -> Option<u64>
-    ensures { result ≡ first_new (λ j. is_some (get nat_eq places.now j)) (option_to_list part) }
+fn unplaced(places: &Places, part: Option<u64>) -> Option<u64>
+    ensures { result ≡ first_new (λ j. is_some (place_on places.now j)) (option_to_list part) }
 {
     match place(places, part) {
         Some(_) => None,
@@ -42,8 +42,8 @@ fn unplaced(places: &HashMap<u64, u64>, part: Option<u64>) -> Option<u64>
 }
 
 // The first number that a node names and that has no place.
-fn next_unplaced(places: &HashMap<u64, u64>, node: Node) -> Option<u64>
-    ensures { result ≡ first_new (λ j. is_some (get nat_eq places.now j)) (named node) }
+fn next_unplaced(places: &Places, node: Node) -> Option<u64>
+    ensures { result ≡ first_new (λ j. is_some (place_on places.now j)) (named node) }
 {
     match node {
         Node::Start => None,
@@ -74,10 +74,10 @@ fn post_order(alloc: Global, nodes: &NodeParts, root: u64) -> Result<Visited, Ou
     requires root { root < length nodes.now }
     requires nodes { AreNodes nodes.now }
     ensures order { IfOk result (λ v. v.order.items ≡ order.post_order nodes.now root) }
-    ensures places { IfOk result (λ v. KnowsPlaces (λ j. get nat_eq v.places j) v.order.items) }
+    ensures places { IfOk result (λ v. KnowsPlaces (place_on v.places) v.order.items) }
 {
     let mut order = Vec::new(alloc);
-    let mut places = HashMap::new(alloc);
+    let mut places = Places::new(alloc);
     let mut stack = Vec::new(alloc);
     stack.push(root)?;
     'walk: while let Some(number) = stack.pop() {
@@ -87,7 +87,7 @@ fn post_order(alloc: Global, nodes: &NodeParts, root: u64) -> Result<Visited, Ou
                 stack.push(part)?;
             }
             None => {
-                places.insert(number, order.len() as u64)?;
+                places.insert(alloc, number, order.len() as u64)?;
                 order.push(number)?;
             }
         }
@@ -118,11 +118,11 @@ fn renumber(
     alloc: Global,
     nodes: &NodeParts,
     order: &[u64],
-    places: &HashMap<u64, u64>,
+    places: &Places,
 ) -> Result<Vec<Node>, OutOfMemory>
     requires { All (λ k. k < length nodes.now) order.now }
     ensures { IfOk result (λ v. v.items
-        ≡ map (λ k. renamed (λ j. get nat_eq places.now j) (node_at nodes.now k)) order.now) }
+        ≡ map (λ k. renamed (place_on places.now) (node_at nodes.now k)) order.now) }
 {
     let mut list = Vec::new(alloc);
     for number in order {
@@ -132,8 +132,8 @@ fn renumber(
 }
 
 // The node with each number that it names replaced by its place.
-fn renamed(node: Node, places: &HashMap<u64, u64>) -> Node
-    ensures { result ≡ order.renamed (λ j. get nat_eq places.now j) node }
+fn renamed(node: Node, places: &Places) -> Node
+    ensures { result ≡ order.renamed (place_on places.now) node }
 {
     match node {
         Node::Start => Node::Start,

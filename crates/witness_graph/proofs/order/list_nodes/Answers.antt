@@ -1,10 +1,10 @@
-use Rattle.std.proofs.Common.{◌≡◌, ℕ, List, ◌<◌, ◌-◌, length, All, nat_eq, sym, ◌∙◌, subst}
-use Rattle.std.specs.HashMap.{get}
+use Rattle.std.proofs.Common.{◌≡◌, ℕ, List, ◌<◌, ◌-◌, length, All, sym, ◌∙◌, subst}
 use Rattle.witness_graph.specs.declared.node.Node.{Node}
 use Rattle.witness_graph.specs.declared.node.Side.TheVariants.{Pre}
 use Rattle.witness_graph.specs.Nodes.{IsListing}
 use Rattle.witness_graph.specs.Runs.{runs_of}
 use Rattle.witness_graph.specs.Order.{listing_of}
+use Rattle.witness_graph.specs.private.Paging.{place_on}
 use Rattle.witness_graph.proofs.ListingLemmas.{order_within, made_listing, listing_is, listing_runs}
 use Rattle.witness_graph.proofs.order.list_nodes.Goals as goal
 
@@ -14,7 +14,7 @@ renumber-requires c =
     subst P (sym (c.deref.ensures.value ∙ c.in_ok-visited.ensures.order)) (order_within Pre c.args.nodes.now c.requires.nodes c.args.root c.requires.root)
 
 is_list : (c : goal.After-drop-visited-3) → c.in_ok-list.list.items ≡ listing_of c.args.nodes.now c.args.root
-is_list c = made_listing c.args.nodes.now c.args.root c.in_ok-list.list.items c.in_ok-visited.visited.order.items c.deref.result.now (λ j. get nat_eq c.in_ok-visited.visited.places j)
+is_list c = made_listing c.args.nodes.now c.args.root c.in_ok-list.list.items c.in_ok-visited.visited.order.items c.deref.result.now (place_on c.in_ok-visited.visited.places)
     c.in_ok-list.ensures c.deref.ensures.value c.in_ok-visited.ensures.order c.in_ok-visited.ensures.places
 
 pub returns-clause-list : goal.returns-clause-list
