@@ -1,1 +1,3 @@
+mod LineLemmas
+mod AsciiLemmas
 pub mod CallerLemmas

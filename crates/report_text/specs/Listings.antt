@@ -46,9 +46,13 @@ abbrev pub set_lines : Side → ℕ → List Node → List ℕ
 set_lines side k [] = []
 set_lines side k (n ∷ ns) = set_line side k n ++ set_lines side (k + 1) ns
 
+-- which of them the answer is
+abbrev pub answer_line : ℕ → List ℕ
+answer_line k = codes "  answer " ++ set_text k ++ 10 ∷ []
+
 -- the sets of runs, and which of them the answer is
 abbrev pub listing_text : Side → List Node → List ℕ
-listing_text side nodes = set_lines side 0 nodes ++ codes "  answer " ++ set_text (length nodes - 1) ++ 10 ∷ []
+listing_text side nodes = set_lines side 0 nodes ++ answer_line (length nodes - 1)
 
 -- `query I: VALUE`
 abbrev pub query_line : ℕ → List ℕ → List ℕ

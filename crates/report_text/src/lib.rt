@@ -1,6 +1,7 @@
 //! How answers are written: the line of a query, the listing of its runs, and the runs themselves.
 #![tactic(auto)]
 
+mod line;
 mod listing;
 mod options;
 mod report;

@@ -1,149 +1,179 @@
-ghost use Rattle.std.specs.Prelude.{◌≡◌, ◌||◌, ◌++◌, decimal, is_some, IfOk, OnOk};
+ghost use Rattle.std.specs.Prelude.{◌≡◌, ◌≤◌, ◌+◌, ◌||◌, ◌++◌, is_some, option_map, IfOk, OnOk};
 ghost use Rattle.std.specs.String.{string_bytes};
 ghost use Rattle.report_text.specs.Listings as listings;
-ghost use Rattle.report_text.specs.private.{behind_text, then_text};
+ghost use Rattle.report_text.specs.private.{then_text, part_text, rule_size, set_size, then_size, part_size, parts_size, before_size, node_size};
 
-use itoa::Buffer;
+use crate::line::Line;
 use std::alloc::Global;
 use witness_graph::{Listing, Node, Side};
 use wpds_base::{OutOfMemory, Text};
 
-// Adds a number.
-fn add_number(text: &mut String, number: u64) -> Result<(), OutOfMemory>
-    ensures { OnOk result (string_bytes text.new ≡ string_bytes text.old ++ decimal number) }
+// Puts in a rule by its number in the text.
+fn put_rule(line: &mut Line, rule: u32)
+    requires { rule_size ≤ line.old.room }
+    ensures text { line.new.text ≡ listings.rule_text rule ++ line.old.text }
+    ensures room { line.old.room ≤ line.new.room + rule_size }
 {
-    let mut buffer = Buffer::new();
-    text.push_str(buffer.format(number))?;
-    Ok(())
+    line.put_number(u64::from(rule) + 1);
+    line.put(b"rule ");
 }
 
-/// Adds a rule by its number in the text.
-pub(crate) fn add_rule(text: &mut String, rule: u32) -> Result<(), OutOfMemory>
-    ensures { let before = string_bytes text.old in
-        OnOk result (string_bytes text.new ≡ before ++ listings.rule_text rule) }
+// Puts in a set of runs by its number.
+fn put_set(line: &mut Line, set: u64)
+    requires { set_size ≤ line.old.room }
+    ensures text { line.new.text ≡ listings.set_text set ++ line.old.text }
+    ensures room { line.old.room ≤ line.new.room + set_size }
 {
-    text.push_str("rule ")?;
-    add_number(text, rule as u64 + 1)
+    line.put_number(set);
+    line.put(b"set ");
 }
 
-// Adds a set of runs by its number.
-fn add_set(text: &mut String, set: u64) -> Result<(), OutOfMemory>
-    ensures { let before = string_bytes text.old in
-        OnOk result (string_bytes text.new ≡ before ++ listings.set_text set) }
+// Puts in what stands between a part and those behind it, if there are some.
+fn put_then(line: &mut Line, more: bool)
+    requires { then_size ≤ line.old.room }
+    ensures text { line.new.text ≡ then_text more ++ line.old.text }
+    ensures room { line.old.room ≤ line.new.room + then_size }
 {
-    text.push_str("set ")?;
-    add_number(text, set)
-}
-
-// Adds what stands between a part and those before it, if there are some.
-fn add_then(text: &mut String, behind: bool) -> Result<(), OutOfMemory>
-    ensures { let before = string_bytes text.old in
-        OnOk result (string_bytes text.new ≡ before ++ then_text behind) }
-{
-    if behind {
-        text.push_str(" then ")?;
+    if more {
+        line.put(b" then ");
     }
-    Ok(())
 }
 
-// Adds a rule, if there is one, behind other parts, if there are some, and says whether there are some now.
-fn add_rule_part(text: &mut String, behind: bool, rule: Option<u32>) -> Result<bool, OutOfMemory>
-    ensures text { let before = string_bytes text.old in OnOk result (string_bytes text.new
-        ≡ before ++ behind_text behind (listings.rule_part rule)) }
-    ensures behind { IfOk result (λ b. b ≡ (behind || is_some rule)) }
+// Puts in a rule, if there is one, before other parts, if there are some, and says whether there are some now.
+fn put_rule_part(line: &mut Line, more: bool, rule: Option<u32>) -> bool
+    requires { part_size ≤ line.old.room }
+    ensures text { let rule = option_map listings.rule_text rule in
+        line.new.text ≡ part_text rule more ++ line.old.text }
+    ensures more { result ≡ (more || is_some rule) }
+    ensures room { line.old.room ≤ line.new.room + part_size }
 {
     let Some(rule) = rule else {
-        return Ok(behind);
+        return more;
     };
-    add_then(text, behind)?;
-    add_rule(text, rule)?;
-    Ok(true)
+    put_then(line, more);
+    put_rule(line, rule);
+    true
 }
 
 // The same for a set of runs.
-fn add_set_part(text: &mut String, behind: bool, set: Option<u64>) -> Result<bool, OutOfMemory>
-    ensures text { let before = string_bytes text.old in OnOk result (string_bytes text.new
-        ≡ before ++ behind_text behind (listings.set_part set)) }
-    ensures behind { IfOk result (λ b. b ≡ (behind || is_some set)) }
+fn put_set_part(line: &mut Line, more: bool, set: Option<u64>) -> bool
+    requires { part_size ≤ line.old.room }
+    ensures text { let set = option_map listings.set_text set in
+        line.new.text ≡ part_text set more ++ line.old.text }
+    ensures more { result ≡ (more || is_some set) }
+    ensures room { line.old.room ≤ line.new.room + part_size }
 {
     let Some(set) = set else {
-        return Ok(behind);
+        return more;
     };
-    add_then(text, behind)?;
-    add_set(text, set)?;
-    Ok(true)
+    put_then(line, more);
+    put_set(line, set);
+    true
 }
 
-// Adds the parts of a node that are there, in the order of its runs.
-fn add_parts(
-    text: &mut String,
+// Puts in the parts of a node that are there, in the order of its runs.
+fn put_parts(
+    line: &mut Line,
     side: Side,
     rule: Option<u32>,
     first: Option<u64>,
     second: Option<u64>,
-) -> Result<(), OutOfMemory>
-    ensures { let before = string_bytes text.old in OnOk result (string_bytes text.new
-        ≡ before ++ listings.parts_text side rule first second) }
+)
+    requires { parts_size ≤ line.old.room }
+    ensures text { line.new.text
+        ≡ listings.parts_text side rule first second ++ line.old.text }
+    ensures room { line.old.room ≤ line.new.room + parts_size }
 {
     match side {
         Side::Pre => {
-            let behind = add_rule_part(text, false, rule)?;
-            let behind = add_set_part(text, behind, first)?;
-            add_set_part(text, behind, second)?;
+            let more = put_set_part(line, false, second);
+            let more = put_set_part(line, more, first);
+            put_rule_part(line, more, rule);
         }
         Side::Post => {
-            let behind = add_set_part(text, false, first)?;
-            let behind = add_set_part(text, behind, second)?;
-            add_rule_part(text, behind, rule)?;
+            let more = put_rule_part(line, false, rule);
+            let more = put_set_part(line, more, second);
+            put_set_part(line, more, first);
         }
     }
-    Ok(())
 }
 
-// Adds the set before the parts of a node, if there is one.
-fn add_before(text: &mut String, before: Option<u64>) -> Result<(), OutOfMemory>
-    ensures { let old = string_bytes text.old in
-        OnOk result (string_bytes text.new ≡ old ++ listings.before_text before) }
+// Puts in the set before the parts of a node, if there is one.
+fn put_before(line: &mut Line, before: Option<u64>)
+    requires { before_size ≤ line.old.room }
+    ensures text { line.new.text ≡ listings.before_text before ++ line.old.text }
+    ensures room { line.old.room ≤ line.new.room + before_size }
 {
     if let Some(set) = before {
-        add_set(text, set)?;
-        text.push_str(" or ")?;
+        line.put(b" or ");
+        put_set(line, set);
     }
-    Ok(())
 }
 
-// Adds the runs of a node, by the sets that it names.
-fn add_node(text: &mut String, side: Side, node: Node) -> Result<(), OutOfMemory>
-    ensures { let before = string_bytes text.old in
-        OnOk result (string_bytes text.new ≡ before ++ listings.node_text side node) }
+// Puts in the runs of a node, by the sets that it names.
+fn put_node(line: &mut Line, side: Side, node: Node)
+    requires { node_size ≤ line.old.room }
+    ensures text { line.new.text ≡ listings.node_text side node ++ line.old.text }
+    ensures room { line.old.room ≤ line.new.room + node_size }
 {
     match node {
-        Node::Start => {
-            text.push_str("empty")?;
-            Ok(())
-        }
+        Node::Start => line.put(b"empty"),
         Node::Lower {
             before,
             rule,
             first,
             second,
         } => {
-            add_before(text, before)?;
-            add_parts(text, side, rule, first, second)
+            put_parts(line, side, rule, first, second);
+            put_before(line, before);
         }
     }
 }
 
-// Adds the line of a node.
-fn add_line(text: &mut String, side: Side, number: u64, node: Node) -> Result<(), OutOfMemory>
-    ensures { let line = listings.set_line side number node in
-        OnOk result (string_bytes text.new ≡ string_bytes text.old ++ line) }
+// The line of a node.
+fn set_line(side: Side, number: u64, node: Node) -> Line
+    ensures { result.text ≡ listings.set_line side number node }
 {
-    text.push_str("  ")?;
-    add_set(text, number)?;
-    text.push_str(" = ")?;
-    add_node(text, side, node)?;
-    text.push_str("\n")?;
+    let mut line = Line::new();
+    line.put(b"\n");
+    put_node(&mut line, side, node);
+    line.put(b" = ");
+    put_set(&mut line, number);
+    line.put(b"  ");
+    line
+}
+
+// The line that says which of the sets the answer is.
+fn answer_line(set: u64) -> Line
+    ensures { result.text ≡ listings.answer_line set }
+{
+    let mut line = Line::new();
+    line.put(b"\n");
+    put_set(&mut line, set);
+    line.put(b"  answer ");
+    line
+}
+
+// Adds the lines of nodes.
+fn add_sets(text: &mut Vec<u8>, side: Side, nodes: &[Node]) -> Result<(), OutOfMemory>
+    ensures { OnOk result (text.new.items
+        ≡ text.old.items ++ listings.set_lines side 0 nodes.now) }
+{
+    for (number, node) in nodes.iter().enumerate() {
+        text.extend_from_slice(set_line(side, number as u64, *node).text())?;
+    }
+    Ok(())
+}
+
+/// Adds the lines of a listing.
+pub(crate) fn add_listing(text: &mut Vec<u8>, listing: &Listing) -> Result<(), OutOfMemory>
+    ensures { let lines = listings.listing_text listing.now.side listing.now.nodes in
+        OnOk result (text.new.items ≡ text.old.items ++ lines) }
+{
+    let nodes = listing.nodes.as_slice();
+    add_sets(text, listing.side, nodes)?;
+    let last = nodes.len() - 1;
+    text.extend_from_slice(answer_line(last as u64).text())?;
     Ok(())
 }
 
@@ -152,16 +182,9 @@ pub fn listing_text(alloc: Global, listing: &Listing) -> Result<String, OutOfMem
     ensures { let l = listing.now in
         IfOk result (λ t. string_bytes t ≡ listings.listing_text l.side l.nodes) }
 {
-    let nodes = listing.nodes.as_slice();
-    let mut text = String::new(alloc);
-    for (number, node) in nodes.iter().enumerate() {
-        add_line(&mut text, listing.side, number as u64, *node)?;
-    }
-    let last = nodes.len() - 1;
-    text.push_str("  answer ")?;
-    add_set(&mut text, last as u64)?;
-    text.push_str("\n")?;
-    Ok(text)
+    let mut text = Vec::new(alloc);
+    add_listing(&mut text, listing)?;
+    Ok(String::from_utf8(text).unwrap())
 }
 
 /// The line of a query by its number, from 1, and the text of its value.

@@ -1,13 +1,29 @@
-ghost use Rattle.std.specs.Prelude.{◌≡◌, IfOk};
+ghost use Rattle.std.specs.Prelude.{◌≡◌, ◌++◌, IfOk, OnOk};
 ghost use Rattle.report_text.specs.Reports as reports;
 
-use crate::{Options, listing_text, query_line, traces_text};
+use crate::listing::add_listing;
+use crate::{Options, query_line, traces_text};
 use std::alloc::Global;
 use witness_graph::Listing;
 use wpds_base::{OutOfMemory, Text};
 
 /// The size up to which runs are written: of each the number of its rules, and one more.
 pub const MOST_TRACED: u64 = 100_000;
+
+// Adds the lines of a listing, unless they are left out or there is none.
+fn add_listed(
+    text: &mut Vec<u8>,
+    listing: &Option<Listing>,
+    options: Options,
+) -> Result<(), OutOfMemory>
+    ensures { OnOk result (text.new.items
+        ≡ text.old.items ++ reports.listed options listing.now) }
+{
+    match listing {
+        Some(listing) if !options.brief => add_listing(text, listing),
+        _ => Ok(()),
+    }
+}
 
 /// The lines of a listing, unless they are left out or there is none.
 pub fn listed(
@@ -17,12 +33,9 @@ pub fn listed(
 ) -> Result<Text, OutOfMemory>
     ensures { IfOk result (λ t. t ≡ reports.listed options listing.now) }
 {
-    match listing {
-        Some(listing) if !options.brief => {
-            Ok(Text::from_vec(listing_text(alloc, listing)?.into_bytes()))
-        }
-        _ => Ok(Text::from_vec(Vec::new(alloc))),
-    }
+    let mut text = Vec::new(alloc);
+    add_listed(&mut text, listing, options)?;
+    Ok(Text::from_vec(text))
 }
 
 /// The lines of the runs of a listing where they are asked for: none where there is no listing.
@@ -53,7 +66,7 @@ pub fn query_text(
     ensures { IfOk result (λ t. t ≡ reports.query_text number options value.now listing.now) }
 {
     let mut text = query_line(alloc, number, value)?.into_vec();
-    text.extend_from_slice(listed(alloc, listing, options)?.as_bytes())?;
+    add_listed(&mut text, listing, options)?;
     text.extend_from_slice(traced(alloc, listing, options)?.as_bytes())?;
     Ok(Text::from_vec(text))
 }

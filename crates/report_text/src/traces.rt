@@ -3,11 +3,22 @@ ghost use Rattle.std.specs.String.{string_bytes};
 ghost use Rattle.report_text.specs.Listings as listings;
 ghost use Rattle.report_text.specs.Traces as traces;
 
-use crate::listing::add_rule;
+use itoa::Buffer;
 use std::alloc::Global;
 use trace_printer::{Expanded, Run, expand};
 use witness_graph::Listing;
 use wpds_base::OutOfMemory;
+
+// Adds a rule by its number in the text.
+fn add_rule(text: &mut String, rule: u32) -> Result<(), OutOfMemory>
+    ensures { let before = string_bytes text.old in
+        OnOk result (string_bytes text.new ≡ before ++ listings.rule_text rule) }
+{
+    let mut buffer = Buffer::new();
+    text.push_str("rule ")?;
+    text.push_str(buffer.format(u64::from(rule) + 1))?;
+    Ok(())
+}
 
 // Adds the rules of a run.
 fn add_run(text: &mut String, run: &[u32]) -> Result<(), OutOfMemory>
