@@ -1,7 +1,7 @@
 -- Journals of one worker.
 use Rattle.std.proofs.Common.{◌≡◌, length, true, List, [], ◌∷◌, refl, sym, ap, ap₂, subst, ◌∙◌}
 use Rattle.std.specs.Prelude.{ℕ, ◌&&◌, nat_lt, Option, Some, None, option_and_then, is_none}
-use Rattle.std.proofs.lemmas.Bool.{and_parts, cond_both}
+use Rattle.std.proofs.lemmas.Bool.{and_parts}
 use Rattle.std.proofs.lemmas.Option.{same_Some}
 use Rattle.semiring_laws.specs.Semiring.{Operations}
 use Rattle.weighted_automata.specs.declared.place.Place.{Place}
@@ -11,8 +11,9 @@ use Rattle.saturation_laws.specs.declared.event.Event.{Event}
 use Rattle.saturation_laws.specs.declared.event.Event.TheVariants.{Take, Settle}
 use Rattle.saturation_laws.specs.declared.opening.Opening.{Opening}
 use Rattle.saturation_laws.specs.Jobs.{Tables}
-use Rattle.saturation_laws.specs.States.{CoreState, step, replay, is_front, can_take, take, hand_at}
+use Rattle.saturation_laws.specs.States.{CoreState, step, replay, is_front, take, hand_at}
 use Rattle.saturation_laws.specs.Books.{BookValue, opened_by, replayed}
+use Rattle.saturation_core.proofs.CallerLemmas.{took}
 use Rattle.worker_pool.specs.Alone.{HasBase, IsAlone, turns_of}
 use Rattle.saturation_laws.specs.Ways.{Way}
 
@@ -22,17 +23,9 @@ then_parts f None y e = cc
 then_parts f (Some x) y e = (x, refl, e)
 
 module _ {S W Map : Type 0} (s : Operations W Map) (d : Tables S W Map) where
-  -- a seat that has taken a transition could take it
-  pub took : (seat : ℕ) (x : Place) (st mid : CoreState S W Map) → step s d st (Take seat x) ≡ Some mid → (can_take s d seat x st ≡ true) × (take s d seat x st ≡ mid)
-  took seat x st mid legal =
-      let P : Option (CoreState S W Map) → Type 0 = λ o. o ≡ Some mid → (can_take s d seat x st ≡ true) × (take s d seat x st ≡ mid) in
-      cond_both (can_take s d seat x st) (Some (take s d seat x st)) None P
-      (λ can e. (can, same_Some (take s d seat x st) mid e))
-      (λ cannot e. cc) legal
-
   front_taken : (seat : ℕ) (x : Place) (st mid : CoreState S W Map) → step s d st (Take seat x) ≡ Some mid → is_front s d x st.queue ≡ true
   front_taken seat x st mid legal =
-      (and_parts (nat_lt seat (length st.hands) && is_none (hand_at seat st.hands)) (is_front s d x st.queue) (took seat x st mid legal).0).1
+      (and_parts (nat_lt seat (length st.hands) && is_none (hand_at seat st.hands)) (is_front s d x st.queue) (took s d seat x st mid legal).0).1
 
   -- a queue has one front, and an empty one has none
   one_front : (x y : Place) (q : List Place) → is_front s d x q ≡ true → is_front s d y q ≡ true → x ≡ y

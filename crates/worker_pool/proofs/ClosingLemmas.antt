@@ -15,7 +15,8 @@ use Rattle.saturation_laws.specs.Ways.{Way, IsLawful}
 use Rattle.saturation_laws.proofs.CallerLemmas.{after, taken, book_from}
 use Rattle.saturation_core.specs.Calls.{TakesAndSettles}
 use Rattle.worker_pool.specs.Closing.{IsClosedAlone, just_opened}
-use Rattle.worker_pool.proofs.TurnLemmas.{hand_for, IsUnderWay, turns_left, under_way, turn_keeps, turn_falls}
+use Rattle.saturation_core.proofs.CallerLemmas.{hand_for}
+use Rattle.worker_pool.proofs.TurnLemmas.{IsUnderWay, turns_left, under_way, turn_keeps, turn_falls}
 use Rattle.worker_pool.proofs.ErrandLemmas.{alone_seats}
 
 some_seats : (n : ℕ) → n ≡ most_seats → 0 < n

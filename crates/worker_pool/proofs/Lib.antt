@@ -1,6 +1,5 @@
 mod AloneLemmas
 mod TurnLemmas
-mod SeenLemmas
 mod ReplayLemmas
 mod StepLemmas
 mod PassLemmas

@@ -10,9 +10,9 @@ use Rattle.semiring_laws.specs.Semiring.{Operations}
 use Rattle.pushdown_rules.specs.Pushdown.{Pushdown}
 use Rattle.saturation_laws.specs.declared.event.Event.{Event}
 use Rattle.saturation_laws.specs.declared.job.Job.{Job}
-use Rattle.saturation_laws.specs.States.{seat_of}
+use Rattle.saturation_laws.specs.States.{AreOfOthers, seat_of}
 use Rattle.saturation_laws.specs.Books.{BookValue, IsClosed, replayed}
-use Rattle.saturation_core.specs.Settled.{jobs_out}
+use Rattle.saturation_core.specs.HandsOut.{HasOut, IsLater}
 use Rattle.seat_lock.specs.declared.view.View.{View}
 use Rattle.seat_lock.specs.declared.view.Stage.TheVariants.{Turn}
 use Rattle.seat_lock.specs.Queue.{Each, of_pass, FitsView, opened_by, at_stage}
@@ -20,7 +20,7 @@ use Rattle.seat_lock.specs.Passes.{own_number, own_entries, joined_in, Grown, Ga
 use Rattle.seat_lock.proofs.CallerLemmas.{own-after, gave-new, each-own, grown-by, seen-grows}
 use Rattle.worker_pool.specs.declared.shared.Origin.{Origin}
 use Rattle.worker_pool.specs.Origins.{origin_of, state_after, IsClosedAfter}
-use Rattle.worker_pool.specs.Steps.{AreSeen, HasOut, IsOverBook}
+use Rattle.worker_pool.specs.Steps.{IsOverBook}
 use Rattle.worker_pool.proofs.ReplayLemmas.{are_of_others}
 use Rattle.worker_pool.specs.Turns.{Keeps, HasMore, HoldsHand, IsOver}
 use Rattle.saturation_laws.specs.Ways.{Way}
@@ -43,24 +43,18 @@ module _ {S W Map D : Type 0} (v : View (Origin S D W Map) Event) (b : BookValue
 
 module _ {S W Map D : Type 0} (operations : S → Operations W Map) (way : Way S W Map D)
     (v : View (Origin S D W Map) Event) (b : BookValue S W Map D) (some : 0 < length v.claims) (fits : FitsView seat_of v (origin_of b) b.journal) where
-  -- the next turn of a pass finds its hand
-  pub finds : (jobs : List (Job S W Map)) (goals : List (Option (Entry S W Map))) → HoldsHand operations way v jobs goals → HasOut operations way b (own_number v.claims) jobs goals
+  -- the next turn of a pass finds a later book, by events of others alone
+  pub finds : (jobs : List (Job S W Map)) (goals : List (Option (Entry S W Map))) (k : HoldsHand operations way v jobs goals) → IsLater k.book fits.1.0 b × AreOfOthers (own_number v.claims) fits.1.0
   finds jobs goals k =
       let n = own_number v.claims in
       let rest = fits.1.0 in
-      let same : k.origin ≡ origin_of b = same_Some k.origin (origin_of b) (sym k.based ∙ fits.0) in
-      record {
-        log = v.seen;
-        rest = rest;
-        state = k.state;
-        journal = sym fits.1.1;
-        others = are_of_others n rest
+      let book : Origin S D W Map → List Event → BookValue S W Map D = λ o es. record { system = o.system; direction = o.direction; opening = o.opening; state = b.state; journal = es } in
+      let same : origin_of b ≡ origin_of k.book = same_Some (origin_of b) (origin_of k.book) (sym fits.0 ∙ k.based) in (
+        ap (λ o. book o b.journal) same ∙ ap (book (origin_of k.book)) (sym fits.1.1 ∙ ap (λ es. es ++ rest) k.seen),
+        are_of_others n rest
             (nothing_more (own_entries v.claims) (of_pass seat_of n rest)
-            (ap (λ es. es ++ of_pass seat_of n rest) (sym k.own) ∙ sym (filter-append (λ e. eqb (seat_of e) n) v.seen rest) ∙ ap (of_pass seat_of n) fits.1.1 ∙ own_of v b some fits));
-        replays = ap (λ o. state_after operations way o v.seen) (sym same) ∙ k.replays;
-        out = k.out;
-        seen = k.seen;
-      }
+            (ap (λ es. es ++ of_pass seat_of n rest) (sym k.own) ∙ sym (filter-append (λ e. eqb (seat_of e) n) v.seen rest) ∙ ap (of_pass seat_of n) fits.1.1 ∙ own_of v b some fits)),
+      )
 
 -- A turn of a pass, in which the book gets these events.
 module _ {S W Map D : Type 0} (v h : View (Origin S D W Map) Event) (t : ℕ) (b0 b1 : BookValue S W Map D) (es : List Event)
@@ -101,21 +95,19 @@ module _ {S W Map D : Type 0} (v h : View (Origin S D W Map) Event) (t : ℕ) (b
         ∙ own-after seat_of (own_number v.claims) b0.journal es own
         ∙ ap (λ z. z ++ es) (own_of v b0 some fits) ∙ sym has_more
 
+    -- the hand that is out is the pass's
+    pub holds_hand : (operations : S → Operations W Map) (way : Way S W Map D) (jobs : List (Job S W Map)) (goals : List (Option (Entry S W Map))) → HasOut operations way b1 (own_number v.claims) jobs goals → HoldsHand operations way w jobs goals
+    holds_hand operations way jobs goals out = record {
+      book = b1;
+      based = gave.0 ∙ based;
+      seen = gave.1;
+      own = own_is;
+      out = subst (λ n. HasOut operations way b1 n jobs goals) (sym number_kept) out;
+    }
+
     module _ (operations : S → Operations W Map) (way : Way S W Map D) (replays : replayed operations way b1 ≡ Some b1.state) where
       replays_seen : state_after operations way (origin_of b1) w.seen ≡ Some b1.state
       replays_seen = ap (state_after operations way (origin_of b1)) gave.1 ∙ replays
-
-      -- the hand that is out is the pass's
-      pub holds_hand : (jobs : List (Job S W Map)) (goals : List (Option (Entry S W Map))) → jobs_out (own_number v.claims) b1.state.hands ≡ Some jobs → AreSeen b1.state jobs goals → HoldsHand operations way w jobs goals
-      holds_hand jobs goals out seen = record {
-        origin = origin_of b1;
-        state = b1.state;
-        based = gave.0 ∙ based;
-        own = own_is;
-        replays = replays_seen;
-        out = ap (λ n. jobs_out n b1.state.hands) number_kept ∙ out;
-        seen = seen;
-      }
 
       -- what was seen leads to a closed book
       pub closed_after : IsClosed b1 → (o : Origin S D W Map) → v.base ≡ Some o → IsClosedAfter operations way o w.seen

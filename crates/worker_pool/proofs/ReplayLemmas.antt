@@ -1,5 +1,5 @@
 -- What events of other seats leave as it is, and what a seat's own events make of its hand.
-use Rattle.std.proofs.Common.{◌≡◌, ◌≢◌, ℕ, eq-eqb, ne_eqb, Bool, true, cond, inl, inr, List, [], ◌∷◌, ◌++◌, set, refl, sym, ap, ◌∙◌, subst}
+use Rattle.std.proofs.Common.{◌≡◌, ◌≢◌, ℕ, eq-eqb, ne_eqb, Bool, true, cond, inl, inr, List, [], ◌∷◌, set, refl, sym, ap, ◌∙◌, subst}
 use Rattle.std.specs.Prelude.{Option, Some, None, is_none, option_map, option_and_then}
 use Rattle.std.specs.List.{AllByRecursion}
 use Rattle.std.proofs.lemmas.Bool.{cases_eq}
@@ -13,9 +13,9 @@ use Rattle.saturation_laws.specs.Jobs.{Tables}
 use Rattle.saturation_laws.specs.States.{CoreState, AreOfOthers, seat_of, hand_at, give_back, step, replay}
 use Rattle.seat_lock.specs.Queue.{of_pass}
 use Rattle.worker_pool.specs.Events.{free_after, is_ended}
-use Rattle.saturation_laws.proofs.CallerLemmas.{replay_append, step_leaves}
-use Rattle.worker_pool.proofs.AloneLemmas.{then_parts}
-use Rattle.worker_pool.proofs.TurnLemmas.{set_none, hand_taken, settled_hands}
+use Rattle.saturation_laws.proofs.CallerLemmas.{step_leaves}
+use Rattle.saturation_core.proofs.CallerLemmas.{hand_taken}
+use Rattle.worker_pool.proofs.TurnLemmas.{set_none, settled_hands}
 
 -- the first event is of the seat, or it is not
 pub of_pass_case : (F : List Event → Type 0) (n : ℕ) (e : Event) (es : List Event) → (seat_of e ≡ n → F (e ∷ of_pass seat_of n es)) → (seat_of e ≢ n → F (of_pass seat_of n es)) → F (of_pass seat_of n (e ∷ es))
@@ -36,10 +36,6 @@ pub are_of_others : (n : ℕ) (es : List Event) → of_pass seat_of n es ≡ [] 
 are_of_others n es none = All-from_recursion (λ e. n ≢ seat_of e) es (none_own n es none)
 
 module _ {S W Map : Type 0} (s : Operations W Map) (d : Tables S W Map) where
-  -- a journal in two parts
-  pub replay_parts : (es fs : List Event) (st new : CoreState S W Map) → replay s d st (es ++ fs) ≡ Some new → (mid : CoreState S W Map) × (replay s d st es ≡ Some mid) × (replay s d mid fs ≡ Some new)
-  replay_parts es fs st new h = then_parts (λ m. replay s d m fs) (replay s d st es) new (sym (replay_append s d es fs st) ∙ h)
-
   given_hands : (seat : ℕ) (st new : CoreState S W Map) (o : Option (Holding S W Map)) → option_map (λ h. give_back s d seat h st) o ≡ Some new → new.hands ≡ set st.hands seat None
   given_hands seat st new None e = cc
   given_hands seat st new (Some h) e = ap (λ (m : CoreState S W Map). m.hands) (sym (same_Some (give_back s d seat h st) new e))

@@ -1,27 +1,24 @@
 -- What a turn of one worker makes of a book.
 use Rattle.std.proofs.Common.{◌≡◌, inl, inr, ℕ, ◌+◌, ◌-◌, ◌*◌, ◌<◌, ◌≤◌, List, [], ◌∷◌, ◌++◌, length, get_or, set, refl, sym, ap, subst, ◌∙◌, arith}
-use Rattle.std.specs.Prelude.{◌≢◌, ◌↔◌, Bool, true, false, IsTrue, ◌&&◌, nat_lt, IfSome, Option, Some, None, option_map, is_none}
-use Rattle.std.specs.List.{AllByRecursion}
-use Rattle.std.proofs.lemmas.Bool.{and_parts, cond_both, cases_eq, cases_lt, ltb-true}
+use Rattle.std.specs.Prelude.{◌≢◌, ◌↔◌, Bool, true, false, IsTrue, Option, Some, None, option_map}
+use Rattle.std.proofs.lemmas.Bool.{cond_both, cases_eq, cases_lt}
 use Rattle.std.proofs.lemmas.Option.{same_Some}
 use Rattle.std.proofs.lemmas.List.{get_or-set_same, get_or-set_other, get_or_past, length-set, length_push}
 use Rattle.semiring_laws.specs.Semiring.{Operations, IsSemiring}
 use Rattle.weighted_automata.specs.declared.place.Place.{Place}
-use Rattle.weighted_automata.specs.Entries.{entry_at}
 use Rattle.pushdown_rules.specs.Pushdown.{Pushdown}
 use Rattle.saturation_laws.specs.declared.event.Event.TheVariants.{Take, Settle}
 use Rattle.saturation_laws.specs.declared.job.Job.{Job}
 use Rattle.saturation_laws.specs.declared.holding.Holding.{Holding}
 use Rattle.saturation_laws.specs.Jobs.{Tables}
-use Rattle.saturation_laws.specs.States.{CoreState, Change, hand_at, weight_at, lower_state, apply, apply_all, change_of, apply_jobs, jobs_at, settle, step, replay, is_front}
+use Rattle.saturation_laws.specs.States.{CoreState, Change, hand_at, weight_at, lower_state, apply, apply_all, change_of, apply_jobs, settle, step, replay}
 use Rattle.saturation_laws.specs.Openings.{pops, with_edge, with_edges, bare, opening_state}
-use Rattle.saturation_laws.specs.Directions.{AgreeOn}
 use Rattle.saturation_laws.specs.Bound.{takes, gives}
 use Rattle.saturation_laws.specs.Books.{BookValue, NoHand, IsClosed, Makes, IsBook, opened_by}
 use Rattle.saturation_laws.proofs.CallerLemmas.{none_out, event_keeps, book_takes}
 use Rattle.worker_pool.specs.Alone.{HasBase, IsAlone, turns_of}
 use Rattle.saturation_core.specs.Calls.{TakesAndSettles}
-use Rattle.worker_pool.proofs.AloneLemmas.{took}
+use Rattle.saturation_core.proofs.CallerLemmas.{hand_for, took}
 use Rattle.saturation_laws.specs.Ways.{Way, IsLawful}
 
 pub set_none : {X : Type 0} (hs : List (Option X)) (i : ℕ) → get_or (set hs i None) i None ≡ None
@@ -56,17 +53,6 @@ module _ {S W Map : Type 0} (s : Operations W Map) (d : Tables S W Map) where
   jobs_hands [] st = refl
   jobs_hands (j ∷ js) st = jobs_hands js (apply s (change_of s d j) st) ∙ change_hands s (change_of s d j) st
 
-  -- the hand of a place that is taken
-  abbrev pub hand_for : Place → CoreState S W Map → Holding S W Map
-  hand_for x st = record { place = x; jobs = jobs_at s d (entry_at x st.transitions) st.transitions }
-
-  pub hand_taken : (seat : ℕ) (x : Place) (st mid : CoreState S W Map) → step s d st (Take seat x) ≡ Some mid → hand_at seat mid.hands ≡ Some (hand_for x st)
-  hand_taken seat x st mid legal =
-      let taken = took s d seat x st mid legal in
-      let parts = and_parts (nat_lt seat (length st.hands) && is_none (hand_at seat st.hands)) (is_front s d x st.queue) taken.0 in
-      let within = ltb-true seat (length st.hands) (and_parts (nat_lt seat (length st.hands)) (is_none (hand_at seat st.hands)) parts.0).0 in
-      ap (λ (m : CoreState S W Map). hand_at seat m.hands) (sym taken.1) ∙ get_or-set_same st.hands seat (Some (hand_for x st)) None within
-
   pub settled_hands : (seat : ℕ) (st new : CoreState S W Map) (o : Option (Holding S W Map)) → option_map (λ h. settle s d seat h st) o ≡ Some new → new.hands ≡ set st.hands seat None
   settled_hands seat st new None e = cc
   settled_hands seat st new (Some h) e =
@@ -81,17 +67,8 @@ module _ {S W Map : Type 0} (s : Operations W Map) (d : Tables S W Map) where
         | inl same ↦ last ∙ ap (λ k. hand_at k (set mid.hands 0 None)) same ∙ set_none mid.hands 0
         | inr other ↦ last ∙ get_or-set_other mid.hands 0 seat None None other
             ∙ ap (λ (m : CoreState S W Map). hand_at seat m.hands) (sym (took s d 0 x st mid taken).1)
-            ∙ get_or-set_other st.hands 0 seat (Some (hand_for x st)) None other ∙ free seat
+            ∙ get_or-set_other st.hands 0 seat (Some (hand_for s d x st)) None other ∙ free seat
       ]
-
--- a system agrees with itself
-agrees_at : {X : Type 0} (f : ℕ → X) (o : Option ℕ) → IfSome o (λ k. f k ≡ f k)
-agrees_at f None = tt
-agrees_at f (Some k) = refl
-
-pub agrees : {S W Map : Type 0} (p : Pushdown S W Map) (js : List (Job S W Map)) → AllByRecursion (AgreeOn p p) js
-agrees p [] = tt
-agrees p (j ∷ js) = (record { semiring = refl; rule = agrees_at _ j.rule; frame = agrees_at _ j.frame }, agrees p js)
 
 turns_push : (xs : List Place) (x : Place) → (turns_of xs ++ Take 0 x ∷ []) ++ Settle 0 ∷ [] ≡ turns_of (xs ++ x ∷ [])
 turns_push [] x = refl

@@ -70,9 +70,9 @@ module _ {S W Map D : Type 0} (operations : S → Operations W Map) (way : Way S
           let e : Event = Take (own_number v.claims) k.0.0 in (
             (k.0.0, event_more e refl k.0.1),
             k.1,
-            holds_hand v h t b0 b1 (e ∷ []) some fits turn (made_base e k.0.1) (made_journal e k.0.1) (refl, tt) w gave operations way replays hand.jobs hand.goals k.2 k.3,
-            k.4,
-            over_base v b0 some fits system.now direction k.5,
+            holds_hand v h t b0 b1 (e ∷ []) some fits turn (made_base e k.0.1) (made_journal e k.0.1) (refl, tt) w gave operations way hand.jobs hand.goals k.2,
+            k.3,
+            over_base v b0 some fits system.now direction k.4,
           )
       has_asked replays Idle k = same_more k
       has_asked replays Closed k = (

@@ -8,8 +8,9 @@ use Rattle.pushdown_rules.specs.Pushdown.{Pushdown}
 use Rattle.saturation_laws.specs.declared.event.Event.{Event}
 use Rattle.saturation_laws.specs.declared.event.Event.TheVariants.{Take, Settle, GiveBack}
 use Rattle.saturation_laws.specs.declared.job.Job.{Job}
-use Rattle.saturation_laws.specs.States.{CoreState, seat_of}
-use Rattle.saturation_core.specs.Settled.{jobs_out}
+use Rattle.saturation_laws.specs.States.{seat_of}
+use Rattle.saturation_laws.specs.Books.{BookValue}
+use Rattle.saturation_core.specs.HandsOut.{HasOut}
 use Rattle.seat_lock.specs.declared.view.View.{View}
 use Rattle.seat_lock.specs.Queue.{of_pass}
 use Rattle.seat_lock.specs.Passes.{own_number, own_entries, joined_in}
@@ -17,8 +18,8 @@ use Rattle.worker_pool.specs.declared.shared.Origin.{Origin}
 use Rattle.worker_pool.specs.declared.asked.Asked.{Asked}
 use Rattle.worker_pool.specs.declared.asked.Asked.TheVariants.{Idle, Closed, Memory}
 use Rattle.worker_pool.specs.declared.asked.Asked.TheVariants.{Hand as InHand}
-use Rattle.worker_pool.specs.Origins.{state_after, IsClosedAfter}
-use Rattle.worker_pool.specs.Steps.{AreSeen, WorkFits}
+use Rattle.worker_pool.specs.Origins.{origin_of, IsClosedAfter}
+use Rattle.worker_pool.specs.Steps.{WorkFits}
 use Rattle.saturation_laws.specs.Ways.{Way}
 
 module _ {B E : Type 0} where
@@ -34,17 +35,19 @@ module _ {B E : Type 0} where
   HasMore es old new = own_entries new.claims ≡ own_entries old.claims ++ es
 
 module _ {S W Map D : Type 0} (operations : S → Operations W Map) (way : Way S W Map D) where
-  -- After what the pass has seen, with its own events and no others of its seat, its seat has a hand with these jobs, at whose goals this was seen.
+  -- A book whose journal is what the pass has seen, with its own events and no others of its seat, has a hand of its seat out with these jobs, at whose goals this was seen.
   pub record HoldsHand (v : View (Origin S D W Map) Event) (jobs : List (Job S W Map)) (goals : List (Option (Entry S W Map))) : Type 0 where
-    pub origin : Origin S D W Map
-    pub state : CoreState S W Map
-    pub based : v.base ≡ Some origin
+    pub book : BookValue S W Map D
+    pub based : v.base ≡ Some (origin_of book)
+    pub seen : v.seen ≡ book.journal
     pub own : of_pass seat_of (own_number v.claims) v.seen ≡ own_entries v.claims
-    pub replays : state_after operations way origin v.seen ≡ Some state
-    pub out : jobs_out (own_number v.claims) state.hands ≡ Some jobs
-    pub seen : AreSeen state jobs goals
+    pub out : HasOut operations way book (own_number v.claims) jobs goals
 
 module _ {S W Map D : Type 0} where
+  -- the pass knows a base, as each does that had a turn
+  abbrev pub IsBased : View (Origin S D W Map) Event → Type 0
+  IsBased v = (o : Origin S D W Map) × (v.base ≡ Some o)
+
   -- the system and the direction of the pass's base are these
   abbrev pub IsOver : View (Origin S D W Map) Event → Pushdown S W Map → D → Type 0
   IsOver v p d = (o : Origin S D W Map) → v.base ≡ Some o → (p ≡ o.system) × (d ≡ o.direction)

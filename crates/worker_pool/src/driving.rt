@@ -3,7 +3,7 @@ ghost use Rattle.std.specs.Prelude.{◌≡◌, true};
 ghost use Rattle.seat_lock.specs.Words.{mine, IsOf};
 ghost use Rattle.worker_pool.specs.Events.{is_ended};
 ghost use Rattle.worker_pool.specs.Passes.{IsSame};
-ghost use Rattle.worker_pool.specs.Turns.{Keeps};
+ghost use Rattle.worker_pool.specs.Turns.{IsBased, Keeps};
 ghost use Rattle.worker_pool.specs.Driving.{HasRound, HasDriven, SeesClosed};
 
 use crate::asked::Asked;
@@ -30,6 +30,7 @@ fn one_round<'s, H: Wait, S: Semiring, D: Direction<S>, G: Gate>(
     ensures pass { IsSame pass.entry result.0 }
     ensures keeps { Keeps pass.entry.seat.me.0 result.0.seat.me.0 }
     ensures round { HasRound S.operations D.way result.1 pass.entry.seat.me.0 result.0.seat.me.0 }
+    ensures based { IsBased result.0.seat.me.0 }
 {
     let seat = pass.number();
     let (pass, asked) = ask(rt, alloc, lock, pass);
@@ -58,7 +59,7 @@ fn one_round<'s, H: Wait, S: Semiring, D: Direction<S>, G: Gate>(
 }
 
 /// Works on a book under a lock, with the pass's number for its seat, until nothing waits and no hand is out, or until
-/// there is no memory. Then the hand that it has is given back.
+/// there is no memory. Then the hand that it has is given back. It has one turn at least, so its pass knows a base.
 pub fn drive<'s, H: Wait, S: Semiring, D: Direction<S>, G: Gate>(
     rt: &H,
     alloc: Global,
@@ -73,6 +74,7 @@ pub fn drive<'s, H: Wait, S: Semiring, D: Direction<S>, G: Gate>(
     ensures driven { HasDriven result.end pass.entry.seat.me.0 result.pass.seat.me.0 }
     ensures closed { result.end ≡ DriveEnd.Closed
         → SeesClosed S.operations D.way pass.entry.seat.me.0 result.pass.seat.me.0 }
+    ensures based { IsBased result.pass.seat.me.0 }
 {
     let mut pass = pass;
     for _ in rt.forever() {

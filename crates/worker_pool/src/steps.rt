@@ -7,10 +7,11 @@ ghost use Rattle.saturation_laws.specs.Books.{Makes, replayed};
 ghost use Rattle.seat_lock.specs.Queue.{of_pass};
 ghost use Rattle.saturation_laws.specs.States.{seat_of};
 ghost use Rattle.worker_pool.specs.Events.{is_ended};
-ghost use Rattle.worker_pool.specs.Steps.{BookAsked, HasOut, IsOverBook};
+ghost use Rattle.saturation_core.specs.HandsOut.{HasOut};
+ghost use Rattle.worker_pool.specs.Steps.{BookAsked, IsOverBook};
 
 use crate::asked::Asked;
-use saturation_core::{Book, Done, Taken};
+use saturation_core::{Book, Done, Taken, hands_out_tell, hands_stay_out};
 use saturation_laws::Direction;
 use semiring_laws::Semiring;
 use std::alloc::Global;
@@ -26,6 +27,7 @@ pub(crate) fn ask<'s, S: Semiring, D: Direction<S>>(
     ensures asked { BookAsked S.operations D.way book.old seat result book.new }
     ensures replays { replayed S.operations D.way book.new ≡ Some book.new.state }
 {
+    hands_stay_out::<S, D>();
     let (system, direction) = (book.system(), book.direction());
     let asked = match book.take(alloc, seat) {
         Ok(Taken::Hand(hand)) => Asked::Hand {
@@ -80,6 +82,7 @@ pub(crate) fn settle<'s, S: Semiring, D: Direction<S>>(
         (Makes S.operations D.way book.old (Settle done.entry.seat) book.new)
         (Makes S.operations D.way book.old (GiveBack done.entry.seat) book.new) }
 {
+    hands_out_tell::<S, D>();
     let seat = done.seat();
     book.system();
     match book.settle(alloc, done) {
@@ -101,6 +104,7 @@ pub(crate) fn give_back<S: Semiring, D: Direction<S>>(book: &mut Book<'_, S, D>,
         × HasOut S.operations D.way book.old seat hand.jobs hand.goals }
     ensures { Makes S.operations D.way book.old (GiveBack seat) book.new }
 {
+    hands_out_tell::<S, D>();
     book.system();
     book.give_back(seat);
 }

@@ -3,12 +3,12 @@ ghost use Rattle.std.specs.Prelude.{◌≡◌, true, false};
 ghost use Rattle.saturation_core.specs.declared.hand.Hand.{Hand as HandValue};
 ghost use Rattle.seat_lock.specs.Words.{mine, IsOf};
 ghost use Rattle.worker_pool.specs.Events.{is_ended};
-ghost use Rattle.worker_pool.specs.Turns.{Keeps, HoldsHand, IsOver, HasAsked, HasSettled};
+ghost use Rattle.worker_pool.specs.Turns.{Keeps, HoldsHand, IsBased, IsOver, HasAsked, HasSettled};
 ghost use Rattle.worker_pool.specs.Passes.{IsSame};
 
 use crate::asked::Asked;
 use crate::{Shared, steps};
-use saturation_core::Done;
+use saturation_core::{Done, hands_stay_out};
 use saturation_laws::Direction;
 use seat_lock::{Pass, SeatLock};
 use semiring_laws::Semiring;
@@ -28,6 +28,7 @@ pub(crate) fn ask<'s, H: Wait, S: Semiring, D: Direction<S>>(
     ensures pass { IsSame pass.entry result.0 }
     ensures keeps { Keeps pass.entry.seat.me.0 result.0.seat.me.0 }
     ensures asked { HasAsked S.operations D.way result.1 pass.entry.seat.me.0 result.0.seat.me.0 }
+    ensures based { IsBased result.0.seat.me.0 }
 {
     let seat = pass.number();
     let mut held = lock.turn(rt, pass);
@@ -54,6 +55,7 @@ pub(crate) fn settle<'s, H: Wait, S: Semiring, D: Direction<S>>(
     ensures keeps { Keeps pass.entry.seat.me.0 result.0.seat.me.0 }
     ensures settled { HasSettled result.1 pass.entry.seat.me.0 result.0.seat.me.0 }
 {
+    hands_stay_out::<S, D>();
     let mut held = lock.turn(rt, pass);
     let mut wake = 0;
     let settled = steps::settle(alloc, &mut held.value().book, done, &mut wake);
@@ -73,6 +75,7 @@ pub(crate) fn give_back<'s, H: Wait, S: Semiring, D: Direction<S>>(
     ensures keeps { Keeps pass.entry.seat.me.0 result.seat.me.0 }
     ensures given { HasSettled false pass.entry.seat.me.0 result.seat.me.0 }
 {
+    hands_stay_out::<S, D>();
     let seat = pass.number();
     let mut held = lock.turn(rt, pass);
     steps::give_back(&mut held.value().book, seat);

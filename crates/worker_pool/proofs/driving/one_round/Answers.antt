@@ -47,3 +47,9 @@ returns-after-settled-clause-round g c =
             (subst (λ (k : ℕ). HasMore (GiveBack k ∷ []) q r) c.ask-pass.ensures.keeps.number (subst (λ b. HasSettled b q r) w.if-settled.false c.settle-pass.ensures.settled)),
       )
     ]
+
+pub returns-in_default-clause-based : goal.returns-in_default-clause-based
+returns-in_default-clause-based g c = (c.ask-pass.ensures.based.0, c.give_back.ensures.keeps.base ∙ c.ask-pass.ensures.based.1)
+
+pub returns-after-settled-clause-based : goal.returns-after-settled-clause-based
+returns-after-settled-clause-based g c = (c.ask-pass.ensures.based.0, c.settle-pass.ensures.keeps.base ∙ c.ask-pass.ensures.based.1)

@@ -14,7 +14,7 @@ returns-clause-asked g c =
     let P = BookAsked g.S.Semiring.operations g.D.Direction.way c.args.book.now c.args.seat in
     elim c.match-take.branch [
       | in-Ok-Hand w ↦ subst (λ a. P a c.take.new.self) (sym w.asked-is)
-          (given_hand g.S.Semiring.operations g.D.Direction.way c.args.book.now c.take.new.self c.args.seat c.take.result w.in-Ok-Hand.hand _ _ (w.in-Ok-Hand.is ∙ ap Ok w.in-Ok-Hand.field-0-is) (λ t there. (c.system-system.ensures.book.lock.sound t there).node) c.take.ensures.taken c.take.ensures.works
+          (given_hand g.S.Semiring.operations g.D.Direction.way c.args.book.now c.take.new.self c.args.seat c.take.result w.in-Ok-Hand.hand _ _ (w.in-Ok-Hand.is ∙ ap Ok w.in-Ok-Hand.field-0-is) (c.hands_stay_out.ensures.taken c.args.book.now c.take.new.self c.args.seat w.in-Ok-Hand.hand c.system-system.ensures.book) c.take.ensures.taken c.take.ensures.works
           c.system-system.ensures.value c.direction-direction.ensures)
       | in-Ok-Idle w ↦ subst (λ a. P a c.take.new.self) (sym w.asked-is)
           (subst (λ o. IfOk o (λ t. AnswersTake g.S.Semiring.operations g.D.Direction.way c.args.book.now c.args.seat t c.take.new.self)) (w.in-Ok-Idle.is ∙ ap Ok w.in-Ok-Idle.field-0-is) c.take.ensures.taken).3

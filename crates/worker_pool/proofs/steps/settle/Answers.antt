@@ -3,14 +3,12 @@ use Rattle.std.specs.Prelude.{OnErr, OnOk, IsSome}
 use Rattle.saturation_laws.specs.declared.event.Event.TheVariants.{Settle}
 use Rattle.saturation_laws.specs.States.{hand_at}
 use Rattle.saturation_laws.specs.Books.{Makes}
-use Rattle.worker_pool.proofs.StepLemmas.{can_give, found_again, settles_out, ends_settled, ends_given}
+use Rattle.worker_pool.proofs.StepLemmas.{has_hand, ends_settled, ends_given}
 use Rattle.worker_pool.proofs.steps.settle.Goals.{in-Ok, in-Err}
 use Rattle.worker_pool.proofs.steps.settle.Goals as goal
 
 pub settle-requires : goal.settle-requires
-settle-requires g c =
-    let again = found_again g.S.Semiring.operations g.D.Direction.way c.args.book.now c.system.ensures.book.replays c.args.done.seat c.args.done.jobs c.args.done.goals c.requires.out in
-    settles_out g.S.Semiring.operations g.D.Direction.way c.args.book.now c.args.done again.0 again.1 c.requires.over.0 c.requires.over.1
+settle-requires g c = c.hands_out_tell.ensures.settles c.args.book.now c.args.done c.system.ensures.book c.requires.out c.requires.over.0 c.requires.over.1
 
 pub give_back-requires : goal.give_back-requires
 give_back-requires g c =
@@ -18,7 +16,7 @@ give_back-requires g c =
     record {
       out = subst (λ (b : _). IsSome (hand_at c.seat-seat.result b.state.hands)) (sym same)
           (subst (λ k. IsSome (hand_at k c.args.book.now.state.hands)) (sym c.seat-seat.ensures)
-          (can_give g.S.Semiring.operations g.D.Direction.way c.args.book.now c.system.ensures.book.replays c.args.done.seat c.args.done.jobs c.args.done.goals c.requires.out));
+          (has_hand (hand_at c.args.done.seat c.args.book.now.state.hands) c.args.done.jobs (c.hands_out_tell.ensures.tells c.args.book.now c.args.done.seat c.args.done.jobs c.args.done.goals c.system.ensures.book c.requires.out).0));
     }
 
 pub returns : goal.returns

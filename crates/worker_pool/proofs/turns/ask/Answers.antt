@@ -1,7 +1,10 @@
 use Rattle.std.proofs.Common.{◌≡◌, ℕ, true, sym, ap, ◌∙◌, subst}
 use Rattle.saturation_laws.specs.States.{seat_of}
+use Rattle.seat_lock.specs.declared.view.View.{View}
 use Rattle.seat_lock.specs.Passes.{own_number}
 use Rattle.seat_lock.specs.Queue.{of_pass}
+use Rattle.saturation_laws.specs.declared.event.Event.{Event}
+use Rattle.worker_pool.specs.declared.shared.Origin.{Origin}
 use Rattle.worker_pool.specs.Events.{is_ended}
 use Rattle.worker_pool.specs.Steps.{BookAsked}
 use Rattle.worker_pool.proofs.PassLemmas.{own_of}
@@ -35,3 +38,6 @@ returns-clause-keeps g c =
     ask_keeps g.S.Semiring.operations g.D.Direction.way c.turn-held.result.value.book c.ask-asked.new.book c.args.pass.seat.me.0 c.turn-held.result.seat.me.0 c.turn-held.result.ticket c.args.pass.is.some_claim
     c.turn-held.ensures.fits c.turn-held.ensures.turn c.give_to.result.seat.me.0 c.give_to.ensures.gave c.ask-asked.result
     (subst (λ z. BookAsked g.S.Semiring.operations g.D.Direction.way z.book (own_number c.args.pass.seat.me.0.claims) c.ask-asked.result c.ask-asked.new.book) c.value.ensures.value asked)
+
+pub returns-clause-based : goal.returns-clause-based
+returns-clause-based g c = (_, c.give_to.ensures.gave.0 ∙ ap (λ (z : View (Origin _ _ _ _) Event). z.base) c.turn-held.ensures.turn ∙ c.turn-held.ensures.fits.0)

@@ -1,7 +1,8 @@
 use Rattle.std.proofs.Common.{ℕ, sym, ◌∙◌, subst, refl}
 use Rattle.saturation_laws.specs.declared.event.Event.TheVariants.{GiveBack}
 use Rattle.saturation_laws.specs.Books.{Makes}
-use Rattle.worker_pool.specs.Steps.{HasOut}
+use Rattle.saturation_core.specs.HandsOut.{HasOut}
+use Rattle.seat_lock.specs.Passes.{own_number}
 use Rattle.worker_pool.proofs.PassLemmas.{finds}
 use Rattle.worker_pool.proofs.WorkerTurnLemmas.{event_grown, event_keeps, event_more}
 use Rattle.worker_pool.proofs.turns.give_back.Goals as goal
@@ -9,7 +10,9 @@ use Rattle.worker_pool.proofs.turns.give_back.Goals as goal
 pub give_back-requires : goal.give_back-requires
 give_back-requires g c =
     let hand = c.requires.hand in
-    let out = finds g.S.Semiring.operations g.D.Direction.way c.args.pass.seat.me.0 c.turn-held.result.value.book c.args.pass.is.some_claim c.turn-held.ensures.fits hand.0.jobs hand.0.goals hand.1 in
+    let b = c.turn-held.result.value.book in
+    let found = finds g.S.Semiring.operations g.D.Direction.way c.args.pass.seat.me.0 b c.args.pass.is.some_claim c.turn-held.ensures.fits hand.0.jobs hand.0.goals hand.1 in
+    let out = c.hands_stay_out.ensures.events hand.1.book b _ (own_number c.args.pass.seat.me.0.claims) hand.0.jobs hand.0.goals hand.1.out found.0 found.1 in
     record {
       out = (
         hand.0,

@@ -2,14 +2,19 @@ use Rattle.std.proofs.Common.{ℕ, sym, ◌∙◌, subst}
 use Rattle.std.specs.Prelude.{MatchBool}
 use Rattle.saturation_laws.specs.declared.event.Event.TheVariants.{Settle, GiveBack}
 use Rattle.saturation_laws.specs.Books.{Makes}
-use Rattle.worker_pool.specs.Steps.{HasOut, IsOverBook}
+use Rattle.seat_lock.specs.Passes.{own_number}
+use Rattle.saturation_core.specs.HandsOut.{HasOut}
+use Rattle.worker_pool.specs.Steps.{IsOverBook}
 use Rattle.worker_pool.proofs.PassLemmas.{finds, over_book}
 use Rattle.worker_pool.proofs.WorkerTurnLemmas.{settle_grown, has_settled, settle_keeps}
 use Rattle.worker_pool.proofs.turns.settle.Goals as goal
 
 pub settle-settled-requires-clause-out : goal.settle-settled-requires-clause-out
 settle-settled-requires-clause-out g c =
-    let out = finds g.S.Semiring.operations g.D.Direction.way c.args.pass.seat.me.0 c.turn-held.result.value.book c.args.pass.is.some_claim c.turn-held.ensures.fits c.args.done.jobs c.args.done.goals c.requires.hand in
+    let hand = c.requires.hand in
+    let b = c.turn-held.result.value.book in
+    let found = finds g.S.Semiring.operations g.D.Direction.way c.args.pass.seat.me.0 b c.args.pass.is.some_claim c.turn-held.ensures.fits c.args.done.jobs c.args.done.goals hand in
+    let out = c.hands_stay_out.ensures.events hand.book b _ (own_number c.args.pass.seat.me.0.claims) c.args.done.jobs c.args.done.goals hand.out found.0 found.1 in
     subst (λ z. HasOut g.S.Semiring.operations g.D.Direction.way z.book c.args.done.seat c.args.done.jobs c.args.done.goals) (sym c.value.ensures.value)
     (subst (λ (k : ℕ). HasOut g.S.Semiring.operations g.D.Direction.way c.turn-held.result.value.book k c.args.done.jobs c.args.done.goals) (c.args.pass.is.names ∙ sym c.requires.seat) out)
 
