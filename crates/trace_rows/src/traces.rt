@@ -150,7 +150,10 @@ fn is_run(run: &[u32], rules: &[u32]) -> bool {
 // Whether these are one run, of these rules.
 fn is_one_run(expanded: &Expanded, rules: &[u32]) -> bool {
     match expanded {
-        Expanded::Runs(runs) => runs.len() == 1 && is_run(runs[0].as_slice(), rules),
+        Expanded::Runs(runs) => {
+            let runs = runs.as_slice();
+            runs.len() == 1 && is_run(runs[0].as_slice(), rules)
+        }
         Expanded::TooLong => false,
     }
 }
