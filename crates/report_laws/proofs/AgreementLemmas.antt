@@ -1,5 +1,5 @@
 -- Two texts of a part for each query.
-use Rattle.std.proofs.Common.{◌≡◌, inl, inr, ℕ, ◌+◌, Bool, List, [], ◌∷◌, ◌++◌, Option, refl, sym, ap, ap₂, subst, ◌∙◌, append-nil, append_assoc}
+use Rattle.std.proofs.Common.{◌≡◌, ◌⊎◌, inl, inr, ℕ, ◌+◌, Bool, true, false, List, [], ◌∷◌, ◌++◌, Option, sym, ap, ◌∙◌, append-nil, append_assoc}
 use Rattle.std.specs.Prelude.{codes, if◌then◌else◌}
 use Rattle.boolean_machine.specs.Machine.{IsReached}
 use Rattle.boolean_programs.specs.Programs.{program_of}
@@ -28,7 +28,8 @@ of_both follows i (x ∷ xs) one other p q =
 module _ (p : ParsedProgram) (one other : Options) (system system' : Pushdown ℕ Parts RelMap) where
   begins : (options : Options) (q : Pushdown ℕ Parts RelMap) (i : ℕ) (l : Option Listing) (t : List ℕ)
       → IsReachedText options p q i l t → BeginsWith (query_line i (codes "reachable")) t
-  begins options q i l t is = (listed options l ++ is.trace, is.lines)
+  begins options q i l t is =
+      (listed options l ++ is.trace, is.lines ∙ append_assoc (query_line i (codes "reachable")) (listed options l) is.trace)
 
   -- one verdict, since a point is reached or not
   pub one_verdict : (i : ℕ) (point : Point) (t u : List ℕ) → TellsPoint one p system i point t → TellsPoint other p system' i point u
@@ -53,7 +54,8 @@ module _ (p : ParsedProgram) (one other : Options) (system system' : Pushdown �
   bare options q i l t brief is =
       is.lines
       ∙ ap (λ b. query_line i (codes "reachable") ++ (if b then [] else shown l) ++ is.trace) brief.0
-      ∙ ap (λ x. query_line i (codes "reachable") ++ x) (untraced q options.traces l is.trace brief.1 is.traced)
+      ∙ ap (λ x. query_line i (codes "reachable") ++ [] ++ x) (untraced q options.traces l is.trace brief.1 is.traced)
+      ∙ append-nil (query_line i (codes "reachable") ++ [])
       ∙ append-nil (query_line i (codes "reachable"))
 
   pub one_text : IsBrief one → IsBrief other → (i : ℕ) (point : Point) (t u : List ℕ) → TellsPoint one p system i point t

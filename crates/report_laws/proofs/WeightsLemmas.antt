@@ -1,5 +1,5 @@
 -- What holds over each semiring that a document can name.
-use Rattle.std.proofs.Common.{◌≡◌, ℕ, Bool, true, false, cond, List, length, Some, None, refl}
+use Rattle.std.proofs.Common.{◌≡◌, ℕ, Bool, true, false, cond, Some, None, refl}
 use Rattle.std.specs.Prelude.{Option, nat_le, unwrap_or}
 use Rattle.semiring_laws.specs.declared.reach.NoMap.{NoMap}
 use Rattle.semiring_laws.specs.declared.reach.Reach.{Reach as ReachValue}

@@ -1,5 +1,5 @@
 -- How two reports agree, by either direction and any number of workers.
-use Rattle.std.specs.Prelude.{◌≡◌, ◌⊎◌, ℕ, ◌+◌, List, [], ◌∷◌, ◌++◌, length, codes}
+use Rattle.std.specs.Prelude.{◌≡◌, ◌⊎◌, ℕ, ◌+◌, List, [], ◌∷◌, ◌++◌, codes}
 use Rattle.boolean_programs.specs.declared.point.Point.{Point}
 use Rattle.document_forms.specs.Documents.{Document}
 use Rattle.document_forms.specs.declared.document.QueryLine.{QueryLine}
