@@ -6,6 +6,8 @@ mod driving;
 #[cfg(test)]
 mod locks;
 #[cfg(test)]
+mod seats;
+#[cfg(test)]
 mod short;
 #[cfg(test)]
 mod workers;
