@@ -17,14 +17,8 @@ use document_reader::add_names;
 use program_statements::Scope;
 use program_tables::Tables;
 use std::alloc::Global;
-use wpds_base::OutOfMemory;
+use wpds_base::{MOST_QUERIES, MOST_RELATED, OutOfMemory};
 use wpds_port::{Kind, Words};
-
-/// How many variables the relation of a procedure has at most.
-const MOST_NAMES: usize = 24;
-
-/// How many queries a program has at most.
-const MOST_QUERIES: usize = 1_000;
 
 /// Takes globals, or tells the kind by which they are refused.
 pub(crate) fn take_globals<'t>(
@@ -45,7 +39,7 @@ pub(crate) fn take_globals<'t>(
 fn is_too_wide(slots: u32, names: usize) -> bool
     ensures { result ≡ nat_lt most_related (names + slots) }
 {
-    names.saturating_add(slots as usize) > MOST_NAMES
+    names.saturating_add(slots as usize) > MOST_RELATED
 }
 
 // Whether a procedure is `main`, and has names beside so many globals or returns values.

@@ -21,11 +21,8 @@ use boolean_programs::{Program, ProgramQueries};
 use document_reader::{Lines, is_first_version, is_text};
 use program_tables::{Place, StatedLine, StatedLines, Tables, read_tables};
 use std::alloc::Global;
-use wpds_base::OutOfMemory;
+use wpds_base::{MOST_BYTES, OutOfMemory};
 use wpds_port::{Kind, ReadFault, Refusal, Words};
-
-/// How many bytes a document has at most.
-const MOST_BYTES: usize = 4_194_304;
 
 /// Reads the text of a Boolean program.
 ///

@@ -13,13 +13,7 @@ use program_statements::Scope;
 use program_tables::Tables;
 use rule_reader::NameTable;
 use std::alloc::Global;
-use wpds_base::OutOfMemory;
-
-/// How many body lines and asserts a program has at most.
-const MOST_POINTS: u32 = 40_000;
-
-/// How many rules a program makes at most.
-const MOST_RULES: u32 = 130_000;
+use wpds_base::{MOST_RULES, MOST_SYMBOLS, OutOfMemory};
 
 /// What the lines that were read say.
 #[derive(Drop)]
@@ -64,8 +58,8 @@ impl<'t> Reading<'t> {
     pub(crate) fn passes_limit(&self, points: u32, rules: u32) -> bool
         ensures { result ≡ passes (self.now.points + points) (self.now.rules + rules) }
     {
-        self.points.saturating_add(points) > MOST_POINTS
-            || self.rules.saturating_add(rules) > MOST_RULES
+        self.points.saturating_add(points) as usize > MOST_SYMBOLS
+            || self.rules.saturating_add(rules) as usize > MOST_RULES
     }
 
     /// Adds a line to the body of the procedure that began last, with what it counts for.

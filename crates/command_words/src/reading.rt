@@ -12,13 +12,7 @@ use itoa::Buffer;
 use report_text::Options;
 use std::alloc::Global;
 use witness_graph::Side;
-use wpds_base::OutOfMemory;
-
-// The most workers that there may be.
-const MOST_WORKERS: u32 = 64;
-
-// The most rungs that a ladder may have.
-const MOST_RUNGS: u32 = 10_000;
+use wpds_base::{MOST_RUNGS, MOST_SEATS, OutOfMemory};
 
 // The number from 1 to the most that a text writes, without a sign or a zero in front.
 fn number_up_to(most: u32, text: &str) -> Option<u32>
@@ -61,7 +55,7 @@ fn worker_count(matches: &ArgMatches<'_>) -> Option<u32>
     ensures value { result ≡ meant.worker_count (rows_of (found_of matches.now)) }
     ensures within { IfSome result (λ n. (0 < n) × (n ≤ most_seats)) }
 {
-    number_up_to(MOST_WORKERS, given(matches, "workers")?)
+    number_up_to(MOST_SEATS, given(matches, "workers")?)
 }
 
 // Which way the saturation is to go.

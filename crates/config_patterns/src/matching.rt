@@ -5,9 +5,7 @@ ghost use Rattle.config_patterns.specs.private.Places.{place_matches, advanced};
 
 use crate::Item;
 use pushdown_rules::Config;
-
-/// How many places a walk over the items may have: before each of 1,000 items, and after the last.
-const MAX_PLACES: usize = 1_001;
+use wpds_base::MOST_ITEMS;
 
 // Puts the walk before the first item.
 fn begin(places: &mut [bool])
@@ -52,7 +50,7 @@ pub(crate) fn match_stack(items: &[Item], config: &Config) -> bool
     requires { length items.now ≤ most_items }
     ensures { result ≡ items_match items.now config.now.stack }
 {
-    let mut places = [false; MAX_PLACES];
+    let mut places = [false; MOST_ITEMS + 1];
     begin(&mut places);
     for k in 0..config.depth() {
         advance(items, config.at(k), &mut places);

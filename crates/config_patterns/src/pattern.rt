@@ -16,11 +16,7 @@ use pushdown_rules::Config;
 use std::alloc::{AllocFailed, Global};
 use std::marker::Model;
 use thiserror::Error;
-use wpds_base::OutOfMemory;
-
-const MAX_ITEMS: usize = 1_000;
-
-const MAX_EDGES: u64 = 1_000_000;
+use wpds_base::{MOST_EDGES, MOST_ITEMS, OutOfMemory};
 
 /// Why an item was not added. Of several causes the first in this order is returned.
 #[derive(Clone, Copy, Debug, PartialEq, Eq, Error)]
@@ -209,7 +205,7 @@ impl Pattern {
         ensures count { IfOk result (λ n. (set : List ℕ) → IsCounted count self.now.symbols set →
             n ≡ length (edges_of (with_item self.now set star).items)) }
     {
-        if self.items.len() >= MAX_ITEMS {
+        if self.items.len() >= MOST_ITEMS {
             return Err(PatternFault::TooManyItems);
         }
         match edges_with(self.edges, self.finals, count, star) {
@@ -245,7 +241,7 @@ fn edges_with(edges: u64, finals: u64, symbols: u64, star: bool) -> Option<u64>
         return None;
     };
     match edges.checked_add(more) {
-        Some(all) if all <= MAX_EDGES => Some(all),
+        Some(all) if all <= MOST_EDGES as u64 => Some(all),
         _ => None,
     }
 }

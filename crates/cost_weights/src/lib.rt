@@ -14,9 +14,7 @@ use semiring_laws::{NoMap, Semiring};
 use std::alloc::Global;
 use std::marker::Model;
 use thiserror::Error;
-use wpds_base::OutOfMemory;
-
-const MAX_CAP: u64 = 1_000_000_000_000_000_000;
+use wpds_base::{MOST_COST, OutOfMemory};
 
 /// Why there is no such semiring.
 #[derive(Clone, Copy, Debug, PartialEq, Eq, Error)]
@@ -59,7 +57,7 @@ impl Cost {
         if cap == 0 {
             return Err(CostFault::CapZero);
         }
-        if cap > MAX_CAP {
+        if cap > MOST_COST {
             return Err(CostFault::CapTooLarge);
         }
         Ok(Cost { cap })

@@ -22,26 +22,10 @@ use crate::weights_lines::said_weights;
 use document_forms::WeightsLine;
 use rule_reader::{RuleRead, is_name, read_rule};
 use std::alloc::Global;
-use wpds_base::OutOfMemory;
+use wpds_base::{
+    MOST_CONTROLS, MOST_COPIED, MOST_FACTS, MOST_QUERIES, MOST_RELATED, MOST_SYMBOLS, OutOfMemory,
+};
 use wpds_port::{Kind, Lexeme, Words};
-
-/// How many controls a document has at most.
-const MOST_CONTROLS: usize = 1_000;
-
-/// How many symbols a document has at most.
-const MOST_SYMBOLS: usize = 40_000;
-
-/// How many facts gen-kill weights have at most.
-const MOST_FACTS: usize = 1_024;
-
-/// How many variables copies have at most.
-const MOST_COPIED: usize = 64;
-
-/// How many variables relations have at most.
-const MOST_RELATED: usize = 24;
-
-/// How many queries a document has at most.
-const MOST_QUERIES: usize = 1_000;
 
 // The kind by which a further weights line is refused.
 fn weights_kind(words: &Words) -> Kind

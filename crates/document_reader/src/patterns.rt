@@ -12,13 +12,8 @@ use crate::items::{SetRead, read_item};
 use document_forms::{ItemText, PatternText, SetText};
 use rule_reader::{NameTable, split_name};
 use std::alloc::Global;
-use wpds_base::{OutOfMemory, Sequence};
+use wpds_base::{MOST_EDGES, MOST_ITEMS, OutOfMemory, Sequence};
 use wpds_port::{Lexeme, Mark, Words};
-
-// the most items of a pattern, and the most edges of its automaton
-const MOST_ITEMS: usize = 1_000;
-
-const MOST_EDGES: usize = 1_000_000;
 
 /// What is amiss with a query that has its form, or with one of its patterns.
 #[derive(Clone, Copy, Debug, PartialEq, Eq)]

@@ -13,11 +13,8 @@ use crate::lines::Lines;
 use crate::reading::{Reading, read_body, refused};
 use document_forms::{Document, QueryLines, RuleLines, found_line_by_line};
 use std::alloc::Global;
-use wpds_base::{OutOfMemory, Sequence};
+use wpds_base::{MOST_BYTES, OutOfMemory, Sequence};
 use wpds_port::{Kind, ReadFault, Text};
-
-/// How many bytes a document has at most.
-const MOST_BYTES: usize = 4_194_304;
 
 /// Reads the text of a pushdown system.
 ///

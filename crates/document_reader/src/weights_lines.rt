@@ -13,6 +13,7 @@ ghost use Rattle.document_reader.specs.private.LineForms.{form_in, weights_said,
 use crate::lines::line_front;
 use document_forms::WeightsLine;
 use rule_reader::{is_name, number};
+use wpds_base::MOST_COST;
 use wpds_port::{Kind, Lexeme, Words};
 
 // Weights by the words behind `weights`, the cap by its digits.
@@ -74,7 +75,7 @@ fn costs(digits: &[u8]) -> Option<WeightsLine>
     ensures { IsDeclared (CostWeights digits.now) result }
 {
     let cap = number(digits)?;
-    if 1 <= cap && cap <= 1_000_000_000_000_000_000 {
+    if 1 <= cap && cap <= MOST_COST {
         Some(WeightsLine::Cost { cap })
     } else {
         None

@@ -18,11 +18,8 @@ use crate::texts::LineText;
 use document_reader::{are_names, is_reserved};
 use rule_reader::{is_name, number, split_name};
 use std::alloc::Global;
-use wpds_base::OutOfMemory;
+use wpds_base::{MOST_RELATED, OutOfMemory};
 use wpds_port::{Lexeme, Mark, Words};
-
-/// How many values a procedure returns at most.
-const MOST_RETURNED: u64 = 24;
 
 // ---- lines that declare
 
@@ -54,7 +51,7 @@ fn returned(digits: &[u8]) -> Option<u32>
         ≡ guarded (is_count (number_of digits.now)) (Some (number_of digits.now)) }
 {
     let count = number(digits)?;
-    if count == 0 || count > MOST_RETURNED {
+    if count == 0 || count > MOST_RELATED as u64 {
         return None;
     }
     u32::try_from(count).ok()

@@ -10,11 +10,10 @@ ghost use Rattle.program_reports.specs.private.Asked.{IsAsked, CanTrace, program
 
 use crate::asked::Asked;
 use program_traces::{FirstTrace, first_trace};
-use report_text::MOST_TRACED;
 use state_text::trace_text;
 use std::alloc::Global;
 use witness_graph::Listing;
-use wpds_base::{OutOfMemory, Text};
+use wpds_base::{MOST_TRACED, OutOfMemory, Text};
 
 // How a trace is written, or that it is too long.
 fn shown(alloc: Global, asked: &Asked<'_>, trace: &FirstTrace) -> Result<Text, OutOfMemory>

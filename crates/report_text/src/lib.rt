@@ -9,5 +9,5 @@ mod traces;
 
 pub use listing::{listing_text, query_line};
 pub use options::Options;
-pub use report::{MOST_TRACED, listed, query_text, traced};
+pub use report::{listed, query_text, traced};
 pub use traces::traces_text;

@@ -5,10 +5,7 @@ use crate::listing::add_listing;
 use crate::{Options, query_line, traces_text};
 use std::alloc::Global;
 use witness_graph::Listing;
-use wpds_base::{OutOfMemory, Text};
-
-/// The size up to which runs are written: of each the number of its rules, and one more.
-pub const MOST_TRACED: u64 = 100_000;
+use wpds_base::{MOST_TRACED, OutOfMemory, Text};
 
 // Adds the lines of a listing, unless they are left out or there is none.
 fn add_listed(

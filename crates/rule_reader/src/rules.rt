@@ -21,14 +21,8 @@ use crate::scope::Scope;
 use crate::weights::{WeightRead, read_weight};
 use document_forms::{RuleLine, Symbols, WeightText, WeightsLine};
 use std::alloc::Global;
-use wpds_base::OutOfMemory;
+use wpds_base::{MOST_PUSHED, MOST_RULES, OutOfMemory};
 use wpds_port::{Kind, Lexeme, Mark, Words};
-
-/// How many rules a document has at most.
-const MOST_RULES: usize = 130_000;
-
-/// How many symbols a rule leaves on top at most.
-const MOST_PUSHED: usize = 2;
 
 /// A rule as it is read. Where it is refused, `rule` says nothing.
 #[derive(Drop)]

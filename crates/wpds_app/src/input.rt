@@ -8,10 +8,8 @@ use document_reader::{language, read_system};
 use document_systems::Names;
 use program_laws::programs_are_refused_by_lines;
 use std::alloc::Global;
+use wpds_base::MOST_BYTES;
 use wpds_port::ReadFault;
-
-/// The most bytes that a document has.
-pub(crate) const MOST_BYTES: usize = 4_194_304;
 
 /// What an input means that is read.
 #[derive(Drop)]

@@ -8,7 +8,7 @@ ghost use Rattle.worker_pool.specs.Workers.{IsWorkerCount};
 ghost use Rattle.wpds_app.specs.Running.{HasReply, IsReply, Means};
 
 use crate::crew::Crew;
-use crate::input::{MOST_BYTES, meaning_of};
+use crate::input::meaning_of;
 use crate::report::report;
 use crate::{Input, Status};
 use boolean_programs::Program;
@@ -20,7 +20,7 @@ use report_text::Options;
 use std::alloc::Global;
 use std::sync::Wait;
 use std::thread::Threads;
-use wpds_base::OutOfMemory;
+use wpds_base::{MOST_BYTES, OutOfMemory};
 use wpds_port::{Gate, InputFault, ReadFault, Refusal, Source, Text, read_up_to};
 
 /// A status and the text that is written with it.

@@ -11,11 +11,8 @@ use crate::names::NameTable;
 use document_forms::{Expression, ValueText};
 use std::alloc::Global;
 use truth_tables::{ExprRead, Postfix, is_variable, one_tree, read_expr, variables_among_words};
-use wpds_base::OutOfMemory;
+use wpds_base::{MOST_DEPTH, OutOfMemory};
 use wpds_port::{Lexeme, Mark, Words};
-
-/// How deep an expression is at most.
-const MOST_DEPTH: u32 = 64;
 
 /// An expression that was read.
 #[derive(Drop)]

@@ -2,8 +2,8 @@ use Rattle.std.proofs.Common.{◌∙◌, arith}
 use Rattle.config_patterns.proofs.ItemLemmas.{few_finals, counted, is_accepted, not_refused, too_many, too_many_items}
 use Rattle.config_patterns.proofs.pattern.Pattern.admit.Goals as goal
 
-pub returns-then-len-ge-MAX_ITEMS-clause-refusal : goal.returns-then-len-ge-MAX_ITEMS-clause-refusal
-returns-then-len-ge-MAX_ITEMS-clause-refusal c = λ set of. too_many_items _ _ c.self.view_is set c.args.star of.low (omega arith)
+pub returns-then-len-ge-MOST_ITEMS-clause-refusal : goal.returns-then-len-ge-MOST_ITEMS-clause-refusal
+returns-then-len-ge-MOST_ITEMS-clause-refusal c = λ set of. too_many_items _ _ c.self.view_is set c.args.star of.low (omega arith)
 
 pub edges_with-requires : goal.edges_with-requires
 edges_with-requires c = few_finals _ _ _ c.self.invariant.0 c.self.invariant.1
