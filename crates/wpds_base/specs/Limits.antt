@@ -22,6 +22,10 @@ most_rules = 130000
 abbrev pub most_pushed : ℕ
 most_pushed = 2
 
+-- symbols on a right side where rules are wide
+abbrev pub longest_right : ℕ
+longest_right = 8
+
 abbrev pub most_queries : ℕ
 most_queries = 1000
 
