@@ -9,7 +9,7 @@ use Rattle.diagram_store.specs.declared.branch.Branch.{Branch}
 use Rattle.diagram_store.specs.Nodes.{node_at, IsAbove, IsReduced}
 use Rattle.diagram_store.specs.Meaning.{value_at}
 use Rattle.diagram_store.proofs.CallerLemmas.{no_node, value_at_end}
-use Rattle.triple_tables.specs.Tables.{same_key}
+use Rattle.diagram_store.specs.TripleTables.{same_key}
 use Rattle.diagram_ops.specs.private.Scratch.{Keeps, Stands, IsChoice}
 use Rattle.diagram_ops.specs.private.Applying.{variable, place_in, lower, cofactor, IsTableOf, ComesBefore, IsApplied, AreApplied, Applies}
 use Rattle.diagram_ops.proofs.KeepingLemmas.{keeps_same, keeps_both, keeps_within, keeps_above, keeps_value}

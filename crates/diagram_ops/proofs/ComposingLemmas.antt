@@ -9,7 +9,7 @@ use Rattle.diagram_store.specs.Meaning.{value_at, set_bit}
 use Rattle.diagram_store.proofs.CallerLemmas.{constant_below, value_at_end, value_agrees, set_same, set_other}
 use Rattle.diagram_ops.specs.declared.composing.Operand.{Operand}
 use Rattle.diagram_ops.specs.declared.composing.Operand.TheVariants.{First, Second}
-use Rattle.triple_tables.specs.Tables.{same_key}
+use Rattle.diagram_store.specs.TripleTables.{same_key}
 use Rattle.diagram_ops.specs.private.Scratch.{Keeps, Stands, IsPast, IsChoice}
 use Rattle.diagram_ops.specs.private.Applying.{AreApplied, Applies, lower, place_in, place, cofactor_at}
 use Rattle.diagram_ops.specs.private.Composing.{position, placed_value, IsTrueBetween, IsComposed, ComesBeforeBoth, IsComposition, AreComposed, Composes, IsJoined}

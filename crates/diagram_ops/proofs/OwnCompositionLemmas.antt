@@ -1,7 +1,7 @@
 -- One step of the composition of two references of a table.
 use Rattle.std.proofs.Common.{◌≡◌, ℕ, ◌+◌, ◌*◌, ◌/◌, ◌%◌, ◌<◌, ◌≤◌, Bool, true, false, List, length, refl, sym, ap, ◌∙◌, subst, inl, inr, arith}
 use Rattle.std.specs.Prelude.{Option, None, Some, ◌⊎◌, ◌↔◌, IsTrue, nat_eq, cond, option_map}
-use Rattle.triple_tables.specs.Tables.{same_key}
+use Rattle.diagram_store.specs.TripleTables.{same_key}
 use Rattle.diagram_store.specs.declared.branch.Branch.{Branch}
 use Rattle.diagram_store.specs.Nodes.{node_at, IsAbove, IsReduced, HasVariablesBelow}
 use Rattle.diagram_ops.specs.declared.composing.Operand.{Operand}

@@ -6,7 +6,7 @@ use Rattle.std.proofs.lemmas.Option.{same_Some}
 use Rattle.diagram_store.specs.declared.branch.Branch.{Branch}
 use Rattle.diagram_store.specs.Nodes.{node_at, IsAbove, IsReduced}
 use Rattle.diagram_store.proofs.CallerLemmas.{node_within, value_at_node, from_parts}
-use Rattle.triple_tables.specs.Tables.{same_key}
+use Rattle.diagram_store.specs.TripleTables.{same_key}
 use Rattle.diagram_ops.specs.private.Scratch.{Keeps, FindsNodes, IsScratch, Stands, IsChoice}
 use Rattle.diagram_ops.proofs.KeepingLemmas.{keeps_above}
 

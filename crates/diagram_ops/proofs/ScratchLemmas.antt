@@ -6,7 +6,7 @@ use Rattle.diagram_store.specs.declared.branch.Branch.{Branch}
 use Rattle.diagram_store.specs.Nodes.{node_at, IsReduced}
 use Rattle.diagram_store.proofs.CallerLemmas.{node_within}
 use Rattle.diagram_store.specs.Canonical.{IsCanonical}
-use Rattle.triple_tables.specs.Tables.{same_key}
+use Rattle.diagram_store.specs.TripleTables.{same_key}
 use Rattle.diagram_ops.specs.private.Scratch.{IsScratch, IsNext}
 use Rattle.diagram_ops.specs.private.Images.{IsPlaceOf, IsValue}
 use Rattle.diagram_ops.proofs.PushLemmas.{scratch_push}

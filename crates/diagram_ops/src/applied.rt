@@ -7,9 +7,8 @@ use crate::copying::copy_out;
 use crate::loading::load;
 use crate::scratch::Scratch;
 use bumpalo::Bump;
-use diagram_store::{Diagram, independent_variables};
+use diagram_store::{Diagram, TripleTable, independent_variables};
 use std::alloc::Global;
-use triple_tables::TripleTable;
 use truth_tables::value2;
 use wpds_base::OutOfMemory;
 

@@ -1,12 +1,11 @@
 ghost use Rattle.std.specs.Prelude.{◌≡◌, ◌+◌, ◌<◌, ◌^◌, ℕ, Some, true, false, IfOk, length};
 ghost use Rattle.diagram_ops.specs.private.Applying.{AreApplied, Applies, place_in, cofactor_of};
 ghost use Rattle.diagram_ops.specs.private.Applying as applying;
-ghost use Rattle.triple_tables.specs.Tables.{known};
+ghost use Rattle.diagram_store.specs.TripleTables.{known};
 
 use crate::scratch::Scratch;
 use crate::short_cuts::short_cut;
-use diagram_store::Branch;
-use triple_tables::TripleTable;
+use diagram_store::{Branch, TripleTable};
 use truth_tables::value3;
 use wpds_base::OutOfMemory;
 

@@ -7,16 +7,15 @@ ghost use Rattle.diagram_ops.specs.private.Composing as composing;
 ghost use Rattle.diagram_ops.specs.private.ShortCuts.{IsShortCut};
 ghost use Rattle.diagram_ops.specs.Relations.{relates, RelatesThrough};
 ghost use Rattle.diagram_ops.specs.private.Scratch.{Keeps, Stands};
-ghost use Rattle.triple_tables.specs.Tables.{known};
+ghost use Rattle.diagram_store.specs.TripleTables.{known};
 ghost use Rattle.diagram_ops.specs.declared.composing.Operand.TheVariants.{First, Second};
 
 use crate::applying::{OR, apply};
 use crate::copying::copy_out;
 use crate::scratch::Scratch;
 use bumpalo::Bump;
-use diagram_store::{Branch, Diagram, independent_variables, node};
+use diagram_store::{Branch, Diagram, TripleTable, independent_variables, node};
 use std::alloc::Global;
-use triple_tables::TripleTable;
 use wpds_base::OutOfMemory;
 
 /// The relation that leads from `x` to `z` exactly where `a` leads from `x` to some `y`, and `b` from `y` to `z`.

@@ -5,16 +5,15 @@ ghost use Rattle.diagram_ops.specs.Quantifying.{IsTrueOnSome};
 ghost use Rattle.diagram_ops.specs.private.Applying.{AreApplied};
 ghost use Rattle.diagram_ops.specs.private.Images.{IsImage, IsPlaceOf, IsQuantified};
 ghost use Rattle.diagram_ops.specs.private.Scratch.{Keeps};
-ghost use Rattle.triple_tables.specs.Tables.{known};
+ghost use Rattle.diagram_store.specs.TripleTables.{known};
 
 use crate::applying::{OR, apply};
 use crate::copying::copy_out;
 use crate::loading::{first_places, place_at};
 use crate::scratch::Scratch;
 use bumpalo::Bump;
-use diagram_store::{Branch, Diagram, independent_variables};
+use diagram_store::{Branch, Diagram, TripleTable, independent_variables};
 use std::alloc::Global;
-use triple_tables::TripleTable;
 use wpds_base::OutOfMemory;
 
 /// The diagram that is true on exactly those bits for which `a` is true on some bits that differ from them

@@ -3,10 +3,9 @@ ghost use Rattle.diagram_store.specs.Nodes.{node_at, IsAbove, IsReduced, HasVari
 ghost use Rattle.diagram_ops.specs.private.Scratch.{Keeps, Stands, IsChoice, IsNext};
 
 use bumpalo::Bump;
-use diagram_store::{Branch, node};
+use diagram_store::{Branch, TripleTable, node};
 use std::alloc::Global;
 use std::marker::Model;
-use triple_tables::TripleTable;
 use wpds_base::OutOfMemory;
 
 /// Reduced nodes in an arena, and a table that finds each by its parts.
@@ -20,7 +19,7 @@ impl<'a> Model for Scratch<'a> {
     ghost use Rattle.std.specs.Prelude.{List};
     ghost use Rattle.diagram_store.specs.declared.branch.Branch.{Branch as BranchValue};
     ghost use Rattle.diagram_ops.specs.private.Scratch.{IsScratch};
-    ghost use Rattle.triple_tables.specs.Tables.{known};
+    ghost use Rattle.diagram_store.specs.TripleTables.{known};
 
     ghost Value = { List BranchValue };
 

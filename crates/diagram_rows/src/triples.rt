@@ -1,5 +1,5 @@
 use std::test::Fail;
-use triple_tables::TripleTable;
+use diagram_store::TripleTable;
 
 #[test]
 fn numbers_at_three_numbers(rt: HostRuntime) -> Result<(), Fail> {

@@ -6,4 +6,5 @@ mod WalkLemmas
 mod BitLemmas
 mod FittingLemmas
 mod SmallLemmas
+mod ChainLemmas
 pub mod CallerLemmas

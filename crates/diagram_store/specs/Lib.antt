@@ -2,4 +2,5 @@ pub mod Nodes
 pub mod Meaning
 pub mod Canonical
 pub mod Diagrams
+pub mod TripleTables
 pub mod private

@@ -1,4 +1,5 @@
-//! Reduced ordered decision diagrams (Bryant 1986) as values: a canonical list of nodes, no shared manager.
+//! Reduced ordered decision diagrams (Bryant 1986) as values: a canonical list of nodes, no shared manager. Beside them a table of
+//! numbers that stand at three numbers each, which tables of nodes and of results are made of.
 #![tactic(auto)]
 
 mod branch;
@@ -6,6 +7,8 @@ mod diagram;
 mod form;
 mod laws;
 mod methods;
+mod triple_chains;
+mod triple_table;
 
 pub use branch::{Branch, BranchList, node};
 pub use diagram::Diagram;
@@ -13,3 +16,4 @@ pub use form::canonical;
 pub use laws::{
     constants_are_canonical, independent_variables, one_meaning, one_reference, value_by_branch,
 };
+pub use triple_table::TripleTable;

@@ -13,8 +13,8 @@ use Rattle.witness_graph.specs.declared.listing.Listing.{Listing}
 use Rattle.witness_graph.specs.Nodes.{AreNodes}
 use Rattle.witness_graph.specs.Runs.{runs_of}
 use Rattle.witness_graph.specs.Tight.{IsTight}
-use Rattle.short_listings.specs.Shorter.{BeginsEmpty}
-use Rattle.short_listings.proofs.CallerLemmas.{stays_tight}
+use Rattle.witness_graph.specs.Shorter.{BeginsEmpty}
+use Rattle.witness_graph.proofs.CallerLemmas.{stays_tight}
 use Rattle.config_patterns.specs.Membership.{PatternValue, has_member}
 use Rattle.pushdown_rules.specs.Pushdown.{Pushdown, IsSystem}
 use Rattle.pushdown_rules.specs.Values.{value_of}

@@ -10,8 +10,8 @@ use Rattle.weighted_automata.specs.Entries.{entry_at}
 use Rattle.weighted_automata.specs.declared.transitions.Entry.{Entry}
 use Rattle.semiring_laws.specs.Semiring.{Operations}
 use Rattle.saturation_laws.specs.Openings.{AreKept}
-use Rattle.short_listings.specs.Shorter.{BeginsEmpty, shortened}
-use Rattle.short_listings.proofs.CallerLemmas.{is_listing, same_runs}
+use Rattle.witness_graph.specs.Shorter.{BeginsEmpty, shortened}
+use Rattle.witness_graph.proofs.CallerLemmas.{is_listing, same_runs}
 use Rattle.path_sum.specs.Sums.{answer_place}
 use Rattle.path_sum.specs.Answers.{IsListingOf}
 use Rattle.path_sum.specs.private.Growing.{IsListedOver, BeginsBehind}

@@ -7,7 +7,7 @@ use Rattle.saturation_laws.specs.Paths.{IsOpened}
 use Rattle.saturation_laws.specs.States.{CoreState, weight_at}
 use Rattle.saturation_laws.specs.declared.opening.Opening.{Opening}
 use Rattle.semiring_laws.specs.Semiring.{Operations}
-use Rattle.short_listings.specs.Shorter.{shortened}
+use Rattle.witness_graph.specs.Shorter.{shortened}
 use Rattle.weighted_automata.specs.Entries.{entry_at}
 use Rattle.weighted_automata.specs.declared.transitions.Entry.{Entry}
 use Rattle.witness_graph.specs.Runs.{runs_of}

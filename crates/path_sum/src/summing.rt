@@ -18,10 +18,9 @@ use pushdown_rules::System;
 use saturation_core::{Book, QueuedTransitions, weight_now};
 use saturation_laws::{Direction, Opening};
 use semiring_laws::Semiring;
-use short_listings::shorter;
 use std::alloc::Global;
 use weighted_automata::{Label, Place, Transitions};
-use witness_graph::{Graph, Listing, Node, Overlay};
+use witness_graph::{Graph, Listing, Node, Overlay, shorter};
 use wpds_base::OutOfMemory;
 
 // The sum with the first pair alone, which has the empty run.
@@ -139,7 +138,7 @@ fn sum_shown<S: Semiring, D: Direction<S>>(
 /// the direction goes backwards, and the other way round forwards: the combination, over the members and all paths of
 /// the transitions that read one to a final state, of the product along the path (Reps, Schwoon, Jha, Melski 2005). The
 /// transitions are those of a finished saturation from the opening, and the nodes theirs. What is listed are the sum's
-/// own nodes made shorter (`short_listings`). Refused only when out of memory. The graph is not copied; beside it at most
+/// own nodes made shorter (`shorter`). Refused only when out of memory. The graph is not copied; beside it at most
 /// so many nodes are made as there are pairs and one, times the top rank and one. Each time that a pair of its source waits a
 /// transition is looked at once, or not at all where the pattern can read one other symbol alone.
 pub fn sum_parts<S: Semiring, D: Direction<S>>(

@@ -18,7 +18,7 @@ use lowering_laws::plans_are_within;
 use program_traces::{FirstTrace, Trace, concrete, first_trace};
 use pushdown_rules::Config;
 use std::alloc::Global;
-use trace_printer::{NextRun, RunStep, RunWalk};
+use report_text::{NextRun, RunStep, RunWalk};
 use witness_graph::Listing;
 use wpds_base::OutOfMemory;
 

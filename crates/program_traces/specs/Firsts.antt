@@ -7,7 +7,7 @@ use Rattle.relation_weights.specs.declared.rel_map.RelMap.{RelMap}
 use Rattle.relation_weights.specs.Relations.{relation_operations}
 use Rattle.boolean_programs.specs.Lists.{Each}
 use Rattle.boolean_programs.specs.Programs.{Program}
-use Rattle.trace_printer.specs.Expansions.{size_of}
+use Rattle.report_text.specs.Expansions.{size_of}
 use Rattle.program_traces.specs.Traces.{FiresFromEntry, IsRunTrace}
 use Rattle.program_traces.specs.declared.first.FirstTrace.{FirstTrace}
 use Rattle.program_traces.specs.declared.first.FirstTrace.TheVariants.{Trace, TooLong}

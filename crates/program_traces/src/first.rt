@@ -9,8 +9,8 @@ ghost use Rattle.program_traces.specs.Firsts.{FireFromEntry, HasFeasible, IsFirs
 use crate::tracing::{Trace, concrete};
 use boolean_lowering::Lowering;
 use boolean_programs::Program;
+use report_text::{NextRun, RunStep, RunWalk};
 use std::alloc::Global;
-use trace_printer::{NextRun, RunStep, RunWalk};
 use witness_graph::Listing;
 use wpds_base::OutOfMemory;
 

@@ -3,9 +3,9 @@ use Rattle.std.specs.Prelude.{ℕ, List, [], ◌∷◌, ◌++◌, codes}
 use Rattle.std.specs.List.{flat_map, join_by}
 use Rattle.witness_graph.specs.declared.listing.Listing.{Listing}
 use Rattle.witness_graph.specs.Runs.{listing_runs}
-use Rattle.trace_printer.specs.declared.expansion.Expanded.{Expanded}
-use Rattle.trace_printer.specs.declared.expansion.Expanded.TheVariants.{Runs, TooLong}
-use Rattle.trace_printer.specs.Expansions.{expansion}
+use Rattle.report_text.specs.declared.expansion.Expanded.{Expanded}
+use Rattle.report_text.specs.declared.expansion.Expanded.TheVariants.{Runs, TooLong}
+use Rattle.report_text.specs.Expansions.{expansion}
 use Rattle.report_text.specs.Listings.{rule_text}
 
 -- its rules, with `, ` between

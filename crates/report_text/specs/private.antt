@@ -1,4 +1,6 @@
--- Lines while they are written, each from its end.
+-- Lines while they are written, each from its end, and runs while they are counted and opened.
+pub mod Counting
+pub mod Opening
 use Rattle.std.specs.Prelude.{ℕ, ◌+◌, Bool, List, [], ◌++◌, codes, Option, None, Some, if◌then◌else◌}
 
 -- what stands in a line so far, and how much goes before it

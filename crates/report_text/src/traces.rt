@@ -3,9 +3,9 @@ ghost use Rattle.std.specs.String.{string_bytes};
 ghost use Rattle.report_text.specs.Listings as listings;
 ghost use Rattle.report_text.specs.Traces as traces;
 
+use crate::{Expanded, Run, expand};
 use itoa::Buffer;
 use std::alloc::Global;
-use trace_printer::{Expanded, Run, expand};
 use witness_graph::Listing;
 use wpds_base::OutOfMemory;
 

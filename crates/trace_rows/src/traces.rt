@@ -1,7 +1,6 @@
-use report_text::traces_text;
+use report_text::{traces_text, Expanded, expand};
 use std::alloc::Global;
 use std::test::Fail;
-use trace_printer::{Expanded, expand};
 use witness_graph::{Graph, Listing, Node, Side};
 use wpds_base::OutOfMemory;
 

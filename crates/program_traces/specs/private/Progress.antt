@@ -4,7 +4,7 @@ use Rattle.pushdown_rules.specs.Pushdown.{Pushdown}
 use Rattle.relation_laws.specs.Building.{Parts}
 use Rattle.relation_weights.specs.declared.rel_map.RelMap.{RelMap}
 use Rattle.boolean_programs.specs.Lists.{Each}
-use Rattle.trace_printer.specs.Expansions.{size_of}
+use Rattle.report_text.specs.Expansions.{size_of}
 use Rattle.program_traces.specs.Firsts.{IsInfeasible}
 
 -- The runs that were taken have the empty relation, and their size is what the limit has lost.

@@ -1,6 +1,6 @@
 use Rattle.std.proofs.Common.{◌≡◌, ℕ, List, ◌+◌, ◌<◌, true, false, sym, ap, subst, ◌∙◌}
 use Rattle.diagram_store.specs.declared.branch.Branch.{Branch}
-use Rattle.triple_tables.specs.Tables.{known}
+use Rattle.diagram_store.specs.TripleTables.{known}
 use Rattle.diagram_ops.specs.private.Applying.{cofactor_of, cofactor, Applies}
 use Rattle.diagram_ops.proofs.KeepingLemmas.{keeps_same}
 use Rattle.diagram_ops.proofs.ApplyingLemmas.{lowest_read, applies_constant, applies_known, lowest_is, operands_fall, operand_within, applies_at, low_above, low_within, high_above, applies_step}

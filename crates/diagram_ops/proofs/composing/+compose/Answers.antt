@@ -1,6 +1,6 @@
 use Rattle.std.proofs.Common.{ℕ, ◌+◌, ◌<◌, inl, inr, true, false, sym, ap, subst, ◌∙◌}
 use Rattle.diagram_store.specs.Nodes.{node_at}
-use Rattle.triple_tables.specs.Tables.{known}
+use Rattle.diagram_store.specs.TripleTables.{known}
 use Rattle.diagram_ops.specs.declared.composing.Operand.TheVariants.{First, Second}
 use Rattle.diagram_ops.specs.private.Applying.{cofactor_of}
 use Rattle.diagram_ops.specs.private.Composing.{position}

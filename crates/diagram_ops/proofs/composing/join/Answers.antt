@@ -1,5 +1,5 @@
 use Rattle.std.proofs.Common.{arith}
-use Rattle.triple_tables.specs.Tables.{known}
+use Rattle.diagram_store.specs.TripleTables.{known}
 use Rattle.diagram_ops.proofs.ApplyingLemmas.{are_applied_kept}
 use Rattle.diagram_ops.proofs.ComposingLemmas.{joined_stands}
 use Rattle.diagram_ops.proofs.ShortCutLemmas.{applies_at_once}

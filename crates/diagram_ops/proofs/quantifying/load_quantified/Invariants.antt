@@ -2,7 +2,7 @@ use Rattle.std.proofs.Common.{◌≡◌, ◌+◌, length}
 use Rattle.diagram_ops.specs.private.Images.{IsImage, IsQuantified}
 use Rattle.diagram_ops.specs.private.Scratch.{Keeps}
 use Rattle.diagram_ops.specs.private.Applying.{AreApplied}
-use Rattle.triple_tables.specs.Tables.{known}
+use Rattle.diagram_store.specs.TripleTables.{known}
 use Rattle.diagram_ops.proofs.quantifying.load_quantified.Given as goal
 
 abbrev pub invariant-loop-k : goal.invariant-loop-k

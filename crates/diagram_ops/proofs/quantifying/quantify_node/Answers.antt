@@ -2,7 +2,7 @@ use Rattle.std.proofs.Common.{◌+◌, get_or, sym, ◌∙◌, arith}
 use Rattle.diagram_store.specs.declared.branch.Branch.{Branch}
 use Rattle.diagram_ops.specs.private.Images.{IsQuantified}
 use Rattle.diagram_ops.proofs.ImageLemmas.{node_of_list, low_placed, high_placed, low_within, high_within, low_above, high_above, choice_means}
-use Rattle.triple_tables.specs.Tables.{known}
+use Rattle.diagram_store.specs.TripleTables.{known}
 use Rattle.diagram_ops.proofs.ApplyingLemmas.{are_applied_kept}
 use Rattle.diagram_ops.proofs.QuantifyingLemmas.{quantified_join, chosen_means}
 use Rattle.diagram_ops.proofs.quantifying.quantify_node.Goals as goal

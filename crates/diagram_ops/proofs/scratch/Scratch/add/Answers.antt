@@ -1,6 +1,6 @@
 use Rattle.std.proofs.Common.{◌+◌, List, ◌∷◌, [], ◌++◌, sym, ap, ◌∙◌, subst, arith}
 use Rattle.diagram_store.specs.declared.branch.Branch.{Branch}
-use Rattle.triple_tables.specs.Tables.{known}
+use Rattle.diagram_store.specs.TripleTables.{known}
 use Rattle.diagram_ops.specs.private.Scratch.{IsNext}
 use Rattle.diagram_ops.proofs.ScratchLemmas.{scratch_next}
 use Rattle.diagram_ops.proofs.scratch.Scratch.add.Goals as goal

@@ -1,7 +1,7 @@
 use Rattle.std.proofs.Common.{ℕ, List, ◌∷◌, [], ◌++◌, ◌+◌, ◌<◌, length, sym, ap, ◌∙◌, subst, arith}
 use Rattle.diagram_store.specs.declared.branch.Branch.{Branch}
 use Rattle.diagram_store.specs.Nodes.{IsAbove}
-use Rattle.triple_tables.specs.Tables.{known}
+use Rattle.diagram_store.specs.TripleTables.{known}
 use Rattle.diagram_ops.specs.private.Scratch.{Keeps}
 use Rattle.diagram_ops.proofs.PushLemmas.{Pushed, scratch_push, stands_found}
 use Rattle.diagram_ops.proofs.scratch.Scratch.branch.Goals as goal

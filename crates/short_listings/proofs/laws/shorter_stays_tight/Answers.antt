@@ -1,5 +1,0 @@
-use Rattle.short_listings.proofs.TightLemmas.{stays_tight}
-use Rattle.short_listings.proofs.laws.shorter_stays_tight.Goals as goal
-
-pub returns : goal.returns
-returns g c = λ semiring. stays_tight (g.S.Semiring.operations semiring)

@@ -1,5 +1,0 @@
-mod TotalLemmas
-mod ConcatenationLemmas
-mod OpeningLemmas
-mod WalkLemmas
-mod RoomLemmas

@@ -1,2 +1,0 @@
-pub mod Expansions
-pub mod private

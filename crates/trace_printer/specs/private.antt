@@ -1,3 +1,0 @@
--- What the code keeps.
-pub mod Counting
-pub mod Opening

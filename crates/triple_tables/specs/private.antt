@@ -1,2 +1,0 @@
--- What the code keeps. No public clause cites it.
-pub mod Chains
