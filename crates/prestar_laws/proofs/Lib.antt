@@ -9,5 +9,8 @@ mod JobLemmas
 mod PlaceLemmas
 mod LawLemmas
 mod OnceLemmas
+mod OpeningBounds
+mod RuleRunLemmas
+mod LaterRuleLemmas
 mod Examples
 pub mod CallerLemmas

@@ -3,3 +3,4 @@ pub mod Jobs
 pub mod Reading
 pub mod Fitting
 pub mod Ways
+pub mod LaterRules

@@ -3,4 +3,6 @@
 
 mod laws;
 
-pub use laws::{backward_jobs_stand_once, backward_sums};
+pub use laws::{
+    backward_jobs_stand_once, backward_sums, rules_may_come_later, rules_more_keep_runs,
+};

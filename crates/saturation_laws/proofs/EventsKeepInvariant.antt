@@ -21,14 +21,14 @@ use Rattle.saturation_laws.specs.declared.event.Event.TheVariants.{Take, Settle,
 use Rattle.saturation_laws.specs.Jobs.{Tables, node_of, HasInput, named_rule, named_first}
 use Rattle.wpds_base.specs.Lists.{IsIn, IsOnce}
 use Rattle.saturation_laws.specs.declared.holding.Holding.{Holding}
-use Rattle.saturation_laws.specs.States.{CoreState, hand_at, change_of, apply_jobs, jobs_at, take, settle, give_back, can_take, is_front, without_front, step, replay}
+use Rattle.saturation_laws.specs.States.{CoreState, Change, hand_at, apply, apply_all, change_of, apply_jobs, jobs_at, take, settle, give_back, can_take, is_front, without_front, step, replay}
 use Rattle.saturation_laws.specs.Directions.{AreRuns, AreInputRuns, IsConsequence, IsDirection}
 use Rattle.saturation_laws.specs.Invariants.{IsSound, IsSoundJob, IsSoundHand, IsApplied, IsHeld, IsDue, LockInvariant}
 use Rattle.saturation_laws.proofs.QueueLemmas.{in_queued, queued_keeps, queued_cases, once_queued, after_free}
 use Rattle.semiring_laws.proofs.CallerLemmas.{below_trans}
 use Rattle.saturation_laws.proofs.ValueLemmas.{worth_fits}
 use Rattle.saturation_laws.proofs.ApplyChange.{IsSoundState, IsSoundChange, Grows, weights_fit}
-use Rattle.saturation_laws.proofs.SettleState.{AppliesAll, jobs_keep}
+use Rattle.saturation_laws.proofs.SettleState.{AppliesAll, apply_keeps, change_later, jobs_keep}
 
 module _ {S W Map : Type 0} where
   some_named : (o : Option (Entry S W Map)) → is_some (option_map node_of o) ≡ is_some o
@@ -334,3 +334,47 @@ module _ {S W Map : Type 0} {s : Operations W Map} (laws : IsSemiring s) {p : Pu
   replay_keeps [] st inv new same = let e : st ≡ new = cc in subst (LockInvariant s value runs d opening) e inv
   replay_keeps (e ∷ es) st inv new legal =
       option_and_then_some (λ m. replay s d m es) (step s d st e) new legal (λ mid one rest. replay_keeps es mid (step_keeps st inv e mid one) new rest)
+
+  -- one change keeps it, whatever hands are out
+  change_keeps : (st : CoreState S W Map) → LockInvariant s value runs d opening st → (c : Change W) → IsSoundChange s value runs d.side st.nodes c
+      → LockInvariant s value runs d opening (apply s c st)
+  change_keeps st inv c change =
+      let kept = apply_keeps laws value fits_value runs d.side st (state_of inv) c change in
+      let new = apply s c st in
+      record {
+        nonzero = kept.sound.nonzero;
+        sound = kept.sound.sound;
+        opened = λ t in'. let before = inv.opened t in' in (
+          kept.grows.present t.place before.0,
+          below_trans laws _ _ _ (weights_fit laws value fits_value runs d.side new kept.sound t.place) (weights_fit laws value fits_value runs d.side st (state_of inv) t.place) (fits_opening t in')
+              (kept.grows.weights t.place) before.1,
+        );
+        closed = λ j there.
+            elim (each_or_some j (λ t. Present st.transitions t) (λ t. IsIn t.place new.queue)
+            (λ t input. elim (kept.grows.entries t.place) [ inl same ↦ inl (sym same ∙ there.inputs t input) | inr waits ↦ inr waits ])) [
+              | inr found ↦ inr (inl (found.0, found.1, found.2))
+              | inl before ↦
+                  let was : IsConsequence d st.transitions j = record { row = there.row; inputs = before } in
+                  elim (inv.closed j was) [
+                    | inl applied ↦ inl (below_trans laws _ _ _ (weights_fit laws value fits_value runs d.side new kept.sound j.goal) (weights_fit laws value fits_value runs d.side st (state_of inv) j.goal)
+                        (consequence_fits st (state_of inv) j was) (kept.grows.weights j.goal) applied)
+                    | inr due ↦ elim due [
+                      | inl waiting ↦ inr (inl (waiting.0, waiting.1, kept.grows.queue waiting.0.place waiting.2))
+                      | inr held ↦ inr (inr (held.0, held.1, ap (hand_at held.0) kept.grows.hands ∙ held.2, held.3))
+                    ]
+                  ]
+            ];
+        hands = λ k g at.
+            let Q : List (Option (Holding S W Map)) → Type 0 = λ hands. hand_at k hands ≡ Some g in
+            hand_later st new kept.grows g (inv.hands k g (subst Q kept.grows.hands at));
+        shape = kept.sound.shape;
+      }
+
+  -- and so do changes one after another, which are sound where they begin
+  pub changes_keep : (cs : List (Change W)) (st : CoreState S W Map) → LockInvariant s value runs d opening st
+      → ((c : Change W) → IsIn c cs → IsSoundChange s value runs d.side st.nodes c) → LockInvariant s value runs d opening (apply_all s cs st)
+  changes_keep [] st inv all = inv
+  changes_keep (c ∷ cs) st inv all =
+      let kept = apply_keeps laws value fits_value runs d.side st (state_of inv) c (all c (inl refl)) in
+      changes_keep cs (apply s c st) (change_keeps st inv c (all c (inl refl)))
+      (λ e h. change_later laws value fits_value runs d.side st (apply s c st) kept.grows e (all e (inr h)))

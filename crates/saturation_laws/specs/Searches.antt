@@ -9,7 +9,8 @@ use Rattle.pushdown_rules.specs.Pushdown.{Pushdown, IsSystem}
 use Rattle.pushdown_rules.specs.Values.{value_of}
 use Rattle.saturation_laws.specs.declared.opening.Opening.{Opening}
 use Rattle.saturation_laws.specs.declared.holding.Holding.{Holding}
-use Rattle.saturation_laws.specs.States.{CoreState, jobs_at, take, settle}
+use Rattle.saturation_laws.specs.States.{CoreState, Change, apply_all, jobs_at, take, settle}
+use Rattle.saturation_laws.specs.Queues.{queued}
 use Rattle.saturation_laws.specs.Invariants.{LockInvariant}
 use Rattle.saturation_laws.specs.Bound.{fallen, IsWithin}
 use Rattle.saturation_laws.specs.Ways.{Way, start_of}
@@ -50,6 +51,13 @@ module _ {S W Map D : Type 0} (operations : S → Operations W Map) (way : Way S
   -- the place that waits longest is taken and settled
   abbrev pub TurnsTo : SearchValue S W Map D → SearchValue S W Map D → Type 0
   TurnsTo old new = (x : Place) × (q : List Place) × (old.state.queue ≡ x ∷ q) × (new ≡ turned x old)
+
+  -- The search after the first seat has taken the place that waits longest, of which these wait behind it, and has made some
+  -- changes, and then the place waits again, last.
+  abbrev pub stopped : Place → List Place → List (Change W) → SearchValue S W Map D → SearchValue S W Map D
+  stopped x q cs v =
+      let st = apply_all (operations v.system.semiring) cs (record v.state { queue = q }) in
+      record v { state = record st { queue = queued x st.queue } }
 
   -- at most how many turns are left
   abbrev pub turns_left : SearchValue S W Map D → ℕ

@@ -1,10 +1,13 @@
-ghost use Rattle.std.specs.Prelude.{◌≡◌, ℕ, List, Option, Some, ◌++◌, IsTrue, option_and_then};
+ghost use Rattle.std.specs.Prelude.{◌≡◌, ℕ, List, Option, Some, ◌++◌, ◌∷◌, IsTrue, map, option_and_then};
+ghost use Rattle.wpds_base.specs.Lists.{IsIn};
+ghost use Rattle.weighted_automata.specs.declared.place.Place.{Place as PlaceValue};
+ghost use Rattle.saturation_laws.specs.Searches.{SearchValue, IsSearch, stopped};
 ghost use Rattle.pushdown_rules.specs.Pushdown.{IsSystem};
 ghost use Rattle.saturation_laws.specs.Books.{BookValue, IsBook, IsClosed, IsAllApplied, TakesAreBounded, NodesAreBounded, replayed};
 ghost use Rattle.saturation_laws.specs.declared.event.Event.{Event as EventValue};
 ghost use Rattle.saturation_laws.specs.Jobs.{Tables};
-ghost use Rattle.saturation_laws.specs.States.{CoreState, AreOfOthers, hand_at, replay};
-ghost use Rattle.saturation_laws.specs.Ways.{ListsJobsOnce};
+ghost use Rattle.saturation_laws.specs.States.{CoreState, Change as ChangeValue, AreOfOthers, change_of, hand_at, replay};
+ghost use Rattle.saturation_laws.specs.Ways.{ListsJobsOnce, jobs_of_place};
 ghost use Rattle.semiring_laws.specs.Semiring.{Operations};
 
 use crate::Direction;
@@ -49,4 +52,19 @@ pub fn others_leave_a_hand<S: Semiring>()
 /// Each job that a transition gives stands once among them.
 pub fn each_job_stands_once<S: Semiring, D: Direction<S>>()
     ensures { ListsJobsOnce S.operations D.way }
+{}
+
+/// A turn of a search may be cut short: where the place that waits longest was taken, some of the changes that its transition gives
+/// were made, and the place waits again, last, what is left is a search. So one that runs out of memory between two changes need not
+/// be lost.
+pub fn cut_turns_leave_searches<S: Semiring, D: Direction<S>>()
+    ensures { (v : SearchValue S S.W S.Ret D) (x : PlaceValue) (q : List PlaceValue)
+        (cs : List (ChangeValue S.W)) →
+        IsSearch S.operations D.way v → v.state.queue ≡ x ∷ q →
+        let s = S.operations v.system.semiring in
+        let d = D.way.tables v.direction v.system in
+        ((c : ChangeValue S.W) → IsIn c cs →
+        IsIn c (map (change_of s d)
+        (jobs_of_place S.operations D.way v.direction v.system x v.state.transitions))) →
+        IsSearch S.operations D.way (stopped S.operations D.way x q cs v) }
 {}

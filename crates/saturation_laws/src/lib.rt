@@ -17,8 +17,8 @@ pub use event::Event;
 pub use holding::{Holding, SharedJobs};
 pub use job::{Input, Job, JobKind, JobList};
 pub use laws::{
-    closed_is_applied, each_job_stands_once, every_order_keeps, others_leave_a_hand,
-    parts_replay_in_steps, takes_are_bounded,
+    closed_is_applied, cut_turns_leave_searches, each_job_stands_once, every_order_keeps,
+    others_leave_a_hand, parts_replay_in_steps, takes_are_bounded,
 };
 pub use opening::{Opening, PlaceList, StateList};
 pub use view::JobView;
