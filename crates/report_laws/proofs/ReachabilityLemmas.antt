@@ -8,7 +8,7 @@ use Rattle.semiring_laws.specs.Reach.{reach_operations}
 use Rattle.semiring_laws.specs.Combination.{combination}
 use Rattle.pushdown_rules.specs.declared.rule.Rule.{Rule}
 use Rattle.pushdown_rules.specs.Pushdown.{Pushdown}
-use Rattle.pushdown_rules.specs.RunValue.{Frame, Machine, starting, called, returned, machine_after, product, value_from}
+use Rattle.pushdown_rules.specs.RunValue.{Frame, Machine, starting, returned, machine_by, machine_after, waiting, product, value_from}
 use Rattle.pushdown_rules.specs.Values.{rules_of, value_of}
 use Rattle.pushdown_rules.specs.Answers.{Answers, Leads}
 use Rattle.config_patterns.specs.Membership.{has_member}
@@ -52,18 +52,24 @@ returned_one value (f ∷ fs) one all = (both_one f.saved value all.0 one, all.1
 
 -- what a rule with this right side makes of a machine
 abbrev by_right : List ℕ → Rule ReachValue Bool NoMap → Machine Bool NoMap → Machine Bool NoMap
-by_right right r m = elim right [
-  | [] ↦ returned reach_operations (reach_operations.extend m.accumulator r.weight) m.frames
-  | g ∷ gs ↦ elim gs [
-    | [] ↦ record { accumulator = reach_operations.extend m.accumulator r.weight; frames = m.frames }
-    | h ∷ hs ↦ called m r.weight (unwrap_or r.map reach_operations.plain)
-  ]
-]
+by_right right r m = machine_by reach_operations right r.weight r.map m
+
+-- the frames that a push leaves just over those that wait
+abbrev pushed : Rule ReachValue Bool NoMap → Machine Bool NoMap → List (Frame Bool NoMap)
+pushed r m = record { saved = m.accumulator; map = unwrap_or r.map reach_operations.plain } ∷ m.frames
+
+waiting_one : (h : NoMap) (gs : List ℕ) (fs : List (Frame Bool NoMap)) → AllByRecursion IsOneFrame fs → AllByRecursion IsOneFrame (waiting reach_operations h gs fs)
+waiting_one h [] fs all = all
+waiting_one h (g ∷ gs) fs all = (refl, waiting_one h gs fs all)
+
+waiting_was_one : (h : NoMap) (gs : List ℕ) (fs : List (Frame Bool NoMap)) → AllByRecursion IsOneFrame (waiting reach_operations h gs fs) → AllByRecursion IsOneFrame fs
+waiting_was_one h [] fs all = all
+waiting_was_one h (g ∷ gs) fs all = waiting_was_one h gs fs all.1
 
 by_right_one : (right : List ℕ) (r : Rule ReachValue Bool NoMap) (m : Machine Bool NoMap) → IsOneRule r → IsOneMachine m → IsOneMachine (by_right right r m)
 by_right_one [] r m one good = returned_one (m.accumulator && r.weight) m.frames (both_one m.accumulator r.weight good.0 one) good.1
 by_right_one (g ∷ []) r m one good = (both_one m.accumulator r.weight good.0 one, good.1)
-by_right_one (g ∷ h ∷ hs) r m one good = (one, (good.0, good.1))
+by_right_one (g ∷ h ∷ hs) r m one good = (one, waiting_one (unwrap_or r.map reach_operations.plain) hs (pushed r m) (good.0, good.1))
 
 product_one : (fs : List (Frame Bool NoMap)) (value : Bool) → AllByRecursion IsOneFrame fs → value ≡ true → product reach_operations fs value ≡ true
 product_one [] value all one = one
@@ -98,7 +104,9 @@ by_right_was_one [] r m one =
     let both = saved_one m.accumulator r.weight back.0 in
     (both.1, (both.0, back.1))
 by_right_was_one (g ∷ []) r m one = let both = saved_one m.accumulator r.weight one.0 in (both.1, (both.0, one.1))
-by_right_was_one (g ∷ h ∷ hs) r m one = (one.0, (one.1.0, one.1.1))
+by_right_was_one (g ∷ h ∷ hs) r m one =
+    let back = waiting_was_one (unwrap_or r.map reach_operations.plain) hs (pushed r m) one.1 in
+    (one.0, (back.0, back.1))
 
 value_was_one : (rs : List (Rule ReachValue Bool NoMap)) (m : Machine Bool NoMap) → value_from reach_operations m rs ≡ true → IsOneMachine m × AllByRecursion IsOneRule rs
 value_was_one [] m one = (product_is_one m.frames m.accumulator one, tt)

@@ -37,6 +37,14 @@ impl Line {
         }
     }
 
+    /// Takes out what is there.
+    pub(crate) fn clear(&mut self)
+        ensures text { self.new.text ≡ [] }
+        ensures room { self.new.room ≡ line_size }
+    {
+        self.start = SIZE;
+    }
+
     /// What it says.
     pub(crate) fn text(&self) -> &[u8]
         ensures { result.now ≡ self.now.text }

@@ -130,37 +130,41 @@ fn put_node(line: &mut Line, side: Side, node: Node)
     }
 }
 
-// The line of a node.
-fn set_line(side: Side, number: u64, node: Node) -> Line
-    ensures { result.text ≡ listings.set_line side number node }
+// Writes the line of a node.
+fn write_set(line: &mut Line, side: Side, number: u64, node: Node)
+    ensures { line.new.text ≡ listings.set_line side number node }
 {
-    let mut line = Line::new();
+    line.clear();
     line.put(b"\n");
-    put_node(&mut line, side, node);
+    put_node(line, side, node);
     line.put(b" = ");
-    put_set(&mut line, number);
+    put_set(line, number);
     line.put(b"  ");
-    line
 }
 
-// The line that says which of the sets the answer is.
-fn answer_line(set: u64) -> Line
-    ensures { result.text ≡ listings.answer_line set }
+// Writes the line that says which of the sets the answer is.
+fn write_answer(line: &mut Line, set: u64)
+    ensures { line.new.text ≡ listings.answer_line set }
 {
-    let mut line = Line::new();
+    line.clear();
     line.put(b"\n");
-    put_set(&mut line, set);
+    put_set(line, set);
     line.put(b"  answer ");
-    line
 }
 
-// Adds the lines of nodes.
-fn add_sets(text: &mut Vec<u8>, side: Side, nodes: &[Node]) -> Result<(), OutOfMemory>
+// Adds the lines of nodes, each written in this one first.
+fn add_sets(
+    text: &mut Vec<u8>,
+    line: &mut Line,
+    side: Side,
+    nodes: &[Node],
+) -> Result<(), OutOfMemory>
     ensures { OnOk result (text.new.items
         ≡ text.old.items ++ listings.set_lines side 0 nodes.now) }
 {
     for (number, node) in nodes.iter().enumerate() {
-        text.extend_from_slice(set_line(side, number as u64, *node).text())?;
+        write_set(line, side, number as u64, *node);
+        text.extend_from_slice(line.text())?;
     }
     Ok(())
 }
@@ -171,9 +175,11 @@ pub(crate) fn add_listing(text: &mut Vec<u8>, listing: &Listing) -> Result<(), O
         OnOk result (text.new.items ≡ text.old.items ++ lines) }
 {
     let nodes = listing.nodes.as_slice();
-    add_sets(text, listing.side, nodes)?;
+    let mut line = Line::new();
+    add_sets(text, &mut line, listing.side, nodes)?;
     let last = nodes.len() - 1;
-    text.extend_from_slice(answer_line(last as u64).text())?;
+    write_answer(&mut line, last as u64);
+    text.extend_from_slice(line.text())?;
     Ok(())
 }
 

@@ -7,7 +7,7 @@ use Rattle.semiring_laws.specs.Combination.{combination}
 use Rattle.pushdown_rules.specs.declared.rule.Rule.{Rule}
 use Rattle.pushdown_rules.specs.Configuration.{Configuration}
 use Rattle.pushdown_rules.specs.Pushdown.{Pushdown}
-use Rattle.pushdown_rules.specs.RunValue.{Frame, Machine, starting, returned, machine_after, product, value_from}
+use Rattle.pushdown_rules.specs.RunValue.{Frame, Machine, starting, returned, machine_after, waiting, product, value_from}
 use Rattle.pushdown_rules.specs.Values.{rules_of, value_of}
 use Rattle.pushdown_rules.specs.Answers.{Answers}
 
@@ -43,10 +43,17 @@ module _ {W Map : Type 0} {s : Operations W Map} {P : W → Type 0} {Q : Map →
   plain_or_has None _ = kept.plain
   plain_or_has (Some h) has = has
 
+  waiting_has : (h : Map) (gs : List ℕ) (fs : List (Frame W Map)) → Q h → AllByRecursion FrameHas fs → AllByRecursion FrameHas (waiting s h gs fs)
+  waiting_has h [] fs has all = all
+  waiting_has h (g ∷ gs) fs has all = ((kept.one, has), waiting_has h gs fs has all)
+
   step_has : {S : Type 0} (r : Rule S W Map) (right : List ℕ) (m : Machine W Map) → RuleHas P Q r → MachineHas m → MachineHas (machine_after s (record r { right = right }) m)
   step_has r [] m rule has = returned_has (s.extend m.accumulator r.weight) m.frames (kept.extend m.accumulator r.weight has.0 rule.0) has.1
   step_has r (g ∷ []) m rule has = (kept.extend m.accumulator r.weight has.0 rule.0, has.1)
-  step_has r (g ∷ h ∷ hs) m rule has = (rule.0, ((has.0, plain_or_has r.map rule.1), has.1))
+  step_has r (g ∷ h ∷ hs) m rule has =
+      let back = plain_or_has r.map rule.1 in
+      let fs : List (Frame W Map) = record { saved = m.accumulator; map = unwrap_or r.map s.plain } ∷ m.frames in
+      (rule.0, waiting_has (unwrap_or r.map s.plain) hs fs back ((has.0, back), has.1))
 
   from_has : {S : Type 0} (m : Machine W Map) (rs : List (Rule S W Map)) → MachineHas m → AllByRecursion (RuleHas P Q) rs → P (value_from s m rs)
   from_has m [] has _ = product_has m.frames m.accumulator has.1 has.0
