@@ -1,6 +1,0 @@
-use Rattle.std.specs.Prelude.{All}
-use Rattle.pattern_openings.specs.PatternOpenings.{IsOver}
-use Rattle.answer_rows.proofs.callees.alike.Given as goal
-
-abbrev pub invariant-loop-made : goal.invariant-loop-made
-invariant-loop-made l = All (IsOver l.system.controls l.system.symbols) l.patterns.items

@@ -1,6 +1,0 @@
-use Rattle.boolean_programs.specs.Programs.{program_of}
-use Rattle.boolean_meaning.specs.HeldStates.{IsHeld}
-use Rattle.program_rows.proofs.draws.walk.Given as goal
-
-abbrev pub invariant-loop : goal.invariant-loop
-invariant-loop l = IsHeld (program_of l.program) l.now
