@@ -2,11 +2,13 @@ use cost_weights::Cost;
 use path_sum::Answer;
 use pushdown_rules::System;
 use query_answers::answer;
-use tests_systems::{A, B, C, Items, SOME_A, calls, grows, one_step, pattern_over, ruleless, steps};
 use semiring_laws::{Reach, Semiring};
 use std::sync::Wait;
 use std::test::Fail;
 use std::thread::Threads;
+use tests_systems::{
+    A, B, C, Items, SOME_A, calls, grows, one_step, pattern_over, ruleless, steps,
+};
 use witness_graph::{Listing, Node, Side};
 use wpds_base::OpenGate;
 

@@ -1,8 +1,8 @@
 use crate::answers::Row;
 use crate::callees::{calls_deeper, wrong_row};
 use cost_weights::Cost;
-use tests_systems::{A, B, C, D, SOME_A, calls, grows};
 use std::test::Fail;
+use tests_systems::{A, B, C, D, SOME_A, calls, grows};
 
 // Any number of any of three symbols, and of four.
 const ANY_OF_THREE: (&[u32], bool) = (&[0, 1, 2], true);

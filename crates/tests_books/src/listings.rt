@@ -2,9 +2,12 @@ ghost use Rattle.std.specs.Prelude.{◌≡◌, ◌+◌, ◌++◌, List, IfOk, On
 ghost use Rattle.witness_graph.specs.declared.node.Node.{Node as NodeValue};
 
 use semiring_laws::Reach;
-use witness_graph::{nodes_of_the_graph_stay, shorter, shorter_has_no_more_nodes, shorter_has_the_same_runs, shorter_stays_tight, Graph, Listing, Node, Overlay, Side};
 use std::alloc::Global;
 use std::process::Abort;
+use witness_graph::{
+    Graph, Listing, Node, Overlay, Side, nodes_of_the_graph_stay, shorter,
+    shorter_has_no_more_nodes, shorter_has_the_same_runs, shorter_stays_tight,
+};
 use wpds_base::OutOfMemory;
 
 const fn lower(

@@ -1,5 +1,5 @@
-use std::test::Fail;
 use diagram_store::TripleTable;
+use std::test::Fail;
 
 #[test]
 fn numbers_at_three_numbers(rt: HostRuntime) -> Result<(), Fail> {

@@ -17,8 +17,8 @@ use boolean_programs::Program;
 use lowering_laws::plans_are_within;
 use program_traces::{FirstTrace, Trace, concrete, first_trace};
 use pushdown_rules::Config;
-use std::alloc::Global;
 use report_text::{NextRun, RunStep, RunWalk};
+use std::alloc::Global;
 use witness_graph::Listing;
 use wpds_base::OutOfMemory;
 

@@ -1,8 +1,8 @@
 //! Ladders that the program makes for itself.
 
-use tests_systems::CountingGate;
 use std::sync::Wait;
 use std::thread::Threads;
+use tests_systems::CountingGate;
 use wpds_app::{Status, run};
 use wpds_base::OutOfMemory;
 use wpds_port::{MemSink, MemSource};

@@ -1,10 +1,10 @@
 //! Reports by several workers.
 
 use crate::rows::written_on;
-use tests_systems::MeetingGate;
 use std::alloc::Global;
 use std::sync::Wait;
 use std::thread::Threads;
+use tests_systems::MeetingGate;
 use wpds_base::OutOfMemory;
 use wpds_port::OpenGate;
 

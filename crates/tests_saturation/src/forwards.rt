@@ -3,14 +3,14 @@ use crate::seats::{Seats, closed};
 use cost_weights::Cost;
 use poststar::{Post, post_opening};
 use pushdown_rules::System;
-use tests_systems::{
-    A, B, D, Items, calls_again, calls_itself, entry_at, pattern_over, pops, two_calls,
-};
 use saturation_core::Book;
 use saturation_laws::Direction;
 use semiring_laws::Semiring;
 use std::alloc::Global;
 use std::test::Fail;
+use tests_systems::{
+    A, B, D, Items, calls_again, calls_itself, entry_at, pattern_over, pops, two_calls,
+};
 use weighted_automata::{Label, Place};
 
 // A transition's place and its weight.

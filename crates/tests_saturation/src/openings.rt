@@ -6,12 +6,12 @@ ghost use Rattle.prestar_laws.specs.Rows.{pre_rows};
 use cost_weights::Cost;
 use prestar::{Pre, pre_opening};
 use pushdown_rules::System;
-use tests_systems::{A, Items, grows, pattern_over};
 use saturation_core::{Book, Taken};
 use saturation_laws::{Direction, Input, Job, JobKind};
 use semiring_laws::Semiring;
 use std::alloc::Global;
 use std::test::Fail;
+use tests_systems::{A, Items, grows, pattern_over};
 use weighted_automata::{Label, Place};
 use wpds_base::OutOfMemory;
 

@@ -2,10 +2,10 @@ ghost use Rattle.std.specs.Prelude.{◌≡◌, ◌<◌, true, All};
 
 use cost_weights::Cost;
 use pushdown_rules::{Config, System};
-use tests_systems::calls;
 use semiring_laws::Semiring;
 use std::alloc::Global;
 use std::test::Fail;
+use tests_systems::calls;
 use wpds_base::OutOfMemory;
 
 pub(crate) fn are_below(count: u32, run: &[u32]) -> bool

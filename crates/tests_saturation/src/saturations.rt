@@ -2,14 +2,14 @@ use crate::seats::{Seats, closed};
 use cost_weights::Cost;
 use prestar::pre_opening;
 use pushdown_rules::System;
-use tests_systems::{
-    A, C, Items, Row, calls, entry_at, grows, has_rows, pattern_over, same_goals, steps,
-};
 use saturation_core::Book;
 use saturation_laws::Direction;
 use semiring_laws::{Reach, Semiring};
 use std::alloc::Global;
 use std::test::Fail;
+use tests_systems::{
+    A, C, Items, Row, calls, entry_at, grows, has_rows, pattern_over, same_goals, steps,
+};
 use weighted_automata::{Label, Place};
 
 // A target by its control and its items, and the transitions of its saturation.

@@ -1,4 +1,4 @@
-use report_text::{traces_text, Expanded, expand};
+use report_text::{Expanded, expand, traces_text};
 use std::alloc::Global;
 use std::test::Fail;
 use witness_graph::{Graph, Listing, Node, Side};

@@ -7,13 +7,13 @@ ghost use Rattle.tests_workers.specs.Parts.{IsSamePass};
 use cost_weights::Cost;
 use prestar::{Pre, pre_opening};
 use pushdown_rules::System;
-use tests_systems::{MeetingGate, SOME_A, grows, pattern_over};
 use saturation_core::Book;
 use seat_lock::{Journaled, Pass, SeatLock};
 use std::alloc::Global;
 use std::sync::Wait;
 use std::test::Fail;
 use std::thread::{Threads, join_mut};
+use tests_systems::{MeetingGate, SOME_A, grows, pattern_over};
 use worker_pool::{DriveEnd, Shared, drive};
 
 // A pass of a lock, and whether its worker has found the book closed. One value, so that a closure names the book's lifetime once.

@@ -2,14 +2,14 @@ use crate::short::Short;
 use cost_weights::Cost;
 use prestar::{Pre, pre_opening};
 use pushdown_rules::{RuleFault, System};
-use tests_systems::{
-    A, C, CountingGate, Items, MeetingGate, RelayGate, Row, SOME_A, grows, has_rows, pattern_over,
-};
 use saturation_core::Book;
 use std::alloc::Global;
 use std::sync::Wait;
 use std::test::Fail;
 use std::thread::Threads;
+use tests_systems::{
+    A, C, CountingGate, Items, MeetingGate, RelayGate, Row, SOME_A, grows, has_rows, pattern_over,
+};
 use worker_pool::saturate;
 use wpds_base::{Gate, OpenGate};
 
